@@ -1,0 +1,21 @@
+-- The draw roll of document 01, section "Draw roll": what the contracts of `src/` cite, in the paper's order. Assumes nothing.
+use Prim.Native.Nat.{ℕ, zero, suc, _+_, _*_, _/_, _%_, _^_}
+use mathlib.Core.List.{List, [], _∷_}
+
+-- the state that follows the state s: 1664525 · s + 1013904223, wrapping at 2^32
+abbrev pub next : ℕ → ℕ
+next s = (1664525 * s + 1013904223) % 2 ^ 32
+
+-- the draw of the state s: its high half, s / 65536 rounded down, is taken modulo 65520, and 1 is added
+abbrev pub draw : ℕ → ℕ
+draw s = 1 + (s / 65536) % 65520
+
+-- the state after k steps from the seed, which is the state before the first step
+unfoldable pub stateAfter : ℕ → ℕ → ℕ
+stateAfter seed zero = seed
+stateAfter seed (suc k) = next (stateAfter seed k)
+
+-- the first k draws from the seed, in order; the first is that of the state after the seed, not of the seed
+unfoldable pub draws : ℕ → ℕ → List ℕ
+draws seed zero = []
+draws seed (suc k) = draw (next seed) ∷ draws (next seed) k
