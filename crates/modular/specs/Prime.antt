@@ -22,7 +22,7 @@ pub record OddPrime (p : ℕ) : Type 0 where
 
 -- modulo an odd number, minus-one * t is the negative of t
 module _ {p : ℕ} (O : Odd p) where
-  pub minus-one : ℕ
+  unfoldable pub minus-one : ℕ
   minus-one = O .half + O .half
 
   pub negate : (t : ℕ) → Congruent p (t + minus-one * t) 0
@@ -45,7 +45,8 @@ module _ {p : ℕ} where
   pub below-equal : {x y : ℕ} → x < p → y < p → Congruent p x y → x ≡ y
   below-equal hx hy h = sym (mod-eq-of-lt hx) ∙ remainders-equal h ∙ mod-eq-of-lt hy
 
-  pub zero? : (x : ℕ) → Dec (Congruent p x 0)
+  unfoldable pub zero? : (x : ℕ) → Dec (Congruent p x 0)
+  unfolding ℕ-discrete
   zero? x =
       map-dec (λ e. by-remainders x 0 (e ∙ sym (zero-mod p))) (λ h. remainders-equal h ∙ zero-mod p) (ℕ-discrete (x % p) 0)
 

@@ -64,7 +64,8 @@ module _ {p : ℕ} where
       record { below = omega arith; of-zero = λ _. refl; of-nonzero = λ d. absurd (d z) }
 
   -- every number has one, and only one
-  pub reciprocal : Prime p → (a : ℕ) → (r : ℕ) × Reciprocal p a r
+  unfoldable pub reciprocal : Prime p → (a : ℕ) → (r : ℕ) × Reciprocal p a r
+  unfolding ℕ-discrete decLt
   reciprocal P a = start (ℕ-discrete (a % p) 0)
     where
       run : (bound x acc : ℕ) → x ≤ bound → a % p ≢ 0 → Euclid p a x acc → (r : ℕ) × Reciprocal p a r
@@ -86,7 +87,8 @@ module _ {p : ℕ} where
       let e : (x * r) % p ≡ 1 = R .of-nonzero (λ z. d (by-remainders x 0 (z ∙ sym (zero-mod p)))) in
       linear (by-remainders (x * r) 1 (e ∙ sym (mod-eq-of-lt h))) (omega arith)
 
-  pub unit : Prime p → (x : ℕ) → ¬ Congruent p x 0 → (g : ℕ) × Congruent p (g * x) 1
+  unfoldable pub unit : Prime p → (x : ℕ) → ¬ Congruent p x 0 → (g : ℕ) × Congruent p (g * x) 1
+  unfolding reciprocal
   unit P x d = let s = reciprocal P x in (s .0, reciprocal-unit (P .above-one) (s .1) d)
 
   pub reciprocal-unique : {a r s : ℕ} → 1 < p → Reciprocal p a r → Reciprocal p a s → r ≡ s

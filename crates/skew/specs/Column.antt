@@ -46,7 +46,8 @@ sum-to {p} (suc n) f h l z = go (ℕ-discrete n f) (λ l'. sum-to n f h l' (λ k
     go (no d) r = linear (r (omega arith) ⊕ z n (omega arith) (omega arith)) (simp sum-suc (omega arith))
 
 -- c before f, 1 at f, and 0 after
-pub ending : Vector → ℕ → Vector
+unfoldable pub ending : Vector → ℕ → Vector
+unfolding decLt ℕ-discrete
 ending c f k = choose (decLt k f) (c k) (choose (ℕ-discrete k f) 1 0)
 
 pub ending-before : (c : Vector) (f k : ℕ) → k < f → ending c f k ≡ c k
@@ -218,7 +219,8 @@ module _ (p n : ℕ) (A : Matrix) (L : Subset) where
             go (no d) = linear (U .after k hk (omega arith) ⊕ minus-one O ⊛ W .after k hk (omega arith)) (omega arith)
 
 -- the elements of L before f
-pub before : Subset → ℕ → Subset
+unfoldable pub before : Subset → ℕ → Subset
+unfolding decLt
 before L f i = choose (decLt i f) (L i) false
 
 pub before-in : (L : Subset) (f i : ℕ) → i < f → before L f i ≡ L i

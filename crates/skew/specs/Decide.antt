@@ -13,10 +13,11 @@ use Rattle.skew.specs.Elimination.{Reduced, Exchanged, Pivoted, identity
 use Rattle.skew.specs.Column.{FirstDependent, Witness, ending, ending-before, ending-at, ending-after, dependent-of-witness, before, before-in, before-out, before-with, before-skip, reduced-independent, reduced-witness}
 
 -- every matrix can be exchanged and pivoted
-exchange : ℕ → ℕ → Matrix → Matrix
+unfoldable pub exchange : ℕ → ℕ → Matrix → Matrix
+unfolding ℕ-discrete
 exchange f r X i = choose (ℕ-discrete i f) (X r) (choose (ℕ-discrete i r) (X f) (X i))
 
-exchanged : {p n : ℕ} (f r : ℕ) (X : Matrix) → Exchanged p n f r X (exchange f r X)
+pub exchanged : {p n : ℕ} (f r : ℕ) (X : Matrix) → Exchanged p n f r X (exchange f r X)
 unfolding exchange
 exchanged {p} f r X = record {
   first = λ j _. equals (ap (λ (row : Vector). row j) (choose-yes (ℕ-discrete f f) _ _ refl));
@@ -29,10 +30,11 @@ exchanged {p} f r X = record {
     second j (no d) =
         ap (λ (row : Vector). row j) (choose-no (ℕ-discrete r f) _ _ d ∙ choose-yes (ℕ-discrete r r) _ _ refl)
 
-pivot : {p : ℕ} → Odd p → ℕ → ℕ → Vector → Matrix → Matrix
+unfoldable pub pivot : {p : ℕ} → Odd p → ℕ → ℕ → Vector → Matrix → Matrix
+unfolding ℕ-discrete minus-one
 pivot O f g c X i j = choose (ℕ-discrete i f) (g * X f j) (X i j + minus-one O * (c i * (g * X f j)))
 
-pivoted : {p n : ℕ} (O : Odd p) (f g : ℕ) (c : Vector) (X : Matrix) → Pivoted p n f g c X (pivot O f g c X)
+pub pivoted : {p n : ℕ} (O : Odd p) (f g : ℕ) (c : Vector) (X : Matrix) → Pivoted p n f g c X (pivot O f g c X)
 unfolding pivot
 pivoted {p} O f g c X = record {
   scaled = λ j _. equals (top j);
@@ -44,11 +46,12 @@ pivoted {p} O f g c X = record {
     top j = choose-yes (ℕ-discrete f f) _ _ refl
 
 -- either column f is 0 in the rows from f on, or it has a pivot there
-data Pivot (p n f : ℕ) (L : Subset) (W : Matrix) : Type 0 where
+pub data Pivot (p n f : ℕ) (L : Subset) (W : Matrix) : Type 0 where
   no-pivot : ((i : ℕ) → i < n → i ∈ L → f ≤ i → Congruent p (W i f) 0) → Pivot p n f L W
   pivot-at : (r : ℕ) → r < n → r ∈ L → f ≤ r → ¬ Congruent p (W r f) 0 → Pivot p n f L W
 
-pivot? : {p : ℕ} (n f : ℕ) (L : Subset) (W : Matrix) → Pivot p n f L W
+unfoldable pub pivot? : {p : ℕ} (n f : ℕ) (L : Subset) (W : Matrix) → Pivot p n f L W
+unfolding member? zero? decLt
 pivot? zero f L W = no-pivot (λ i l. absurd (omega arith))
 pivot? {p} (suc n) f L W = go (pivot? n f L W) (member? L n) (decLt n f) (zero? (W n f))
   where
@@ -73,7 +76,7 @@ pub data Outcome (p n : ℕ) (A : Matrix) (L : Subset) : Type 0 where
 
 module _ {p : ℕ} (P : OddPrime p) (n : ℕ) (A : Matrix) (S : Skew p n A) (L : Subset) where
   -- column f has no pivot: it is the first dependent one
-  stop : (f : ℕ) → f < n → f ∈ L → (W R : Matrix) → Reduced p n A L (before L f) W R
+  unfoldable pub stop : (f : ℕ) → f < n → f ∈ L → (W R : Matrix) → Reduced p n A L (before L f) W R
       → ((i : ℕ) → i < n → i ∈ L → f ≤ i → Congruent p (W i f) 0) → Outcome p n A L
   stop f hf l W R E z =
       column f w (record {
@@ -104,8 +107,9 @@ module _ {p : ℕ} (P : OddPrime p) (n : ℕ) (A : Matrix) (S : Skew p n A) (L :
           reduced-witness p n A L E hf l z turned supported (equals (ending-at m f)) (λ k hk h. equals (ending-after m f k h))
 
   -- column f has a pivot in row r: one column more is reduced
-  forward : (f : ℕ) → f < n → f ∈ L → (W R : Matrix) → Reduced p n A L (before L f) W R → (r : ℕ) → r < n → r ∈ L → f ≤ r
+  unfoldable pub forward : (f : ℕ) → f < n → f ∈ L → (W R : Matrix) → Reduced p n A L (before L f) W R → (r : ℕ) → r < n → r ∈ L → f ≤ r
       → ¬ Congruent p (W r f) 0 → (W' : Matrix) × (R' : Matrix) × Reduced p n A L (before L (suc f)) W' R'
+  unfolding pivot exchange unit
   forward f hf l W R E r hr m o d = (pivot (P .odd) f (g .0) c W₁, pivot (P .odd) f (g .0) c R₁, reduced)
     where
       W₁ : Matrix
@@ -137,7 +141,8 @@ module _ {p : ℕ} (P : OddPrime p) (n : ℕ) (A : Matrix) (S : Skew p n A) (L :
           (λ i hi k. equals (omega (arith, ap (λ z. bit z * W₁ i f) k)))
           F (pivoted (P .odd) f (g .0) c W₁) (pivoted (P .odd) f (g .0) c R₁)
 
-  run : (left f : ℕ) → left + f ≡ n → (W R : Matrix) → Reduced p n A L (before L f) W R → Outcome p n A L
+  unfoldable pub run : (left f : ℕ) → left + f ≡ n → (W R : Matrix) → Reduced p n A L (before L f) W R → Outcome p n A L
+  unfolding member? pivot? forward stop
   run zero f e W R E =
       inverse R (inverse-of-left p n A (P .odd) S (reduced-inverse p n A L E (λ i hi l. before-in L f i (omega arith) ∙ l)))
   run (suc left) f e W R E = go (member? L f) (pivot? n f L W) (λ W' R' E'. run left (suc f) (omega arith) W' R' E')
@@ -150,7 +155,8 @@ module _ {p : ℕ} (P : OddPrime p) (n : ℕ) (A : Matrix) (S : Skew p n A) (L :
       go (inside l) (no-pivot z) next = stop f hf l W R E z
       go (inside l) (pivot-at r hr m o d) next = let s = forward f hf l W R E r hr m o d in next (s .0) (s .1) (s .2)
 
-  pub eliminate : Outcome p n A L
+  unfoldable pub eliminate : Outcome p n A L
+  unfolding run identity
   eliminate = run n 0 (omega arith) A (identity L) (reduced-start p n A L (before L 0) (λ j. before-out L 0 j (omega arith)))
 
   pub witness-singular : {f : ℕ} {w : Vector} → Witness p n A L f w → ¬ Invertible p n A L
@@ -163,7 +169,8 @@ module _ {p : ℕ} (P : OddPrime p) (n : ℕ) (A : Matrix) (S : Skew p n A) (L :
         nonzero = λ z. one-not-zero (P .prime) (flip (W .last) ⨾ z);
       })
 
-  pub invertible? : Dec (Invertible p n A L)
+  unfoldable pub invertible? : Dec (Invertible p n A L)
+  unfolding eliminate
   invertible? = go eliminate
     where
       go : Outcome p n A L → Dec (Invertible p n A L)

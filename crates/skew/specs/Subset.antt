@@ -22,7 +22,7 @@ pub data Member (L : Subset) (i : ℕ) : Type 0 where
   inside : i ∈ L → Member L i
   outside : i ∉ L → Member L i
 
-pub member? : (L : Subset) (i : ℕ) → Member L i
+unfoldable pub member? : (L : Subset) (i : ℕ) → Member L i
 member? L i = go (L i) refl
   where
     go : (b : Bool) → L i ≡ b → Member L i
@@ -91,7 +91,8 @@ smaller {L} {a} {b} {M} s i o = go (member? M i)
     go (outside m) = m
 
 -- L without a
-pub remove : Subset → ℕ → Subset
+unfoldable pub remove : Subset → ℕ → Subset
+unfolding ℕ-discrete
 remove L a i = choose (ℕ-discrete i a) false (L i)
 
 pub remove-same : (L : Subset) (a : ℕ) → a ∉ remove L a
