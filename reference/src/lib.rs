@@ -1,0 +1,45 @@
+//! A plain reading of document 01.
+//!
+//! A graph of at most 96 vertices has an adjacency table and one weight for
+//! each two vertices. Its Tutte matrix modulo 65521 either has an inverse, and
+//! then a session matches the vertices pair by pair, or has a kernel vector.
+//!
+//! Every decision is taken afresh by elimination from the adjacency table and
+//! the weights; nothing is updated. The modules stand in the order of the
+//! paper's sections.
+
+/// "The desk and its parts": numbers modulo 65521.
+pub mod residue;
+
+/// "Sheet, matrix, session": adjacency table, weights, Tutte matrix.
+pub mod graph;
+
+/// "Sheet, matrix, session" and "Opening": inverse, rank, dependent columns.
+pub mod linear_algebra;
+
+/// "Opening": the inverse, or the kernel vector of the first dependent column.
+pub mod opening;
+
+/// "Opening", last paragraph: the part of a buffer that is shown.
+pub mod display;
+
+/// "Session calls": match two vertices, match the lowest, undo, partner row.
+pub mod session;
+
+/// "The plain desk": a list of pairs and nothing else.
+pub mod model;
+
+/// "Draw roll": the generator of the weights.
+pub mod draws;
+
+/// "Sheet records": the reader of a graph.
+pub mod records;
+
+/// "Causes, numbers, and what is untouched": why a call is refused, and where.
+pub mod causes;
+
+/// "Listing": what the program prints.
+pub mod listing;
+
+/// "For the host": words as two bytes, low first.
+pub mod words;

@@ -1,0 +1,185 @@
+//! The reader of a graph (document 01, "Sheet records").
+
+use crate::causes::{Cause, Refusal};
+use crate::draws;
+use crate::graph::{check_lengths, graph_buffers, pair_count, MAX_VERTICES};
+
+/// The two vertices of an edge record, in the order of the bytes.
+#[derive(Clone, Copy, Debug, PartialEq, Eq)]
+pub struct EdgeBody {
+    pub first: u8,
+    pub second: u8,
+}
+
+/// A record with its body.
+#[derive(Clone, Copy, Debug, PartialEq, Eq)]
+pub enum Record {
+    /// Kind 1.
+    Size(u8),
+    /// Kind 2 (document 01: "may share").
+    Edge(EdgeBody),
+    /// Kind 3.
+    Seed(u32),
+    /// Kind 4.
+    End,
+}
+
+/// Which kinds may stand at a place.
+#[derive(Clone, Copy, Debug, PartialEq, Eq)]
+pub enum Due {
+    Size,
+    Seed,
+    EdgeOrEnd,
+}
+
+impl Due {
+    fn includes(self, kind: u8) -> bool {
+        match self {
+            Due::Size => kind == 1,
+            Due::Seed => kind == 3,
+            Due::EdgeOrEnd => kind == 2 || kind == 4,
+        }
+    }
+}
+
+/// What was read: the size and the number of edge records (document 01:
+/// "links").
+#[derive(Clone, Copy, Debug, PartialEq, Eq)]
+pub struct Counts {
+    pub size: u64,
+    pub edges: u64,
+}
+
+/// The bytes and a place in them.
+#[derive(Clone, Copy, Debug)]
+pub struct Reader<'a> {
+    bytes: &'a [u8],
+    place: usize,
+}
+
+impl<'a> Reader<'a> {
+    pub fn new(bytes: &'a [u8]) -> Reader<'a> {
+        Reader { bytes, place: 0 }
+    }
+
+    /// The offset of the next record.
+    pub fn place(&self) -> u64 {
+        self.place as u64
+    }
+
+    /// The next record: cause 12 if its kind is not due, cause 13 if the data
+    /// stops before or inside it. The place moves only past a whole record.
+    pub fn next_record(&mut self, due: Due) -> Result<Record, Refusal> {
+        let stops = Cause::DataStops.at(self.bytes.len() as u64);
+        let (&kind, rest) = self.bytes[self.place..].split_first().ok_or(stops)?;
+        if !due.includes(kind) {
+            return Err(self.not_due());
+        }
+        let (record, length) = match (kind, rest) {
+            (1, &[size, ..]) => (Record::Size(size), 2),
+            (2, &[first, second, ..]) => (Record::Edge(EdgeBody { first, second }), 3),
+            (3, &[a, b, c, d, ..]) => (Record::Seed(u32::from_le_bytes([a, b, c, d])), 5),
+            (4, _) => (Record::End, 1),
+            _ => return Err(stops),
+        };
+        self.place += length;
+        Ok(record)
+    }
+
+    /// Cause 12 if bytes follow the end record.
+    pub fn finish(&self) -> Result<(), Refusal> {
+        if self.place < self.bytes.len() {
+            return Err(self.not_due());
+        }
+        Ok(())
+    }
+
+    fn not_due(&self) -> Refusal {
+        Cause::KindNotDue.at(self.place())
+    }
+}
+
+/// The records of a whole graph.
+struct Parsed {
+    size: usize,
+    seed: u32,
+    adjacency: Vec<u8>,
+    edges: u64,
+}
+
+/// Reads a graph and fills the adjacency table and the weights. The first
+/// faulty record is refused; the lengths of the buffers come last.
+pub fn read_graph(
+    bytes: &[u8],
+    adjacency: &mut [u8],
+    weights: &mut [u16],
+) -> Result<Counts, Refusal> {
+    let parsed = parse(bytes)?;
+    let n = parsed.size;
+    check_lengths(n, &graph_buffers(adjacency, weights))?;
+    adjacency[..n * n].copy_from_slice(&parsed.adjacency);
+    let drawn = draws::weights(parsed.seed);
+    for (weight, draw) in weights[..pair_count(n)].iter_mut().zip(drawn) {
+        *weight = draw;
+    }
+    Ok(Counts {
+        size: n as u64,
+        edges: parsed.edges,
+    })
+}
+
+/// Reads the records in order: size, seed, edges, end, nothing.
+fn parse(bytes: &[u8]) -> Result<Parsed, Refusal> {
+    let mut reader = Reader::new(bytes);
+    let size = read_size(&mut reader)?;
+    let seed = read_seed(&mut reader)?;
+    let mut parsed = Parsed {
+        size,
+        seed,
+        adjacency: vec![0; size * size],
+        edges: 0,
+    };
+    loop {
+        let offset = reader.place();
+        match reader.next_record(Due::EdgeOrEnd)? {
+            Record::Edge(body) => add_edge(&mut parsed, body, offset)?,
+            _ => break,
+        }
+    }
+    reader.finish()?;
+    Ok(parsed)
+}
+
+/// The size record; cause 1 at its offset.
+fn read_size(reader: &mut Reader) -> Result<usize, Refusal> {
+    let offset = reader.place();
+    match reader.next_record(Due::Size)? {
+        Record::Size(size) if u64::from(size) <= MAX_VERTICES => Ok(usize::from(size)),
+        _ => Err(Cause::SizeTooLarge.at(offset)),
+    }
+}
+
+/// The seed record.
+fn read_seed(reader: &mut Reader) -> Result<u32, Refusal> {
+    let not_due = reader.not_due();
+    match reader.next_record(Due::Seed)? {
+        Record::Seed(seed) => Ok(seed),
+        _ => Err(not_due),
+    }
+}
+
+/// An edge record; cause 14, then cause 15, at its offset.
+fn add_edge(parsed: &mut Parsed, body: EdgeBody, offset: u64) -> Result<(), Refusal> {
+    let n = parsed.size;
+    let (i, j) = (usize::from(body.first), usize::from(body.second));
+    if i >= n || j >= n || i == j {
+        return Err(Cause::RecordVertexInvalid.at(offset));
+    }
+    if parsed.adjacency[i * n + j] == 1 {
+        return Err(Cause::EdgeRepeated.at(offset));
+    }
+    parsed.adjacency[i * n + j] = 1;
+    parsed.adjacency[j * n + i] = 1;
+    parsed.edges += 1;
+    Ok(())
+}

@@ -1,0 +1,297 @@
+//! Shared by the tests: a seeded generator, lent buffers, records.
+#![allow(dead_code)]
+
+use reference::causes::Refusal;
+use reference::graph::Graph;
+use reference::opening::{open, Opening};
+use reference::residue::Residue;
+use reference::session::{
+    match_lowest, match_pair, partner_row, undo, Edge, Outcome, Session, UNUSED,
+};
+
+/// A small generator for the tests.
+pub struct Random(pub u64);
+
+impl Random {
+    pub fn next(&mut self) -> u64 {
+        self.0 = self.0.wrapping_add(0x9E37_79B9_7F4A_7C15);
+        let mut z = self.0;
+        z = (z ^ (z >> 30)).wrapping_mul(0xBF58_476D_1CE4_E5B9);
+        z = (z ^ (z >> 27)).wrapping_mul(0x94D0_49BB_1331_11EB);
+        z ^ (z >> 31)
+    }
+
+    /// A number below the bound, which is not 0.
+    pub fn below(&mut self, bound: u64) -> u64 {
+        self.next() % bound
+    }
+
+    pub fn chance(&mut self, percent: u64) -> bool {
+        self.below(100) < percent
+    }
+
+    pub fn pick<T: Copy>(&mut self, items: &[T]) -> T {
+        items[self.below(items.len() as u64) as usize]
+    }
+}
+
+/// All buffers that calls are lent. Byte 170 and word 43690 stand where nothing
+/// was written.
+#[derive(Clone, Debug, PartialEq, Eq)]
+pub struct Buffers {
+    pub adjacency: Vec<u8>,
+    pub weights: Vec<u16>,
+    pub inverse: Vec<u16>,
+    pub order: Vec<u8>,
+    pub kernel: Vec<u16>,
+    pub scratch: Vec<u16>,
+    pub row: Vec<u8>,
+}
+
+pub const JUNK_BYTE: u8 = 170;
+pub const JUNK_WORD: u16 = 43690;
+
+pub fn pair_count(n: usize) -> usize {
+    (1..n).sum()
+}
+
+/// The pairs i < j of n vertices in the order of the weights.
+pub fn all_pairs(n: usize) -> Vec<(usize, usize)> {
+    let mut pairs = Vec::new();
+    for i in 0..n {
+        for j in i + 1..n {
+            pairs.push((i, j));
+        }
+    }
+    pairs
+}
+
+impl Buffers {
+    /// Exact buffers for n vertices with some edges, all weights 1.
+    pub fn new(n: usize, edges: &[(usize, usize)]) -> Buffers {
+        let mut buffers = Buffers {
+            adjacency: vec![0; n * n],
+            weights: vec![1; pair_count(n)],
+            inverse: vec![JUNK_WORD; n * n],
+            order: vec![JUNK_BYTE; n],
+            kernel: vec![JUNK_WORD; n],
+            scratch: vec![JUNK_WORD; n * n],
+            row: vec![JUNK_BYTE; n],
+        };
+        for &(i, j) in edges {
+            buffers.adjacency[i * n + j] = 1;
+            buffers.adjacency[j * n + i] = 1;
+        }
+        buffers
+    }
+
+    pub fn complete(n: usize) -> Buffers {
+        Buffers::new(n, &all_pairs(n))
+    }
+
+    pub fn with_weights(mut self, weights: &[u16]) -> Buffers {
+        self.weights = weights.to_vec();
+        self
+    }
+
+    /// A random graph; small weights often, so that matrices are singular by
+    /// cancellation too.
+    pub fn random(random: &mut Random, n: usize) -> Buffers {
+        let percent = random.pick(&[20, 40, 60, 80, 100]);
+        let range = random.below(3);
+        let mut edges = Vec::new();
+        let mut weights = Vec::new();
+        for pair in all_pairs(n) {
+            if random.chance(percent) {
+                edges.push(pair);
+            }
+            weights.push(match range {
+                0 => random.pick(&[1, 65520]),
+                1 => random.pick(&[1, 2, 3, 65519, 65520]),
+                _ => 1 + random.below(65520) as u16,
+            });
+        }
+        Buffers::new(n, &edges).with_weights(&weights)
+    }
+
+    /// Lengthens every buffer by some junk.
+    pub fn with_excess(mut self, random: &mut Random) -> Buffers {
+        fn extend<T: Clone>(buffer: &mut Vec<T>, junk: T, random: &mut Random) {
+            let length = buffer.len() + random.below(4) as usize;
+            buffer.resize(length, junk);
+        }
+        extend(&mut self.adjacency, JUNK_BYTE, random);
+        extend(&mut self.weights, 0, random);
+        extend(&mut self.inverse, JUNK_WORD, random);
+        extend(&mut self.order, JUNK_BYTE, random);
+        extend(&mut self.kernel, JUNK_WORD, random);
+        extend(&mut self.scratch, JUNK_WORD, random);
+        extend(&mut self.row, JUNK_BYTE, random);
+        self
+    }
+
+    pub fn graph(&self, n: usize) -> Graph<'_> {
+        Graph::checked(n as u64, &self.adjacency, &self.weights).expect("a good graph")
+    }
+
+    pub fn open(&mut self, size: u64) -> Result<Opening, Refusal> {
+        open(
+            size,
+            &self.adjacency,
+            &self.weights,
+            &mut self.inverse,
+            &mut self.order,
+            &mut self.kernel,
+            &mut self.scratch,
+        )
+    }
+
+    /// Opens a graph whose matrix has an inverse.
+    pub fn opened(&mut self, size: u64) -> Session {
+        match self.open(size) {
+            Ok(Opening::Opened(session)) => session,
+            other => panic!("not opened: {other:?}"),
+        }
+    }
+
+    pub fn match_pair(&mut self, session: Session, a: u64, b: u64) -> Outcome<Edge> {
+        match_pair(
+            session,
+            a,
+            b,
+            &self.adjacency,
+            &self.weights,
+            &mut self.inverse,
+            &mut self.order,
+        )
+    }
+
+    pub fn match_lowest(&mut self, session: Session) -> Outcome<Edge> {
+        match_lowest(
+            session,
+            &self.adjacency,
+            &self.weights,
+            &mut self.inverse,
+            &mut self.order,
+        )
+    }
+
+    pub fn undo(&mut self, session: Session) -> Outcome<Edge> {
+        undo(
+            session,
+            &self.adjacency,
+            &self.weights,
+            &mut self.inverse,
+            &mut self.order,
+        )
+    }
+
+    pub fn partner_row(&mut self, session: Session, a: u64) -> Outcome<()> {
+        partner_row(
+            session,
+            a,
+            &self.adjacency,
+            &self.weights,
+            &self.inverse,
+            &self.order,
+            &mut self.row,
+        )
+    }
+
+    /// Carries any call out; a partner row answers no pair.
+    pub fn call(&mut self, session: Session, call: Call) -> Outcome<Option<Edge>> {
+        let some = |outcome: Outcome<Edge>| Outcome {
+            session: outcome.session,
+            answer: outcome.answer.map(Some),
+        };
+        match call {
+            Call::Pair(a, b) => some(self.match_pair(session, a, b)),
+            Call::Lowest => some(self.match_lowest(session)),
+            Call::Undo => some(self.undo(session)),
+            Call::Row(a) => {
+                let outcome = self.partner_row(session, a);
+                Outcome {
+                    session: outcome.session,
+                    answer: outcome.answer.map(|()| None),
+                }
+            }
+        }
+    }
+
+    /// Calls, and checks that a refused call changes no buffer and hands the
+    /// session back. Gives the cause's number and the place.
+    pub fn refused(&mut self, session: Session, call: Call) -> (u8, u64) {
+        let before = self.clone();
+        let outcome = self.call(session, call);
+        assert_eq!(*self, before, "{call:?} wrote");
+        assert_eq!(outcome.session, session, "{call:?} changed the session");
+        outcome.answer.expect_err("a refusal").numbers()
+    }
+
+    /// Opens, and checks that a refused opening changes no buffer.
+    pub fn opening_refused(&mut self, size: u64) -> (u8, u64) {
+        let before = self.clone();
+        let answer = self.open(size);
+        assert_eq!(*self, before, "opening wrote");
+        answer.expect_err("a refusal").numbers()
+    }
+}
+
+/// A call of a session.
+#[derive(Clone, Copy, Debug, PartialEq, Eq)]
+pub enum Call {
+    Pair(u64, u64),
+    Lowest,
+    Undo,
+    Row(u64),
+}
+
+/// One call of each kind, with harmless vertices.
+pub const EACH_CALL: [Call; 4] = [Call::Pair(0, 1), Call::Lowest, Call::Undo, Call::Row(0)];
+
+pub fn session(size: u64, pairs: u64) -> Session {
+    Session { size, pairs }
+}
+
+pub fn edge(smaller: u64, larger: u64) -> Edge {
+    Edge { smaller, larger }
+}
+
+/// The records of a good graph: size, seed, edges, end.
+pub fn records(n: u8, seed: u32, edges: &[(u8, u8)]) -> Vec<u8> {
+    let mut bytes = vec![1, n, 3];
+    bytes.extend(seed.to_le_bytes());
+    for &(i, j) in edges {
+        bytes.extend([2, i, j]);
+    }
+    bytes.push(4);
+    bytes
+}
+
+/// The order of matching of pairs made by hand.
+pub fn order_of(n: usize, pairs: &[(u8, u8)]) -> Vec<u8> {
+    let mut order: Vec<u8> = pairs.iter().flat_map(|&(i, j)| [i, j]).collect();
+    order.resize(n, UNUSED);
+    order
+}
+
+/// One elimination of row a and column b from a table of the inverse (source
+/// document 001, theorem 3.1), with a difference that the caller chooses.
+pub fn eliminate(
+    n: usize,
+    table: &[u16],
+    a: usize,
+    b: usize,
+    minus: fn(Residue, Residue) -> Residue,
+) -> Vec<u16> {
+    let at = |i: usize, j: usize| Residue::new(u64::from(table[i * n + j]));
+    let reciprocal = at(a, b).reciprocal().expect("a nonzero pivot");
+    let mut eliminated = Vec::new();
+    for i in 0..n {
+        for j in 0..n {
+            let product = at(i, b).times(at(a, j)).times(reciprocal);
+            eliminated.push(minus(at(i, j), product).word());
+        }
+    }
+    eliminated
+}

@@ -1,0 +1,86 @@
+//! Document 01, "Opening", last paragraph: the part that is shown.
+
+mod common;
+
+use common::*;
+use reference::display::displayed_part;
+
+/// Whether a part is the beginning of a buffer.
+fn is_start_of(part: &[u16], buffer: &[u16], length: usize) -> bool {
+    part.as_ptr() == buffer.as_ptr() && part.len() == length
+}
+
+#[test]
+fn inverse_is_shown_after_opening() {
+    let mut buffers = Buffers::complete(4);
+    buffers.opened(4);
+    let part = displayed_part(4, &buffers.inverse, &buffers.kernel);
+    assert!(is_start_of(part, &buffers.inverse, 16));
+}
+
+#[test]
+fn kernel_vector_is_shown_for_a_singular_matrix() {
+    let mut buffers = Buffers::new(3, &[(0, 1), (1, 2)]);
+    buffers.open(3).expect("accepted");
+    let part = displayed_part(3, &buffers.inverse, &buffers.kernel);
+    assert!(is_start_of(part, &buffers.kernel, 3));
+    assert_eq!(part, [1, 0, 1]);
+}
+
+#[test]
+fn only_the_first_n_words_of_the_kernel_decide() {
+    let inverse = [7; 5];
+    let kernel = [0, 0, 9];
+    assert!(is_start_of(
+        displayed_part(2, &inverse, &kernel),
+        &inverse,
+        4
+    ));
+    let kernel = [0, 65_535, 0];
+    assert!(is_start_of(
+        displayed_part(2, &inverse, &kernel),
+        &kernel,
+        2
+    ));
+}
+
+#[test]
+fn either_buffer_short_gives_the_empty_part_of_the_inverse() {
+    let inverse = [7; 4];
+    let kernel = [1, 1];
+    assert!(is_start_of(
+        displayed_part(2, &inverse[..3], &kernel),
+        &inverse,
+        0
+    ));
+    assert!(is_start_of(
+        displayed_part(2, &inverse, &kernel[..1]),
+        &inverse,
+        0
+    ));
+}
+
+#[test]
+fn sizes_above_the_limit_give_the_empty_part_of_the_inverse() {
+    let inverse = [7; 10_000];
+    let kernel = [1; 100];
+    for size in [97, 100, 1 << 32, (1 << 32) + 2, u64::MAX] {
+        assert!(is_start_of(
+            displayed_part(size, &inverse, &kernel),
+            &inverse,
+            0
+        ));
+    }
+    assert!(is_start_of(
+        displayed_part(96, &inverse, &kernel),
+        &kernel,
+        96
+    ));
+}
+
+#[test]
+fn no_vertices_show_the_empty_part_of_the_inverse() {
+    let inverse = [7, 7];
+    assert!(is_start_of(displayed_part(0, &inverse, &[1]), &inverse, 0));
+    assert!(displayed_part(0, &[], &[]).is_empty());
+}

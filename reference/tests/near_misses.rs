@@ -1,0 +1,451 @@
+//! Document 01, "Near misses in elimination" and the broken programs of "A
+//! paragraph to the testers". Each is written as a wrong variant, and an input
+//! tells it apart from the right one.
+
+mod common;
+
+use common::*;
+use reference::causes::{Cause, Refusal};
+use reference::linear_algebra::{inverse, Matrix};
+use reference::model::Model;
+use reference::opening::Opening;
+use reference::residue::Residue;
+use reference::session::{Edge, Outcome, Session};
+
+/// The calls of a program; the right ones unless a variant says otherwise.
+trait Program {
+    fn open(&self, buffers: &mut Buffers, size: u64) -> Result<Opening, Refusal> {
+        buffers.open(size)
+    }
+
+    fn pair(&self, buffers: &mut Buffers, session: Session, a: u64, b: u64) -> Outcome<Edge> {
+        buffers.match_pair(session, a, b)
+    }
+
+    fn lowest(&self, buffers: &mut Buffers, session: Session) -> Outcome<Edge> {
+        buffers.match_lowest(session)
+    }
+}
+
+struct Right;
+impl Program for Right {}
+
+/// What is seen after a call: the answer, the session, order and inverse.
+#[derive(Clone, Debug, PartialEq)]
+struct Seen {
+    answer: Result<Edge, (u8, u64)>,
+    session: Session,
+    order: Vec<u8>,
+    inverse: Vec<u16>,
+}
+
+/// What is seen of a program on an opened graph, call by call; none if the
+/// graph does not open.
+fn seen(program: &dyn Program, graph: &Buffers, n: usize, calls: &[Call]) -> Option<Vec<Seen>> {
+    let mut buffers = graph.clone();
+    let Ok(Opening::Opened(mut session)) = program.open(&mut buffers, n as u64) else {
+        return None;
+    };
+    let mut steps = Vec::new();
+    for call in calls {
+        let outcome = match *call {
+            Call::Pair(a, b) => program.pair(&mut buffers, session, a, b),
+            Call::Lowest => program.lowest(&mut buffers, session),
+            Call::Undo => buffers.undo(session),
+            Call::Row(_) => panic!("no call of a run"),
+        };
+        session = outcome.session;
+        steps.push(Seen {
+            answer: outcome.answer.map_err(Refusal::numbers),
+            session,
+            order: buffers.order.clone(),
+            inverse: buffers.inverse.clone(),
+        });
+    }
+    Some(steps)
+}
+
+/// What the plain model says of the same calls.
+fn expected(graph: &Buffers, n: usize, calls: &[Call]) -> Vec<Seen> {
+    let graph = graph.graph(n);
+    let mut model = Model::new();
+    let mut steps = Vec::new();
+    for call in calls {
+        let answer = match *call {
+            Call::Pair(a, b) => model.match_pair(&graph, a, b),
+            Call::Lowest => model.match_lowest(&graph),
+            Call::Undo => model.undo(&graph),
+            Call::Row(_) => panic!("no call of a run"),
+        };
+        steps.push(Seen {
+            answer: answer.map_err(Refusal::numbers),
+            session: model.session(&graph),
+            order: model.order(&graph),
+            inverse: model.inverse(&graph).expect("an inverse"),
+        });
+    }
+    steps
+}
+
+/// The right program agrees with the model, the wrong one does not: gives what
+/// the two show at the first call where they differ.
+fn told_apart(wrong: &dyn Program, graph: &Buffers, n: usize, calls: &[Call]) -> (Seen, Seen) {
+    let expected = expected(graph, n, calls);
+    assert_eq!(seen(&Right, graph, n, calls), Some(expected.clone()));
+    let wrong = seen(wrong, graph, n, calls).expect("opened");
+    expected
+        .into_iter()
+        .zip(wrong)
+        .find(|(right, wrong)| right != wrong)
+        .expect("a difference")
+}
+
+/// The path 2 0 1 3 of the paper: edges 01, 02, 13.
+fn path() -> Buffers {
+    Buffers::new(4, &[(0, 1), (0, 2), (1, 3)])
+}
+
+/// An accepted pair written with the right table or a table of one's own.
+fn write_pair(
+    buffers: &mut Buffers,
+    session: Session,
+    pair: Edge,
+    table: Vec<u16>,
+) -> Outcome<Edge> {
+    let index = 2 * session.pairs as usize;
+    buffers.order[index] = pair.smaller as u8;
+    buffers.order[index + 1] = pair.larger as u8;
+    buffers.inverse = table;
+    Outcome {
+        session: Session {
+            size: session.size,
+            pairs: session.pairs + 1,
+        },
+        answer: Ok(pair),
+    }
+}
+
+/// A nonzero entry of the inverse, without the adjacency test.
+struct EntryAlone;
+
+impl Program for EntryAlone {
+    fn pair(&self, buffers: &mut Buffers, session: Session, a: u64, b: u64) -> Outcome<Edge> {
+        let n = session.size as usize;
+        let (i, j) = (a.min(b) as usize, a.max(b) as usize);
+        if buffers.inverse[i * n + j] == 0 {
+            let answer = Err(Cause::RestSingular.refusal());
+            return Outcome { session, answer };
+        }
+        let once = eliminate(n, &buffers.inverse, i, j, Residue::minus);
+        let twice = eliminate(n, &once, j, i, Residue::minus);
+        write_pair(buffers, session, edge(i as u64, j as u64), twice)
+    }
+}
+
+#[test]
+fn nonzero_entry_without_the_adjacency_test() {
+    let mut buffers = path();
+    buffers.opened(4);
+    assert_ne!(buffers.inverse[3 * 4 + 2], 0);
+    let (right, wrong) = told_apart(&EntryAlone, &path(), 4, &[Call::Pair(3, 2)]);
+    assert_eq!(right.answer, Err((9, 0)));
+    assert_eq!(wrong.answer, Ok(edge(2, 3)));
+}
+
+/// The adjacency test alone: the lowest unmatched vertex with its lowest
+/// unmatched neighbour.
+struct AdjacencyAlone;
+
+impl Program for AdjacencyAlone {
+    fn lowest(&self, buffers: &mut Buffers, session: Session) -> Outcome<Edge> {
+        let n = session.size as usize;
+        let unmatched: Vec<usize> = (0..n)
+            .filter(|&vertex| !buffers.order.contains(&(vertex as u8)))
+            .collect();
+        let pair = unmatched.first().and_then(|&c| {
+            let partner = unmatched
+                .iter()
+                .find(|&&r| buffers.adjacency[c * n + r] == 1);
+            partner.map(|&r| edge(c as u64, r as u64))
+        });
+        match pair {
+            Some(pair) => write_pair(buffers, session, pair, vec![0; n * n]),
+            None => Outcome {
+                session,
+                answer: Err(Cause::NothingLeft.refusal()),
+            },
+        }
+    }
+}
+
+#[test]
+fn adjacency_test_alone_is_stuck() {
+    let calls = [Call::Lowest, Call::Lowest];
+    let (right, wrong) = told_apart(&AdjacencyAlone, &path(), 4, &calls);
+    assert_eq!(right.answer, Ok(edge(0, 2)));
+    assert_eq!(wrong.answer, Ok(edge(0, 1)));
+    let steps = seen(&AdjacencyAlone, &path(), 4, &calls).expect("opened");
+    assert_eq!(steps[1].answer, Err((11, 0)));
+    assert_eq!(steps[1].session, session(4, 1));
+}
+
+/// One row and one column eliminated per pair.
+struct OneElimination;
+
+impl Program for OneElimination {
+    fn pair(&self, buffers: &mut Buffers, session: Session, a: u64, b: u64) -> Outcome<Edge> {
+        let n = session.size as usize;
+        let table = eliminate(n, &buffers.inverse, a as usize, b as usize, Residue::minus);
+        write_pair(buffers, session, edge(a.min(b), a.max(b)), table)
+    }
+}
+
+#[test]
+fn one_row_and_one_column_eliminated() {
+    let graph = Buffers::complete(4);
+    let calls = [Call::Pair(0, 1), Call::Lowest];
+    let (right, wrong) = told_apart(&OneElimination, &graph, 4, &calls);
+    assert_eq!(right.answer, wrong.answer);
+    assert_ne!(right.inverse, wrong.inverse);
+    let table = [[0; 4], [0; 4], [0, 0, 0, 65520], [0, 0, 1, 0]];
+    assert_eq!(right.inverse, table.as_flattened());
+    let steps = seen(&OneElimination, &graph, 4, &calls).expect("opened");
+    assert_eq!(steps[1].answer, Err((6, 0)));
+}
+
+/// The weight on both sides of the diagonal.
+struct Symmetric;
+
+impl Program for Symmetric {
+    fn open(&self, buffers: &mut Buffers, size: u64) -> Result<Opening, Refusal> {
+        let n = size as usize;
+        let entry = |i: usize, j: usize| {
+            let entry = buffers.graph(n).tutte_entry(i.min(j), i.max(j));
+            if i == j {
+                Residue::ZERO
+            } else {
+                entry
+            }
+        };
+        let row = |i| (0..n).map(|j| entry(i, j)).collect();
+        let matrix = Matrix::from_rows((0..n).map(row).collect()).expect("a square");
+        match inverse(&matrix) {
+            Some(_) => Ok(Opening::Opened(session(size, 0))),
+            None => buffers.open(size),
+        }
+    }
+}
+
+#[test]
+fn weight_on_both_sides_of_the_diagonal() {
+    let mut triangle = Buffers::complete(3);
+    let wrong = Symmetric.open(&mut triangle.clone(), 3);
+    assert_eq!(wrong, Ok(Opening::Opened(session(3, 0))));
+    assert_eq!(triangle.open(3), Ok(Opening::Singular { column: 2 }));
+    assert_eq!(triangle.kernel, [1, 65520, 1]);
+}
+
+/// A difference that wraps at 2^16 instead of adding the modulus first.
+fn wrapping_difference(a: Residue, b: Residue) -> Residue {
+    Residue::new(u64::from(a.word().wrapping_sub(b.word())))
+}
+
+/// The same at 2^32 and 2^64.
+fn wider_wrapping_differences(a: Residue, b: Residue) -> [Residue; 2] {
+    let (a, b) = (a.word(), b.word());
+    let narrow = u32::from(a).wrapping_sub(u32::from(b));
+    let wide = u64::from(a).wrapping_sub(u64::from(b));
+    [Residue::new(u64::from(narrow)), Residue::new(wide)]
+}
+
+#[test]
+fn difference_without_adding_the_modulus() {
+    let (three, five) = (Residue::new(3), Residue::new(5));
+    assert_eq!(three.minus(five).word(), 65_519);
+    assert_eq!(wrapping_difference(five, three), five.minus(three));
+    assert_ne!(wrapping_difference(three, five), three.minus(five));
+    for wrong in wider_wrapping_differences(three, five) {
+        assert_ne!(wrong, three.minus(five));
+    }
+}
+
+/// Forms the entry below the diagonal as such a difference, 0 minus the weight.
+struct WrappingEntry;
+
+impl Program for WrappingEntry {
+    fn open(&self, buffers: &mut Buffers, size: u64) -> Result<Opening, Refusal> {
+        let n = size as usize;
+        let entry = |i: usize, j: usize| {
+            let above = buffers.graph(n).tutte_entry(i.min(j), i.max(j));
+            if i <= j {
+                above
+            } else {
+                wrapping_difference(Residue::ZERO, above)
+            }
+        };
+        let row = |i| (0..n).map(|j| entry(i, j)).collect();
+        let matrix = Matrix::from_rows((0..n).map(row).collect()).expect("a square");
+        let found = inverse(&matrix).expect("an inverse");
+        let answer = buffers.open(size);
+        for i in 0..n {
+            for j in 0..n {
+                buffers.inverse[i * n + j] = found.get(i, j).expect("an entry").word();
+            }
+        }
+        answer
+    }
+}
+
+#[test]
+fn entries_formed_without_adding_the_modulus() {
+    let mut right = Buffers::new(2, &[(0, 1)]).with_weights(&[2]);
+    let mut wrong = right.clone();
+    right.opened(2);
+    assert_eq!(right.inverse, [0, 32760, 32761, 0]);
+    WrappingEntry.open(&mut wrong, 2).expect("accepted");
+    assert_ne!(wrong.inverse, right.inverse);
+}
+
+/// Eliminates with such a difference.
+struct WrappingElimination;
+
+impl Program for WrappingElimination {
+    fn pair(&self, buffers: &mut Buffers, session: Session, a: u64, b: u64) -> Outcome<Edge> {
+        let n = session.size as usize;
+        let (i, j) = (a.min(b) as usize, a.max(b) as usize);
+        let once = eliminate(n, &buffers.inverse, i, j, wrapping_difference);
+        let twice = eliminate(n, &once, j, i, wrapping_difference);
+        write_pair(buffers, session, edge(i as u64, j as u64), twice)
+    }
+}
+
+#[test]
+fn elimination_without_adding_the_modulus() {
+    let graph = Buffers::complete(4);
+    let (right, wrong) = told_apart(&WrappingElimination, &graph, 4, &[Call::Pair(0, 1)]);
+    assert_eq!(right.answer, wrong.answer);
+    assert_ne!(right.inverse, wrong.inverse);
+}
+
+/// Refuses every graph.
+struct RefusesAll;
+
+impl Program for RefusesAll {
+    fn open(&self, _: &mut Buffers, _: u64) -> Result<Opening, Refusal> {
+        Err(Cause::AdjacencyFault.refusal())
+    }
+}
+
+#[test]
+fn a_program_that_refuses_every_graph() {
+    let opened = Ok(Opening::Opened(session(4, 0)));
+    assert_eq!(Right.open(&mut path(), 4), opened);
+    assert_ne!(RefusesAll.open(&mut path(), 4), opened);
+    let singular = Ok(Opening::Singular { column: 0 });
+    assert_eq!(Right.open(&mut Buffers::new(1, &[]), 1), singular);
+    assert_ne!(RefusesAll.open(&mut Buffers::new(1, &[]), 1), singular);
+}
+
+/// Always matches 0 with 1, 2 with 3 and so on.
+struct FixedPairs;
+
+impl Program for FixedPairs {
+    fn lowest(&self, buffers: &mut Buffers, session: Session) -> Outcome<Edge> {
+        let n = session.size as usize;
+        let pair = edge(2 * session.pairs, 2 * session.pairs + 1);
+        let once = eliminate_or_keep(n, &buffers.inverse, pair);
+        write_pair(buffers, session, pair, once)
+    }
+}
+
+/// Both eliminations where the entry is not 0, else the table as it is.
+fn eliminate_or_keep(n: usize, table: &[u16], pair: Edge) -> Vec<u16> {
+    let (a, b) = (pair.smaller as usize, pair.larger as usize);
+    if table[a * n + b] == 0 {
+        return table.to_vec();
+    }
+    let once = eliminate(n, table, a, b, Residue::minus);
+    eliminate(n, &once, b, a, Residue::minus)
+}
+
+#[test]
+fn a_program_that_always_matches_0_with_1_and_2_with_3() {
+    let calls = [Call::Lowest, Call::Lowest];
+    let complete = seen(&FixedPairs, &Buffers::complete(4), 4, &calls);
+    assert_eq!(complete, seen(&Right, &Buffers::complete(4), 4, &calls));
+    let (right, wrong) = told_apart(&FixedPairs, &path(), 4, &calls);
+    assert_eq!(right.answer, Ok(edge(0, 2)));
+    assert_eq!(wrong.answer, Ok(edge(0, 1)));
+}
+
+/// Answers rightly and writes nothing.
+struct WritesNothing;
+
+impl Program for WritesNothing {
+    fn lowest(&self, buffers: &mut Buffers, session: Session) -> Outcome<Edge> {
+        buffers.clone().match_lowest(session)
+    }
+}
+
+#[test]
+fn a_program_that_writes_nothing() {
+    let calls = [Call::Lowest, Call::Lowest];
+    let (right, wrong) = told_apart(&WritesNothing, &path(), 4, &calls);
+    assert_eq!(right.answer, wrong.answer);
+    assert_ne!(right.inverse, wrong.inverse);
+    assert_ne!(right.order, wrong.order);
+}
+
+/// Fills the whole order of matching at the first step and nods afterwards.
+struct FillsAtOnce;
+
+impl Program for FillsAtOnce {
+    fn lowest(&self, buffers: &mut Buffers, opened: Session) -> Outcome<Edge> {
+        let mut ahead = opened;
+        while buffers.order.contains(&255) {
+            ahead = buffers.match_lowest(ahead).session;
+        }
+        let index = 2 * opened.pairs as usize;
+        let pair = &buffers.order[index..index + 2];
+        Outcome {
+            session: session(opened.size, opened.pairs + 1),
+            answer: Ok(edge(u64::from(pair[0]), u64::from(pair[1]))),
+        }
+    }
+}
+
+#[test]
+fn a_program_that_fills_the_order_at_once() {
+    let calls = [Call::Lowest, Call::Lowest];
+    let (right, wrong) = told_apart(&FillsAtOnce, &path(), 4, &calls);
+    assert_eq!(right.answer, wrong.answer);
+    assert_eq!(right.session, wrong.session);
+    assert_eq!(right.order, [0, 2, 255, 255]);
+    assert_eq!(wrong.order, [0, 2, 1, 3]);
+    assert_ne!(right.inverse, wrong.inverse);
+    // After the last step nothing tells them apart: every call is compared.
+    let steps = seen(&FillsAtOnce, &path(), 4, &calls).expect("opened");
+    assert_eq!(steps.last(), expected(&path(), 4, &calls).last());
+}
+
+/// Invents its number of pairs.
+struct InventsPairs;
+
+impl Program for InventsPairs {
+    fn pair(&self, buffers: &mut Buffers, session: Session, a: u64, b: u64) -> Outcome<Edge> {
+        let mut outcome = buffers.match_pair(session, a, b);
+        outcome.session.pairs = 2;
+        outcome
+    }
+}
+
+#[test]
+fn a_program_that_invents_its_number_of_pairs() {
+    let graph = Buffers::complete(4);
+    let calls = [Call::Pair(0, 1), Call::Lowest];
+    let (right, wrong) = told_apart(&InventsPairs, &graph, 4, &calls);
+    assert_ne!(right.session, wrong.session);
+    let steps = seen(&InventsPairs, &graph, 4, &calls).expect("opened");
+    assert_eq!(steps[1].answer, Err((5, 0)));
+    assert_eq!(expected(&graph, 4, &calls)[1].answer, Ok(edge(2, 3)));
+}
