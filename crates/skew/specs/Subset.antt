@@ -68,6 +68,15 @@ place {L} {a} {b} {M} s i = go (ℕ-discrete i a) (ℕ-discrete i b) (member? M 
     go (no d) (no e) (inside m) = stays m (sym (s .others i d e) ∙ m) d e
     go (no d) (no e) (outside m) = never m (sym (s .others i d e) ∙ m)
 
+-- what is left does not depend on how it was removed
+pub without-same : {L : Subset} {a b : ℕ} {M N : Subset} → Without L a b M → Without L a b N → (i : ℕ) → M i ≡ N i
+without-same {L} {a} {b} {M} {N} s t i = go (ℕ-discrete i a) (ℕ-discrete i b)
+  where
+    go : Dec (i ≡ a) → Dec (i ≡ b) → M i ≡ N i
+    go (yes e) _ = rw e (s .a-out ∙ sym (t .a-out))
+    go (no _) (yes e) = rw e (s .b-out ∙ sym (t .b-out))
+    go (no d) (no e) = s .others i d e ∙ sym (t .others i d e)
+
 -- an element of the smaller set
 pub record Stays (L : Subset) (a b i : ℕ) : Type 0 where
   pub larger : i ∈ L

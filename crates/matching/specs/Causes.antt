@@ -1,0 +1,115 @@
+-- The causes 1 to 6 of document 01's table, each with its place, and the order in which opening and the session calls look at them.
+-- Causes 7 to 11 are in Model, 12 to 15 in Records. Assumes nothing.
+use mathlib.Core.List.{List, [], _∷_}
+use Prim.Native.Nat.{ℕ, _*_, _/_, _%_}
+use native.Mathlib.Decide.{ℕ-discrete, decLt}
+use lib.ListN.{length, getD}
+use Rattle.matching.specs.Decision.{both?, not?, Finding, absent, at, when, found, first?, Cause, Verdict, judge}
+use Rattle.matching.specs.Graph.{Graph, largest, couples, fault, Faulty, Outside}
+use Rattle.matching.specs.Session.{left}
+use Rattle.matching.specs.Decided.{held?, well-formed?}
+
+-- a lent buffer: its number in the table, how long it is, and how much of it the call needs
+pub record Lent : Type 0 where
+  pub number : ℕ
+  pub length : ℕ
+  pub needed : ℕ
+
+abbrev pub adjacency-of : Graph → Lent
+adjacency-of g = record { number = 1; length = length (g .adjacency); needed = g .n * g .n }
+
+abbrev pub weights-of : Graph → Lent
+weights-of g = record { number = 2; length = length (g .weights); needed = couples (g .n) }
+
+-- numbers 3 held, 4 strip, 5 witness, 6 work, 7 row
+abbrev pub held-of : ℕ → List ℕ → Lent
+held-of n held = record { number = 3; length = length held; needed = n * n }
+
+abbrev pub strip-of : ℕ → List ℕ → Lent
+strip-of n strip = record { number = 4; length = length strip; needed = n }
+
+abbrev pub witness-of : ℕ → List ℕ → Lent
+witness-of n witness = record { number = 5; length = length witness; needed = n }
+
+abbrev pub work-of : ℕ → List ℕ → Lent
+work-of n work = record { number = 6; length = length work; needed = n * n }
+
+abbrev pub row-of : ℕ → List ℕ → Lent
+row-of n row = record { number = 7; length = length row; needed = n }
+
+-- 1: size above 96
+abbrev pub too-large : ℕ → Cause
+too-large n = record { number = 1; finding = when (decLt largest n) 0 }
+
+-- 2: a lent buffer too short, at the number of the first of them
+abbrev pub or : Finding → Finding → Finding
+or absent f = f
+or (at x) f = at x
+
+abbrev pub first-short : List Lent → Finding
+first-short [] = absent
+first-short (b ∷ later) = or (when (decLt (b .length) (b .needed)) (b .number)) (first-short later)
+
+abbrev pub too-short : List Lent → Cause
+too-short buffers = record { number = 2; finding = first-short buffers }
+
+-- 3: a cell of the adjacency table not 0 or 1, not 0 on the diagonal, or unequal to its mirror, at the first index, row by row
+unfoldable pub bad-cell : Graph → Cause
+unfolding first? fault ℕ-discrete
+bad-cell g =
+    record { number = 3; finding = found (first? (Faulty g) (g .n * g .n) (λ x. not? (ℕ-discrete (fault g (x / g .n) (x % g .n)) 0))) }
+
+-- 4: a weight outside 1 .. p - 1, at the first index
+unfoldable pub bad-weight : ℕ → Graph → Cause
+unfolding first? decLt
+bad-weight p g = record {
+  number = 4;
+  finding = found (first? (Outside g p) (couples (g .n)) (λ x. not? (both? (decLt 0 (getD (g .weights) x 0)) (decLt (getD (g .weights) x 0) p))));
+}
+
+-- 5: the session not well formed
+unfoldable pub ill-formed : Graph → ℕ → List ℕ → Cause
+unfolding well-formed?
+ill-formed g made strip = record { number = 5; finding = when (not? (well-formed? g made strip)) 0 }
+
+-- 6: held not as defined, or no inverse for the vertices left
+unfoldable pub not-held : ℕ → Graph → ℕ → List ℕ → List ℕ → Cause
+unfolding held?
+not-held p g made strip held = record { number = 6; finding = when (not? (held? p g (left strip made) held)) 0 }
+
+-- what opening is lent, and what it looks at: 1 to 4
+abbrev pub lent-to-opening : Graph → (held strip witness work : List ℕ) → List Lent
+lent-to-opening g held strip witness work =
+    adjacency-of g
+    ∷ weights-of g
+    ∷ held-of (g .n) held
+    ∷ strip-of (g .n) strip
+    ∷ witness-of (g .n) witness
+    ∷ work-of (g .n) work
+    ∷ []
+
+abbrev pub opening-causes : ℕ → Graph → List Lent → List Cause
+opening-causes p g buffers = too-large (g .n) ∷ too-short buffers ∷ bad-cell g ∷ bad-weight p g ∷ []
+
+unfoldable pub opening-verdict : ℕ → Graph → (held strip witness work : List ℕ) → Verdict
+unfolding bad-cell bad-weight
+opening-verdict p g held strip witness work = judge (opening-causes p g (lent-to-opening g held strip witness work))
+
+-- what every session call is lent, and what it looks at first: 1 to 6, whether the session is sound
+abbrev pub lent-to-session : Graph → (held strip : List ℕ) → List Lent → List Lent
+lent-to-session g held strip more = adjacency-of g ∷ weights-of g ∷ held-of (g .n) held ∷ strip-of (g .n) strip ∷ more
+
+abbrev pub session-causes : ℕ → Graph → ℕ → (held strip : List ℕ) → List Lent → List Cause
+session-causes p g made held strip buffers =
+    too-large (g .n)
+    ∷ too-short buffers
+    ∷ bad-cell g
+    ∷ bad-weight p g
+    ∷ ill-formed g made strip
+    ∷ not-held p g made strip held
+    ∷ []
+
+unfoldable pub session-verdict : ℕ → Graph → ℕ → (held strip : List ℕ) → List Lent → Verdict
+unfolding bad-cell bad-weight ill-formed not-held
+session-verdict p g made held strip more =
+    judge (session-causes p g made held strip (lent-to-session g held strip more))

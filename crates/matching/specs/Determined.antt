@@ -1,0 +1,147 @@
+-- Opening and the session calls have exactly one outcome each. Assumes nothing.
+use mathlib.Core.Path.{_≡_, refl, sym, ap, ap₂, _∙_}
+use mathlib.Core.List.{List, []}
+use Prim.Native.Nat.{ℕ, zero, suc, _+_, _*_, _/_, _%_, _<_}
+use native.Mathlib.Nat.{mod-lt}
+use native.Mathlib.Omega.{arith}
+use lib.ListN.{length, getD}
+use lib.Seq.{ext-getD}
+use Rattle.modular.specs.Prime.{OddPrime, below-equal, remainder}
+use Rattle.modular.specs.Congruence.{Congruent, equals, _⨾_}
+use Rattle.skew.specs.Subset.{Subset, count, count-none, count-suc}
+use Rattle.skew.specs.Matching.{invertible-even}
+use Rattle.skew.specs.Inverse.{Matrix, Inverse, apply-congruent, inverse-unique, same-entries}
+use Rattle.skew.specs.Column.{FirstDependent, Witness, witness-unique}
+use Rattle.skew.specs.Decide.{Outcome, inverse, column, eliminate, witness-singular, first-unique}
+use Rattle.matching.specs.Index.{row-below, column-below, index-of, index-row, index-column, index-below}
+use Rattle.matching.specs.Decision.{Every, Verdict, accepted, refused}
+use Rattle.matching.specs.Graph.{Graph, tutte}
+use Rattle.matching.specs.Pairs.{everything}
+use Rattle.matching.specs.Model.{skew}
+use Rattle.matching.specs.Session.{Held, table, vector, list-of}
+use Rattle.matching.specs.Opening.{Opening, opened, dependent, not-opened, Buffers, Singular, verdict, with-inverse, with-witness, Opens, refuses, opens, depends}
+
+pub length-list-of : (k : ℕ) (f : ℕ → ℕ) → length (list-of k f) ≡ k
+unfolding list-of
+length-list-of zero f = refl
+length-list-of (suc k) f = ap suc (length-list-of k (λ x. f (suc x)))
+
+pub getD-list-of : (k : ℕ) (f : ℕ → ℕ) (x : ℕ) → x < k → getD (list-of k f) x 0 ≡ f x
+unfolding list-of
+getD-list-of zero f x l = absurd (omega arith)
+getD-list-of (suc k) f zero l = refl
+getD-list-of (suc k) f (suc x) l = getD-list-of k (λ x. f (suc x)) x (omega arith)
+
+count-everything : (n : ℕ) → count n everything ≡ n
+count-everything zero = count-none everything
+count-everything (suc n) = simp (count-suc, count-everything n) (omega arith)
+
+module _ {p : ℕ} (P : OddPrime p) (g : Graph) where
+  -- one buffer only holds the inverse on a set
+  pub held-unique : {L : Subset} {u v : List ℕ} → length u ≡ g .n * g .n → length v ≡ g .n * g .n → Held p g L u → Held p g L v → u ≡ v
+  held-unique {L} {u} {v} hu hv U V′ = ext-getD 0 u v (hu ∙ sym hv) same
+    where
+      same : (x : ℕ) → x < length u → getD u x 0 ≡ getD v x 0
+      same x l =
+          let k : x < g .n * g .n = omega arith in
+          let e =
+          inverse-unique p (g .n) (tutte g p) (P .odd) (skew P g everything) (U .inverse) (V′ .inverse) (x / g .n) (x % g .n) (row-below (g .n) x k)
+          (column-below (g .n) x k) in
+          let i = index-of (g .n) x in
+          below-equal (U .small x k) (V′ .small x k) (equals (ap (λ z. getD u z 0) (sym i)) ⨾ e ⨾ equals (ap (λ z. getD v z 0) i))
+
+  -- and where there is an inverse, one does
+  pub held-of : {L : Subset} {T : Matrix} → Inverse p (g .n) (tutte g p) L T → (held : List ℕ) × (length held ≡ g .n * g .n) × Held p g L held
+  held-of {L} {T} I = (held, length-list-of (g .n * g .n) word, record { small = small; inverse = same-entries p (g .n) (tutte g p) _ entries I })
+    where
+      word : ℕ → ℕ
+      word x = T (x / g .n) (x % g .n) % p
+
+      held : List ℕ
+      held = list-of (g .n * g .n) word
+
+      at : (x : ℕ) → x < g .n * g .n → getD held x 0 ≡ word x
+      at x l = getD-list-of (g .n * g .n) word x l
+
+      small : Every (g .n * g .n) (λ x. getD held x 0 < p)
+      small x l = rw (at x l) (mod-lt _ (omega (arith, P .prime .above-one)))
+
+      entries : (i j : ℕ) → i < g .n → j < g .n → Congruent p (table (g .n) held i j) (T i j)
+      entries i j hi hj =
+          equals (at (i * g .n + j) (index-below (g .n) i j hi hj))
+          ⨾ remainder (T ((i * g .n + j) / g .n) ((i * g .n + j) % g .n))
+          ⨾ equals (ap₂ T (index-row (g .n) i j hj) (index-column (g .n) i j hj))
+
+  -- one column and one buffer only are the witness
+  pub singular-unique : {f h : ℕ} {u v : List ℕ} → length u ≡ g .n → length v ≡ g .n → Singular p g f u → Singular p g h v → (f ≡ h) × (u ≡ v)
+  singular-unique {f} {h} {u} {v} hu hv U W =
+      let e : f ≡ h = first-unique P (g .n) (tutte g p) (skew P g everything) everything (U .first) (W .first) in
+      (e, ext-getD 0 u v (hu ∙ sym hv) (λ x l. same e x l))
+    where
+      same : f ≡ h → (x : ℕ) → x < length u → getD u x 0 ≡ getD v x 0
+      same e x l =
+          let k : x < g .n = omega arith in
+          below-equal (U .small x k) (W .small x k)
+          (witness-unique p (g .n) (tutte g p) everything (P .odd) (P .prime) (U .first) (U .kernel) (rw (sym e) at (W .kernel)) x k)
+
+  pub singular-of : {f : ℕ} {w : ℕ → ℕ} → FirstDependent p (g .n) (tutte g p) everything f → Witness p (g .n) (tutte g p) everything f w
+      → (witness : List ℕ) × (length witness ≡ g .n) × Singular p g f witness
+  singular-of {f} {w} F W = (
+    words,
+    length-list-of (g .n) word,
+    record {
+      small = λ x l. rw (at x l) (mod-lt _ (omega (arith, P .prime .above-one)));
+      first = F;
+      kernel = record {
+        below = W .below;
+        in-L = W .in-L;
+        supported = λ k l o. same k l ⨾ W .supported k l o;
+        sent = λ i hi l. apply-congruent p (g .n) (tutte g p) (vector words) w i same ⨾ W .sent i hi l;
+        last = same f (W .below) ⨾ W .last;
+        after = λ k l o. same k l ⨾ W .after k l o;
+      };
+    },
+  )
+    where
+      word : ℕ → ℕ
+      word x = w x % p
+
+      words : List ℕ
+      words = list-of (g .n) word
+
+      at : (x : ℕ) → x < g .n → getD words x 0 ≡ word x
+      at x l = getD-list-of (g .n) word x l
+
+      same : (x : ℕ) → x < g .n → Congruent p (vector words x) (w x)
+      same x l = equals (at x l) ⨾ remainder (w x)
+
+  -- opening has an outcome
+  pub opens-some : (b : Buffers) → (o : Opening) × (after : Buffers) × Opens p g b o after
+  opens-some b = go (verdict p g b) refl (eliminate P (g .n) (tutte g p) (skew P g everything) everything)
+    where
+      go : (v : Verdict) → verdict p g b ≡ v → Outcome p (g .n) (tutte g p) everything → (o : Opening) × (after : Buffers) × Opens p g b o after
+      go (refused k x) e _ = (not-opened k x, b, refuses k x e)
+      go accepted e (inverse T I) = let h = held-of I in (opened, with-inverse (g .n) (h .0) b, opens (h .0) e (h .1) (h .2))
+      go accepted e (column f w F W) =
+          let s = singular-of F W in (dependent f, with-witness (g .n) (s .0) b, depends f (s .0) e (s .1) (s .2))
+
+  -- and no other
+  pub opens-unique : {b : Buffers} {o o′ : Opening} {a a′ : Buffers} → Opens p g b o a → Opens p g b o′ a′ → (o ≡ o′) × (a ≡ a′)
+  opens-unique (refuses k x e) (refuses k′ x′ e′) = (cc, refl)
+  opens-unique (refuses k x e) (opens held e′ l h) = absurd (let z : _≡_ {A = ℕ} 0 1 = cc in omega arith)
+  opens-unique (refuses k x e) (depends f w e′ l s) = absurd (let z : _≡_ {A = ℕ} 0 1 = cc in omega arith)
+  opens-unique (opens held e l h) (refuses k x e′) = absurd (let z : _≡_ {A = ℕ} 0 1 = cc in omega arith)
+  opens-unique {b} (opens held e l h) (opens held′ e′ l′ h′) = (refl, ap (λ words. with-inverse (g .n) words b) (held-unique l l′ h h′))
+  opens-unique (opens held e l h) (depends f w e′ l′ s) =
+      absurd (witness-singular P (g .n) (tutte g p) (skew P g everything) everything (s .kernel) (_, h .inverse))
+  opens-unique (depends f w e l s) (refuses k x e′) = absurd (let z : _≡_ {A = ℕ} 0 1 = cc in omega arith)
+  opens-unique (depends f w e l s) (opens held e′ l′ h) =
+      absurd (witness-singular P (g .n) (tutte g p) (skew P g everything) everything (s .kernel) (_, h .inverse))
+  opens-unique {b} (depends f w e l s) (depends f′ w′ e′ l′ s′) =
+      let u = singular-unique l l′ s s′ in (ap dependent (u .0), ap (λ words. with-witness (g .n) words b) (u .1))
+
+  -- an odd number of vertices never opens
+  pub odd-never-opens : (half : ℕ) → g .n ≡ half + half + 1 → {b a : Buffers} → ¬ Opens p g b opened a
+  odd-never-opens half odd (opens held _ _ h) =
+      let m = invertible-even P (g .n) (tutte g p) (skew P g everything) (_, h .inverse) in
+      omega (arith, m .1, count-everything (g .n))

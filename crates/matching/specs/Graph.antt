@@ -1,0 +1,93 @@
+-- A graph as it is lent (document 01: sheet), its Tutte matrix, and when it is in order. Assumes nothing.
+use mathlib.Core.Path.{_≡_, _∙_}
+use mathlib.Core.Logic.{_≢_}
+use mathlib.Core.List.{List}
+use Prim.Native.Nat.{ℕ, _+_, _*_, _-_, _/_, _%_, _<_}
+use native.Mathlib.Omega.{arith}
+use native.Mathlib.Decide.{ℕ-discrete, decLt}
+use lib.ListN.{getD}
+use Rattle.modular.specs.Congruence.{Congruent, equals, linear}
+use Rattle.modular.specs.Sum.{sum}
+use Rattle.modular.specs.Operations.{negative, negative-plus}
+use Rattle.skew.specs.Choose.{choose, choose-yes, choose-no}
+use Rattle.skew.specs.Inverse.{Matrix, Skew}
+
+-- the most vertices that a graph may have
+abbrev pub largest : ℕ
+largest = 96
+
+-- n vertices (sleeves), the adjacency table (share table), row by row, and the weights (draws). The two lists may be longer than needed
+pub record Graph : Type 0 where
+  pub n : ℕ
+  pub adjacency : List ℕ
+  pub weights : List ℕ
+
+-- how many two vertices there are: n(n - 1)/2
+abbrev pub couples : ℕ → ℕ
+couples n = n * (n - 1) / 2
+
+module _ (g : Graph) where
+  -- the adjacency table at row i, column j
+  abbrev pub cell : ℕ → ℕ → ℕ
+  cell i j = getD (g .adjacency) (i * g .n + j) 0
+
+  -- where the weight of i < j stands: the rows before i have n - 1, n - 2, .. weights
+  unfoldable pub weight-index : ℕ → ℕ → ℕ
+  unfolding sum
+  weight-index i j = sum i (λ k. g .n - 1 - k) + (j - i - 1)
+
+  unfoldable pub weight : ℕ → ℕ → ℕ
+  unfolding weight-index
+  weight i j = getD (g .weights) (weight-index i j) 0
+
+  -- the weight of i < j where they are adjacent (may share), else 0
+  unfoldable pub upper : ℕ → ℕ → ℕ
+  unfolding weight ℕ-discrete
+  upper i j = choose (ℕ-discrete (cell i j) 1) (weight i j) 0
+
+  -- the Tutte matrix (document 01: A) modulo p: a weight above the diagonal, and its negative, p - d, below
+  unfoldable pub tutte : ℕ → Matrix
+  unfolding upper decLt
+  tutte p i j = choose (decLt i j) (upper i j) (choose (decLt j i) (negative p (upper j i)) 0)
+
+  pub tutte-upper : (p i j : ℕ) → i < j → tutte p i j ≡ upper i j
+  unfolding tutte
+  tutte-upper p i j l = choose-yes (decLt i j) _ _ l
+
+  pub tutte-lower : (p i j : ℕ) → j < i → tutte p i j ≡ negative p (upper j i)
+  unfolding tutte
+  tutte-lower p i j l = choose-no (decLt i j) _ _ (λ h. omega arith) ∙ choose-yes (decLt j i) _ _ l
+
+  pub tutte-diagonal : (p i : ℕ) → tutte p i i ≡ 0
+  unfolding tutte
+  tutte-diagonal p i = choose-no (decLt i i) _ _ (λ h. omega arith) ∙ choose-no (decLt i i) _ _ (λ h. omega arith)
+
+  -- it is skew, whatever the tables hold
+  pub tutte-skew : {p : ℕ} → 0 < p → (n : ℕ) → Skew p n (tutte p)
+  tutte-skew {p} h n = record { turn = λ i j _ _. turn i j (decLt i j) (decLt j i) }
+    where
+      across : (i j : ℕ) → i < j → Congruent p (tutte p i j + tutte p j i) 0
+      across i j l =
+          linear (negative-plus h (upper i j)) (omega (arith, tutte-upper p i j l, tutte-lower p j i l))
+
+      turn : (i j : ℕ) → Dec (i < j) → Dec (j < i) → Congruent p (tutte p i j + tutte p j i) 0
+      turn i j (yes l) _ = across i j l
+      turn i j (no _) (yes l) = linear (across j i l) (omega arith)
+      turn i j (no d) (no e) =
+          let same : i ≡ j = omega arith in
+          equals (rw same (omega (arith, tutte-diagonal p j)))
+
+  -- which fault the cell has: 1 not 0 or 1, 2 on the diagonal and not 0, 3 unequal to its mirror; 0 none
+  unfoldable pub fault : ℕ → ℕ → ℕ
+  unfolding decLt ℕ-discrete
+  fault i j =
+      choose (decLt 1 (cell i j)) 1
+      (choose (ℕ-discrete i j) (choose (ℕ-discrete (cell i j) 0) 0 2) (choose (ℕ-discrete (cell i j) (cell j i)) 0 3))
+
+  -- a cell by its index, row by row
+  abbrev pub Faulty : ℕ → Type 0
+  Faulty x = fault (x / g .n) (x % g .n) ≢ 0
+
+  -- a weight outside 1 .. p - 1
+  abbrev pub Outside : ℕ → ℕ → Type 0
+  Outside p x = ¬ ((0 < getD (g .weights) x 0) × (getD (g .weights) x 0 < p))

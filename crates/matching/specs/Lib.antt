@@ -1,0 +1,21 @@
+-- Document 01 in definitions, in its own order.
+pub mod Decision
+pub mod Graph
+pub mod Pairs
+pub mod Model
+pub mod Facts
+pub mod History
+pub mod Session
+pub mod Decided
+pub mod Causes
+pub mod Opening
+pub mod Display
+pub mod Calls
+pub mod Records
+pub mod Listing
+pub mod Host
+pub mod Marked
+pub mod Index
+pub mod Determined
+pub mod Sound
+pub mod Carried

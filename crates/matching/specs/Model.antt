@@ -1,0 +1,124 @@
+-- The plain model (document 01: the plain desk): a list of pairs and nothing else, and what each call makes of it. Assumes nothing.
+use mathlib.Core.Path.{_≡_}
+use mathlib.Core.Logic.{_≢_}
+use mathlib.Core.List.{List, [], _∷_}
+use Prim.Native.Nat.{ℕ, suc, _<_}
+use native.Mathlib.Omega.{arith}
+use native.Mathlib.Decide.{ℕ-discrete, decLt}
+use Rattle.modular.specs.Prime.{OddPrime}
+use Rattle.skew.specs.Subset.{Subset, _∈_}
+use Rattle.skew.specs.Inverse.{Skew, Invertible}
+use Rattle.skew.specs.Decide.{invertible?}
+use Rattle.matching.specs.Decision.{both?, not?, First, nowhere, first-at, first?, when, Cause, Verdict, accepted, refused, judge, Accepted, accepted?}
+use Rattle.matching.specs.Graph.{Graph, cell, tutte, tutte-skew}
+use Rattle.matching.specs.Pairs.{Pair, couple, Pairs, unmatched, in?}
+
+-- hand pick of a and b, automatic pick, take-back
+pub data Call : Type 0 where
+  pick : ℕ → ℕ → Call
+  automatic : Call
+  undo : Call
+
+-- the pair appended or removed, or the cause and the place
+pub data Answer : Type 0 where
+  done : Pair → Answer
+  denied : ℕ → ℕ → Answer
+
+-- the answer, and the pairs afterwards
+pub record Step : Type 0 where
+  pub answer : Answer
+  pub pairs : Pairs
+
+-- the answers of a list of calls, and the pairs after it
+pub record Run : Type 0 where
+  pub answers : List Answer
+  pub pairs : Pairs
+
+-- both below n, and different
+abbrev pub Named : ℕ → ℕ → ℕ → Type 0
+Named n a b = (a < n) × (b < n) × (a ≢ b)
+
+abbrev pub named? : (n a b : ℕ) → Dec (Named n a b)
+named? n a b = all (decLt a n) (decLt b n) (not? (ℕ-discrete a b))
+  where
+    all : Dec (a < n) → Dec (b < n) → Dec (a ≢ b) → Dec (Named n a b)
+    all (yes h) (yes k) (yes d) = yes (h, k, d)
+    all (yes h) (yes k) (no d) = no (λ x. d (x .2))
+    all (yes h) (no k) d = no (λ x. k (x .1))
+    all (no h) k d = no (λ x. h (x .0))
+
+-- cause k where the condition fails, at place 0
+abbrev pub needs : {A : Type 0} → ℕ → Dec A → Cause
+needs k d = record { number = k; finding = when (not? d) 0 }
+
+module _ {p : ℕ} (P : OddPrime p) (g : Graph) (S : Subset) where
+  pub skew : Skew p (g .n) (tutte g p)
+  skew = tutte-skew g (omega (arith, P .prime .above-one)) (g .n)
+
+  -- the Tutte matrix has an inverse on the vertices that the pairs leave
+  abbrev pub Regular : Pairs → Type 0
+  Regular pairs = Invertible p (g .n) (tutte g p) (unmatched S pairs)
+
+  unfoldable pub regular? : (pairs : Pairs) → Dec (Regular pairs)
+  unfolding invertible? tutte unmatched
+  regular? pairs = invertible? P (g .n) (tutte g p) skew (unmatched S pairs)
+
+  -- the two are adjacent
+  abbrev pub Adjacent : Pair → Type 0
+  Adjacent e = cell g (e .smaller) (e .larger) ≡ 1
+
+  -- causes 7 to 10 of a hand pick: not two vertices, one of them matched, not adjacent, no inverse for what is left
+  unfoldable pub pick-verdict : Pairs → ℕ → ℕ → Verdict
+  unfolding regular? couple unmatched decLt ℕ-discrete
+  pick-verdict pairs a b =
+      judge
+      (needs 7 (named? (g .n) a b)
+      ∷ needs 8 (both? (in? (unmatched S pairs) a) (in? (unmatched S pairs) b))
+      ∷ needs 9 (ℕ-discrete (cell g (couple a b .smaller) (couple a b .larger)) 1)
+      ∷ needs 10 (regular? (couple a b ∷ pairs))
+      ∷ [])
+
+  -- the pair is appended where no cause applies
+  abbrev pub append : Pairs → Pair → Verdict → Step
+  append pairs e accepted = record { answer = done e; pairs = e ∷ pairs }
+  append pairs e (refused k x) = record { answer = denied k x; pairs = pairs }
+
+  -- c with the lowest r whose hand pick with c is accepted
+  abbrev pub with-lowest : (pairs : Pairs) (c : ℕ) → First (g .n) (λ r. Accepted (pick-verdict pairs c r)) → Step
+  with-lowest pairs c (first-at r _ _ _) = record { answer = done (couple c r); pairs = couple c r ∷ pairs }
+  with-lowest pairs c (nowhere _) = record { answer = denied 11 0; pairs = pairs }
+
+  -- c is the lowest vertex left; none: cause 11
+  abbrev pub from-lowest : (pairs : Pairs) → First (g .n) (λ c. c ∈ unmatched S pairs) → Step
+  from-lowest pairs (nowhere _) = record { answer = denied 11 0; pairs = pairs }
+  from-lowest pairs (first-at c _ _ _) = with-lowest pairs c (first? _ (g .n) (λ r. accepted? (pick-verdict pairs c r)))
+
+  -- cause 10 where the vertices left afterwards would have no inverse
+  abbrev pub remove-last : Pair → (earlier : Pairs) → Dec (Regular earlier) → Step
+  remove-last e earlier (yes _) = record { answer = done e; pairs = earlier }
+  remove-last e earlier (no _) = record { answer = denied 10 0; pairs = e ∷ earlier }
+
+  unfoldable pub step : Pairs → Call → Step
+  unfolding pick-verdict first? regular?
+  step pairs (pick a b) = append pairs (couple a b) (pick-verdict pairs a b)
+  step pairs automatic = from-lowest pairs (first? _ (g .n) (in? (unmatched S pairs)))
+  step [] undo = record { answer = denied 11 0; pairs = [] }
+  step (e ∷ earlier) undo = remove-last e earlier (regular? earlier)
+
+  -- one call after the other
+  unfoldable pub run : Pairs → List Call → Run
+  unfolding step
+  run pairs [] = record { answers = []; pairs = pairs }
+  run pairs (c ∷ calls) =
+      let s = step pairs c in
+      let r = run (s .pairs) calls in
+      record { answers = s .answer ∷ r .answers; pairs = r .pairs }
+
+  -- r is an open partner of a
+  abbrev pub OpenPartner : Pairs → ℕ → ℕ → Type 0
+  OpenPartner pairs a r = Accepted (pick-verdict pairs a r)
+
+  -- so many automatic picks in a row are accepted before one is refused (picks to come)
+  pub data PicksToCome : Pairs → ℕ → Type 0 where
+    stopped : {pairs : Pairs} {k x : ℕ} → step pairs automatic .answer ≡ denied k x → PicksToCome pairs 0
+    picked : {pairs : Pairs} {m : ℕ} {e : Pair} → step pairs automatic .answer ≡ done e → PicksToCome (step pairs automatic .pairs) m → PicksToCome pairs (suc m)

@@ -1,0 +1,50 @@
+-- Lent buffers and the session over them: well formed, and sound (document 01, "Sheet, matrix, session"). Assumes nothing.
+use mathlib.Core.Path.{_≡_}
+use mathlib.Core.Logic.{_≢_}
+use mathlib.Core.List.{List, [], _∷_, _++_}
+use Prim.Native.Nat.{ℕ, zero, suc, _+_, _*_, _≤_, _<_}
+use lib.ListN.{length, getD, drop}
+use Rattle.skew.specs.Subset.{Subset}
+use Rattle.skew.specs.Inverse.{Matrix, Vector, Inverse}
+use Rattle.matching.specs.Decision.{Every}
+use Rattle.matching.specs.Graph.{Graph, cell, tutte}
+use Rattle.matching.specs.Pairs.{unused, pairs-on, unmatched, everything}
+
+-- n times n words, row by row, as a matrix
+abbrev pub table : ℕ → List ℕ → Matrix
+table n words i j = getD words (i * n + j) 0
+
+abbrev pub vector : List ℕ → Vector
+vector words i = getD words i 0
+
+-- f 0, f 1, .. f (k - 1)
+unfoldable pub list-of : ℕ → (ℕ → ℕ) → List ℕ
+list-of zero f = []
+list-of (suc k) f = f 0 ∷ list-of k (λ x. f (suc x))
+
+-- a buffer whose first words are new and whose excess is as it was
+abbrev pub onto : List ℕ → List ℕ → List ℕ
+onto new old = new ++ drop (length new) old
+
+-- the size and the number of pairs made
+pub record Session : Type 0 where
+  pub size : ℕ
+  pub made : ℕ
+
+-- the first n times n words are the inverse of the Tutte matrix on a set of vertices, each below p (document 01: held)
+pub record Held (p : ℕ) (g : Graph) (L : Subset) (held : List ℕ) : Type 0 where
+  pub small : Every (g .n * g .n) (λ x. getD held x 0 < p)
+  pub inverse : Inverse p (g .n) (tutte g p) L (table (g .n) held)
+
+-- the strip's used bytes are pairs, smaller first, all different, all below n, each adjacent; the rest up to n are unused
+pub record WellFormed (g : Graph) (made : ℕ) (strip : List ℕ) : Type 0 where
+  pub few : made + made ≤ g .n
+  pub ordered : Every made (λ k. getD strip (k + k) 0 < getD strip (k + k + 1) 0)
+  pub below : Every made (λ k. getD strip (k + k + 1) 0 < g .n)
+  pub adjacent : Every made (λ k. cell g (getD strip (k + k) 0) (getD strip (k + k + 1) 0) ≡ 1)
+  pub different : Every (made + made) (λ y. Every y (λ x. getD strip x 0 ≢ getD strip y 0))
+  pub rest : Every (g .n) (λ x. made + made ≤ x → getD strip x 0 ≡ unused)
+
+-- the vertices that a strip leaves (document 01: loose)
+abbrev pub left : List ℕ → ℕ → Subset
+left strip made = unmatched everything (pairs-on strip made)

@@ -1,0 +1,137 @@
+-- What an accepting verdict says: the size, the lengths, the tables and the session are in order; and conversely. Assumes nothing.
+use mathlib.Core.Path.{_≡_, refl}
+use mathlib.Core.Logic.{_↔_}
+use mathlib.Core.List.{List, [], _∷_}
+use Prim.Native.Nat.{ℕ, _*_, _/_, _%_, _≤_, _<_}
+use native.Mathlib.Omega.{arith}
+use native.Mathlib.Decide.{ℕ-discrete, decLt}
+use lib.ListN.{length, getD}
+use Rattle.matching.specs.Decision.{Every, not?, both?, First, nowhere, first-at, first?, Finding, absent, at, when, found, Cause, accepted, judge, unless}
+use Rattle.matching.specs.Graph.{Graph, largest, couples, fault, Faulty, Outside}
+use Rattle.matching.specs.Session.{Held, WellFormed, left}
+use Rattle.matching.specs.Decided.{held?, well-formed?}
+use Rattle.matching.specs.Causes.{Lent, lent-to-opening, opening-causes, lent-to-session, session-causes, too-large, or, first-short, bad-cell, bad-weight, ill-formed, not-held, opening-verdict, session-verdict}
+
+clash : {A : Type 0} {x : ℕ} → at x ≡ absent → A
+clash e = absurd (let z : _≡_ {A = ℕ} 0 1 = cc in omega arith)
+
+-- accepted means that none of the causes applies
+abbrev pub NoneApplies : List Cause → Type 0
+NoneApplies [] = Unit {0}
+NoneApplies (c ∷ later) = (c .finding ≡ absent) × NoneApplies later
+
+pub judge-accepted : (causes : List Cause) → (judge causes ≡ accepted) ↔ NoneApplies causes
+judge-accepted [] = (λ _. tt, λ _. refl)
+judge-accepted (c ∷ later) = (λ e. to (c .finding) refl e (judge-accepted later .0), λ h. rw (h .0) (judge-accepted later .1 (h .1)))
+  where
+    to : (f : Finding) → c .finding ≡ f → unless f (c .number) (judge later) ≡ accepted → (judge later ≡ accepted → NoneApplies later)
+        → (c .finding ≡ absent) × NoneApplies later
+    to absent q e r = (q, r e)
+    to (at x) q e r = absurd (let z : _≡_ {A = ℕ} 0 1 = cc in omega arith)
+
+pub when-absent : {A : Type 0} (d : Dec A) (x : ℕ) → (when d x ≡ absent) ↔ (¬ A)
+when-absent (yes a) x = (λ e. clash e, λ n. absurd (n a))
+when-absent (no n) x = (λ _. n, λ _. refl)
+
+pub unless-absent : {A : Type 0} (d : Dec A) (x : ℕ) → (when (not? d) x ≡ absent) ↔ A
+unless-absent (yes a) x = (λ _. a, λ _. refl)
+unless-absent (no n) x = (λ e. clash e, λ a. absurd (n a))
+
+pub found-absent : {n : ℕ} {P : ℕ → Type 0} (f : First n P) → (found f ≡ absent) ↔ Every n (λ k. ¬ P k)
+found-absent (nowhere h) = (λ _. h, λ _. refl)
+found-absent (first-at x l e h) = (λ q. clash q, λ a. absurd (a x l e))
+
+-- no buffer of the list is too short
+abbrev pub LongEnough : List Lent → Type 0
+LongEnough [] = Unit {0}
+LongEnough (b ∷ later) = (b .needed ≤ b .length) × LongEnough later
+
+pub short-absent : (buffers : List Lent) → (first-short buffers ≡ absent) ↔ LongEnough buffers
+short-absent [] = (λ _. tt, λ _. refl)
+short-absent (b ∷ later) = go (decLt (b .length) (b .needed)) (short-absent later)
+  where
+    go : (d : Dec (b .length < b .needed)) → (first-short later ≡ absent) ↔ LongEnough later
+        → (or (when d (b .number)) (first-short later) ≡ absent) ↔ ((b .needed ≤ b .length) × LongEnough later)
+    go (yes l) r = (λ e. clash e, λ h. absurd (omega (arith, h .0)))
+    go (no l) r = (λ e. (omega arith, r .0 e), λ h. r .1 (h .1))
+
+-- a graph in order: at most 96 vertices, every cell without fault, every weight in range
+pub record InOrder (p : ℕ) (g : Graph) : Type 0 where
+  pub size : g .n ≤ largest
+  pub cells : Every (g .n * g .n) (λ x. fault g (x / g .n) (x % g .n) ≡ 0)
+  pub weights : Every (couples (g .n)) (λ x. (0 < getD (g .weights) x 0) × (getD (g .weights) x 0 < p))
+
+stable : {A : Type 0} → Dec A → ¬ ¬ A → A
+stable (yes a) _ = a
+stable (no n) d = absurd (d n)
+
+size-ok : (n : ℕ) → (too-large n .finding ≡ absent) ↔ (n ≤ largest)
+size-ok n =
+    let r = when-absent (decLt largest n) 0 in
+    (λ e. let h : ¬ (largest < n) = r .0 e in omega arith, λ l. r .1 (λ h. omega arith))
+
+cells-ok : (g : Graph) → (bad-cell g .finding ≡ absent) ↔ Every (g .n * g .n) (λ x. fault g (x / g .n) (x % g .n) ≡ 0)
+unfolding bad-cell
+cells-ok g =
+    let r = found-absent (first? (Faulty g) (g .n * g .n) (λ x. not? (ℕ-discrete (fault g (x / g .n) (x % g .n)) 0))) in
+    (λ e x l. stable (ℕ-discrete (fault g (x / g .n) (x % g .n)) 0) (r .0 e x l), λ h. r .1 (λ x l d. d (h x l)))
+
+in-range? : (p : ℕ) (g : Graph) (x : ℕ) → Dec ((0 < getD (g .weights) x 0) × (getD (g .weights) x 0 < p))
+in-range? p g x = both? (decLt 0 (getD (g .weights) x 0)) (decLt (getD (g .weights) x 0) p)
+
+weights-ok : (p : ℕ) (g : Graph) → (bad-weight p g .finding ≡ absent) ↔ Every (couples (g .n)) (λ x. (0 < getD (g .weights) x 0) × (getD (g .weights) x 0 < p))
+unfolding bad-weight in-range?
+weights-ok p g =
+    let r = found-absent (first? (Outside g p) (couples (g .n)) (λ x. not? (in-range? p g x))) in
+    (λ e x l. stable (in-range? p g x) (r .0 e x l), λ h. r .1 (λ x l d. d (h x l)))
+
+-- opening is not refused exactly when the buffers are long enough and the graph is in order
+pub opening-accepted : (p : ℕ) (g : Graph) (held strip witness work : List ℕ)
+    → (opening-verdict p g held strip witness work ≡ accepted)
+    ↔ (LongEnough (lent-to-opening g held strip witness work) × InOrder p g)
+unfolding opening-verdict
+opening-accepted p g held strip witness work =
+    let r = judge-accepted (opening-causes p g (lent-to-opening g held strip witness work)) in
+    let s = short-absent (lent-to-opening g held strip witness work) in (
+      λ e.
+          let a = r .0 e in (
+            s .0 (a .1 .0),
+            record { size = size-ok (g .n) .0 (a .0); cells = cells-ok g .0 (a .1 .1 .0); weights = weights-ok p g .0 (a .1 .1 .1 .0) },
+          ),
+      λ h. r .1 (size-ok (g .n) .1 (h .1 .size), (s .1 (h .0), (cells-ok g .1 (h .1 .cells), (weights-ok p g .1 (h .1 .weights), tt)))),
+    )
+
+-- a sound session over a graph in order
+pub record Sound (p : ℕ) (g : Graph) (made : ℕ) (held strip : List ℕ) : Type 0 where
+  pub in-order : InOrder p g
+  pub well-formed : WellFormed g made strip
+  pub as-defined : Held p g (left strip made) held
+
+pub session-accepted : (p : ℕ) (g : Graph) (made : ℕ) (held strip : List ℕ) (more : List Lent)
+    → (session-verdict p g made held strip more ≡ accepted)
+    ↔ (LongEnough (lent-to-session g held strip more) × Sound p g made held strip)
+unfolding session-verdict ill-formed not-held
+session-accepted p g made held strip more =
+    let r = judge-accepted (session-causes p g made held strip (lent-to-session g held strip more)) in
+    let s = short-absent (lent-to-session g held strip more) in
+    let w = unless-absent (well-formed? g made strip) 0 in
+    let h = unless-absent (held? p g (left strip made) held) 0 in (
+      λ e.
+          let a = r .0 e in (
+            s .0 (a .1 .0),
+            record {
+              in-order = record { size = size-ok (g .n) .0 (a .0); cells = cells-ok g .0 (a .1 .1 .0); weights = weights-ok p g .0 (a .1 .1 .1 .0) };
+              well-formed = w .0 (a .1 .1 .1 .1 .0);
+              as-defined = h .0 (a .1 .1 .1 .1 .1 .0);
+            },
+          ),
+      λ c.
+          let o = c .1 .in-order in
+          r .1 (
+            size-ok (g .n) .1 (o .size),
+            (
+              s .1 (c .0),
+              (cells-ok g .1 (o .cells), (weights-ok p g .1 (o .weights), (w .1 (c .1 .well-formed), (h .1 (c .1 .as-defined), tt)))),
+            ),
+          ),
+    )
