@@ -19,7 +19,7 @@ use Rattle.matching.specs.Graph.{Graph, tutte}
 use Rattle.matching.specs.Pairs.{everything}
 use Rattle.matching.specs.Model.{skew}
 use Rattle.matching.specs.Session.{Held, table, vector, list-of}
-use Rattle.matching.specs.Opening.{Opening, opened, dependent, not-opened, Buffers, Singular, verdict, with-inverse, with-witness, Opens, refuses, opens, depends}
+use Rattle.matching.specs.Opening.{Opening, opened, dependent, not-opened, Buffers, Singular, verdict, with-inverse, with-witness, Opens, refuses-opening, opens, depends}
 
 pub length-list-of : (k : ℕ) (f : ℕ → ℕ) → length (list-of k f) ≡ k
 unfolding list-of
@@ -120,21 +120,21 @@ module _ {p : ℕ} (P : OddPrime p) (g : Graph) where
   opens-some b = go (verdict p g b) refl (eliminate P (g .n) (tutte g p) (skew P g everything) everything)
     where
       go : (v : Verdict) → verdict p g b ≡ v → Outcome p (g .n) (tutte g p) everything → (o : Opening) × (after : Buffers) × Opens p g b o after
-      go (refused k x) e _ = (not-opened k x, b, refuses k x e)
+      go (refused k x) e _ = (not-opened k x, b, refuses-opening k x e)
       go accepted e (inverse T I) = let h = held-of I in (opened, with-inverse (g .n) (h .0) b, opens (h .0) e (h .1) (h .2))
       go accepted e (column f w F W) =
           let s = singular-of F W in (dependent f, with-witness (g .n) (s .0) b, depends f (s .0) e (s .1) (s .2))
 
   -- and no other
   pub opens-unique : {b : Buffers} {o o′ : Opening} {a a′ : Buffers} → Opens p g b o a → Opens p g b o′ a′ → (o ≡ o′) × (a ≡ a′)
-  opens-unique (refuses k x e) (refuses k′ x′ e′) = (cc, refl)
-  opens-unique (refuses k x e) (opens held e′ l h) = absurd (let z : _≡_ {A = ℕ} 0 1 = cc in omega arith)
-  opens-unique (refuses k x e) (depends f w e′ l s) = absurd (let z : _≡_ {A = ℕ} 0 1 = cc in omega arith)
-  opens-unique (opens held e l h) (refuses k x e′) = absurd (let z : _≡_ {A = ℕ} 0 1 = cc in omega arith)
+  opens-unique (refuses-opening k x e) (refuses-opening k′ x′ e′) = (cc, refl)
+  opens-unique (refuses-opening k x e) (opens held e′ l h) = absurd (let z : _≡_ {A = ℕ} 0 1 = cc in omega arith)
+  opens-unique (refuses-opening k x e) (depends f w e′ l s) = absurd (let z : _≡_ {A = ℕ} 0 1 = cc in omega arith)
+  opens-unique (opens held e l h) (refuses-opening k x e′) = absurd (let z : _≡_ {A = ℕ} 0 1 = cc in omega arith)
   opens-unique {b} (opens held e l h) (opens held′ e′ l′ h′) = (refl, ap (λ words. with-inverse (g .n) words b) (held-unique l l′ h h′))
   opens-unique (opens held e l h) (depends f w e′ l′ s) =
       absurd (witness-singular P (g .n) (tutte g p) (skew P g everything) everything (s .kernel) (_, h .inverse))
-  opens-unique (depends f w e l s) (refuses k x e′) = absurd (let z : _≡_ {A = ℕ} 0 1 = cc in omega arith)
+  opens-unique (depends f w e l s) (refuses-opening k x e′) = absurd (let z : _≡_ {A = ℕ} 0 1 = cc in omega arith)
   opens-unique (depends f w e l s) (opens held e′ l′ h) =
       absurd (witness-singular P (g .n) (tutte g p) (skew P g everything) everything (s .kernel) (_, h .inverse))
   opens-unique {b} (depends f w e l s) (depends f′ w′ e′ l′ s′) =

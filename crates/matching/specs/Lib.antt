@@ -1,21 +1,27 @@
--- Document 01 in definitions, in its own order.
-pub mod Decision
+-- Document 01 in definitions, in its own order: the graph and its matrix, pairs, the session, opening and its display, the plain
+-- model, the session calls, records, causes, the listing, the host's number.
 pub mod Graph
 pub mod Pairs
-pub mod Model
-pub mod Facts
-pub mod History
 pub mod Session
-pub mod Decided
-pub mod Causes
 pub mod Opening
 pub mod Display
+pub mod Model
 pub mod Calls
 pub mod Records
+pub mod Causes
 pub mod Listing
 pub mod Host
-pub mod Marked
+-- Decisions that the definitions go by.
+pub mod Decision
+pub mod Decided
+-- What is proved of the definitions.
 pub mod Index
-pub mod Determined
+pub mod Facts
+pub mod History
 pub mod Sound
+pub mod Determined
 pub mod Carried
+-- Examples.
+pub mod Claims
+pub mod Marked
+pub mod Worked

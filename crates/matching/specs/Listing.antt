@@ -93,7 +93,7 @@ refused-line k x = refused ++ decimal k ++ at ++ decimal x ++ line-feed
 
 -- what is printed for an input: the refusal, or automatic picks to the end, or the witness
 pub data Lists (input : List ℕ) : List ℕ → Type 0 where
-  refuses : (k x : ℕ) → read (take input-limit input) ≡ unread k x → Lists input (refused-line k x)
+  refuses-sheet : (k x : ℕ) → read (take input-limit input) ≡ unread k x → Lists input (refused-line k x)
   pairs-up : (n s : ℕ) (edges : List Pair) (m : ℕ) → read (take input-limit input) ≡ sheet n s edges
       → Regular prime-65521 (graph n s edges) everything []
       → PicksToCome prime-65521 (graph n s edges) everything [] m

@@ -51,7 +51,7 @@ verdict p g b = opening-verdict p g (b .held) (b .strip) (b .witness) (b .work)
 
 -- the answer and the buffers that opening leaves
 pub data Opens (p : ℕ) (g : Graph) (b : Buffers) : Opening → Buffers → Type 0 where
-  refuses : (k x : ℕ) → verdict p g b ≡ refused k x → Opens p g b (not-opened k x) b
+  refuses-opening : (k x : ℕ) → verdict p g b ≡ refused k x → Opens p g b (not-opened k x) b
   opens : (held : List ℕ) → verdict p g b ≡ accepted → length held ≡ g .n * g .n → Held p g everything held
       → Opens p g b opened (with-inverse (g .n) held b)
   depends : (f : ℕ) (witness : List ℕ) → verdict p g b ≡ accepted → length witness ≡ g .n → Singular p g f witness

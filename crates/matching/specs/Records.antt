@@ -107,7 +107,7 @@ pub data Read : Type 0 where
 
 -- the answer, and the adjacency table and the weights afterwards; 2 is looked at when the whole sheet has been read
 pub data Reads (bytes : List ℕ) (adjacency weights : List ℕ) : Read → List ℕ → List ℕ → Type 0 where
-  refuses : (k x : ℕ) → read bytes ≡ unread k x → Reads bytes adjacency weights (not-read k x) adjacency weights
+  refuses-records : (k x : ℕ) → read bytes ≡ unread k x → Reads bytes adjacency weights (not-read k x) adjacency weights
   lacks : (n s : ℕ) (edges : List Pair) (k x : ℕ) → read bytes ≡ sheet n s edges
       → judge (too-short (adjacency-of (record { n = n; adjacency = adjacency; weights = weights }) ∷ weights-of (record { n = n; adjacency = adjacency; weights = weights }) ∷ []) ∷ []) ≡ refused k x
       → Reads bytes adjacency weights (not-read k x) adjacency weights
