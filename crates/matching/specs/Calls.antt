@@ -1,4 +1,4 @@
--- The session calls over lent buffers: the session must be sound, then the plain model decides on the pairs that the strip holds.
+-- The session calls over lent buffers: the session must be sound, then the plain model decides on the pairs made.
 -- Assumes nothing.
 use mathlib.Core.Path.{_≡_}
 use mathlib.Core.List.{List, [], _∷_}
@@ -8,48 +8,48 @@ use lib.ListN.{length}
 use Rattle.modular.specs.Prime.{OddPrime}
 use Rattle.matching.specs.Decision.{Verdict, accepted, refused, judge}
 use Rattle.matching.specs.Graph.{Graph}
-use Rattle.matching.specs.Pairs.{Pair, Pairs, everything, unmatched, in?, pairs-on, strip}
-use Rattle.matching.specs.Session.{Session, Held, list-of, onto, left}
+use Rattle.matching.specs.Pairs.{Pair, Pairs, everything, unmatched, in?, pairs-on, order}
+use Rattle.matching.specs.Session.{Session, InverseTable, list-of, onto, left}
 use Rattle.matching.specs.Causes.{session-verdict, row-of}
 use Rattle.matching.specs.Model.{Call, Answer, done, denied, needs, pick-verdict, step}
 
--- what a call is handed and may write: the session, held and strip
+-- what a call is handed and may write: the session, the inverse (held) and the order of matching (strip)
 pub record State : Type 0 where
   pub session : Session
-  pub held : List ℕ
-  pub strip : List ℕ
+  pub inverse : List ℕ
+  pub order : List ℕ
 
 -- the graph as the session's size reads the two tables
 abbrev pub graph-of : State → List ℕ → List ℕ → Graph
 graph-of s adjacency weights = record { n = s .session .size; adjacency = adjacency; weights = weights }
 
--- the pairs on the strip
+-- the pairs made
 abbrev pub pairs-of : State → Pairs
-pairs-of s = pairs-on (s .strip) (s .session .made)
+pairs-of s = pairs-on (s .order) (s .session .made)
 
 abbrev pub sound : ℕ → List ℕ → List ℕ → State → Verdict
-sound p adjacency weights s = session-verdict p (graph-of s adjacency weights) (s .session .made) (s .held) (s .strip) []
+sound p adjacency weights s = session-verdict p (graph-of s adjacency weights) (s .session .made) (s .inverse) (s .order) []
 
--- the state that an accepted call leaves: these pairs on the strip and these words in held, the excess as it was
+-- the state that an accepted call leaves: these pairs, and these words as the inverse; the excess is as it was
 abbrev pub with-pairs : Pairs → List ℕ → State → State
-with-pairs pairs held s = record {
+with-pairs pairs inverse s = record {
   session = record { size = s .session .size; made = length pairs };
-  held = onto held (s .held);
-  strip = onto (strip (s .session .size) pairs) (s .strip);
+  inverse = onto inverse (s .inverse);
+  order = onto (order (s .session .size) pairs) (s .order);
 }
 
 -- hand pick, automatic pick and take-back: the answer, and the state handed back. A refused call changes nothing; an accepted one
--- leaves the model's pairs on the strip and the inverse for the vertices then left in held
+-- leaves the model's pairs and the inverse for the vertices then left
 module _ {p : ℕ} (P : OddPrime p) (adjacency weights : List ℕ) where
   pub data Handles (s : State) (c : Call) : Answer → State → Type 0 where
     unsound : (k x : ℕ) → sound p adjacency weights s ≡ refused k x → Handles s c (denied k x) s
     refuses : (k x : ℕ) → sound p adjacency weights s ≡ accepted
         → step P (graph-of s adjacency weights) everything (pairs-of s) c .answer ≡ denied k x → Handles s c (denied k x) s
-    carries : (e : Pair) (pairs : Pairs) (held : List ℕ) → sound p adjacency weights s ≡ accepted
+    carries : (e : Pair) (pairs : Pairs) (inverse : List ℕ) → sound p adjacency weights s ≡ accepted
         → step P (graph-of s adjacency weights) everything (pairs-of s) c ≡ record { answer = done e; pairs = pairs }
-        → length held ≡ s .session .size * s .session .size
-        → Held p (graph-of s adjacency weights) (unmatched everything pairs) held
-        → Handles s c (done e) (with-pairs pairs held s)
+        → length inverse ≡ s .session .size * s .session .size
+        → InverseTable p (graph-of s adjacency weights) (unmatched everything pairs) inverse
+        → Handles s c (done e) (with-pairs pairs inverse s)
 
   -- 1 where a pick of a and b would be accepted, else 0
   abbrev pub bit-of : Verdict → ℕ
@@ -66,8 +66,8 @@ module _ {p : ℕ} (P : OddPrime p) (adjacency weights : List ℕ) where
   unfoldable pub row-verdict : State → ℕ → List ℕ → Verdict
   unfolding session-verdict decLt
   row-verdict s a row =
-      after (session-verdict p (graph-of s adjacency weights) (s .session .made) (s .held) (s .strip) (row-of (s .session .size) row ∷ []))
-      (judge (needs 7 (decLt a (s .session .size)) ∷ needs 8 (in? (left (s .strip) (s .session .made)) a) ∷ []))
+      after (session-verdict p (graph-of s adjacency weights) (s .session .made) (s .inverse) (s .order) (row-of (s .session .size) row ∷ []))
+      (judge (needs 7 (decLt a (s .session .size)) ∷ needs 8 (in? (left (s .order) (s .session .made)) a) ∷ []))
     where
       after : Verdict → Verdict → Verdict
       after accepted v = v

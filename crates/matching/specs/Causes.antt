@@ -7,7 +7,7 @@ use lib.ListN.{length, getD}
 use Rattle.matching.specs.Decision.{both?, not?, Finding, absent, at, when, found, first?, Cause, Verdict, judge}
 use Rattle.matching.specs.Graph.{Graph, largest, couples, fault, Faulty, Outside}
 use Rattle.matching.specs.Session.{left}
-use Rattle.matching.specs.Decided.{held?, well-formed?}
+use Rattle.matching.specs.Decided.{inverse-table?, well-formed?}
 
 -- a lent buffer: its number in the table, how long it is, and how much of it the call needs
 pub record Lent : Type 0 where
@@ -21,12 +21,12 @@ adjacency-of g = record { number = 1; length = length (g .adjacency); needed = g
 abbrev pub weights-of : Graph → Lent
 weights-of g = record { number = 2; length = length (g .weights); needed = couples (g .n) }
 
--- numbers 3 held, 4 strip, 5 witness, 6 work, 7 row
-abbrev pub held-of : ℕ → List ℕ → Lent
-held-of n held = record { number = 3; length = length held; needed = n * n }
+-- numbers 3 inverse (held), 4 order (strip), 5 witness, 6 work, 7 row
+abbrev pub inverse-of : ℕ → List ℕ → Lent
+inverse-of n inverse = record { number = 3; length = length inverse; needed = n * n }
 
-abbrev pub strip-of : ℕ → List ℕ → Lent
-strip-of n strip = record { number = 4; length = length strip; needed = n }
+abbrev pub order-of : ℕ → List ℕ → Lent
+order-of n order = record { number = 4; length = length order; needed = n }
 
 abbrev pub witness-of : ℕ → List ℕ → Lent
 witness-of n witness = record { number = 5; length = length witness; needed = n }
@@ -70,20 +70,20 @@ bad-weight p g = record {
 -- 5: the session not well formed
 unfoldable pub ill-formed : Graph → ℕ → List ℕ → Cause
 unfolding well-formed?
-ill-formed g made strip = record { number = 5; finding = when (not? (well-formed? g made strip)) 0 }
+ill-formed g made order = record { number = 5; finding = when (not? (well-formed? g made order)) 0 }
 
--- 6: held not as defined, or no inverse for the vertices left
-unfoldable pub not-held : ℕ → Graph → ℕ → List ℕ → List ℕ → Cause
-unfolding held?
-not-held p g made strip held = record { number = 6; finding = when (not? (held? p g (left strip made) held)) 0 }
+-- 6: the inverse (held) not as defined, or no inverse for the vertices left
+unfoldable pub not-inverse : ℕ → Graph → ℕ → List ℕ → List ℕ → Cause
+unfolding inverse-table?
+not-inverse p g made order inverse = record { number = 6; finding = when (not? (inverse-table? p g (left order made) inverse)) 0 }
 
 -- what opening is lent, and what it looks at: 1 to 4
-abbrev pub lent-to-opening : Graph → (held strip witness work : List ℕ) → List Lent
-lent-to-opening g held strip witness work =
+abbrev pub lent-to-opening : Graph → (inverse order witness work : List ℕ) → List Lent
+lent-to-opening g inverse order witness work =
     adjacency-of g
     ∷ weights-of g
-    ∷ held-of (g .n) held
-    ∷ strip-of (g .n) strip
+    ∷ inverse-of (g .n) inverse
+    ∷ order-of (g .n) order
     ∷ witness-of (g .n) witness
     ∷ work-of (g .n) work
     ∷ []
@@ -91,25 +91,25 @@ lent-to-opening g held strip witness work =
 abbrev pub opening-causes : ℕ → Graph → List Lent → List Cause
 opening-causes p g buffers = too-large (g .n) ∷ too-short buffers ∷ bad-cell g ∷ bad-weight p g ∷ []
 
-unfoldable pub opening-verdict : ℕ → Graph → (held strip witness work : List ℕ) → Verdict
+unfoldable pub opening-verdict : ℕ → Graph → (inverse order witness work : List ℕ) → Verdict
 unfolding bad-cell bad-weight
-opening-verdict p g held strip witness work = judge (opening-causes p g (lent-to-opening g held strip witness work))
+opening-verdict p g inverse order witness work = judge (opening-causes p g (lent-to-opening g inverse order witness work))
 
 -- what every session call is lent, and what it looks at first: 1 to 6, whether the session is sound
-abbrev pub lent-to-session : Graph → (held strip : List ℕ) → List Lent → List Lent
-lent-to-session g held strip more = adjacency-of g ∷ weights-of g ∷ held-of (g .n) held ∷ strip-of (g .n) strip ∷ more
+abbrev pub lent-to-session : Graph → (inverse order : List ℕ) → List Lent → List Lent
+lent-to-session g inverse order more = adjacency-of g ∷ weights-of g ∷ inverse-of (g .n) inverse ∷ order-of (g .n) order ∷ more
 
-abbrev pub session-causes : ℕ → Graph → ℕ → (held strip : List ℕ) → List Lent → List Cause
-session-causes p g made held strip buffers =
+abbrev pub session-causes : ℕ → Graph → ℕ → (inverse order : List ℕ) → List Lent → List Cause
+session-causes p g made inverse order buffers =
     too-large (g .n)
     ∷ too-short buffers
     ∷ bad-cell g
     ∷ bad-weight p g
-    ∷ ill-formed g made strip
-    ∷ not-held p g made strip held
+    ∷ ill-formed g made order
+    ∷ not-inverse p g made order inverse
     ∷ []
 
-unfoldable pub session-verdict : ℕ → Graph → ℕ → (held strip : List ℕ) → List Lent → Verdict
-unfolding bad-cell bad-weight ill-formed not-held
-session-verdict p g made held strip more =
-    judge (session-causes p g made held strip (lent-to-session g held strip more))
+unfoldable pub session-verdict : ℕ → Graph → ℕ → (inverse order : List ℕ) → List Lent → Verdict
+unfolding bad-cell bad-weight ill-formed not-inverse
+session-verdict p g made inverse order more =
+    judge (session-causes p g made inverse order (lent-to-session g inverse order more))

@@ -1,23 +1,21 @@
 -- What an example says, and that a claim over a list of examples is proved by computing. Assumes nothing.
 use mathlib.Core.Path.{_≡_, refl, subst}
 use mathlib.Core.List.{List, [], _∷_, _++_}
-use Prim.Native.Nat.{ℕ, _+_, _*_, _<_}
+use Prim.Native.Nat.{ℕ, _*_, _<_}
 use native.Mathlib.Decide.{decLt}
 use lib.ListN.{length, getD, take, replicate}
 use Rattle.modular.specs.Primes.{prime-65521}
 use Rattle.skew.specs.Decide.{first-dependent?}
-use Rattle.skew.specs.Subset.{count}
 use Rattle.matching.specs.Decision.{every?, accepted, refused}
 use Rattle.matching.specs.Graph.{Graph, couples, tutte}
 use Rattle.matching.specs.Pairs.{Pair, everything, unmatched}
-use Rattle.matching.specs.Model.{Call, automatic, Answer, denied, skew, regular?, step, run}
-use Rattle.matching.specs.Session.{Held, vector}
-use Rattle.matching.specs.Decided.{held?, witness?}
+use Rattle.matching.specs.Model.{Call, automatic, Answer, denied, skew, regular?, step, run, PicksToCome}
+use Rattle.matching.specs.Session.{InverseTable, vector}
+use Rattle.matching.specs.Decided.{inverse-table?, witness?}
 use Rattle.matching.specs.Opening.{opened, dependent, not-opened, Buffers, Opens, opens, refuses-opening, depends, with-inverse, with-witness, verdict}
 use Rattle.matching.specs.Calls.{State, sound, graph-of, pairs-of, Handles, unsound, refuses}
 use Rattle.matching.specs.Records.{Reading, sheet, unread, read, cells, graph}
 use Rattle.matching.specs.Listing.{input-limit, first-line, pair-lines, verdict-full, refused-line, Lists, refuses-sheet, pairs-up}
-use Rattle.matching.specs.Facts.{picks-to-come}
 
 -- n vertices with these edges and weights
 abbrev pub linked : ℕ → List Pair → List ℕ → Graph
@@ -33,12 +31,12 @@ ones n = replicate (couples n) 1
 -- what an example says
 pub data Claim : Type 0 where
   -- opening gives this inverse
-  inverse : Graph → List ℕ → Claim
+  opening : Graph → List ℕ → Claim
   -- opening gives this witness, with its column
   witness : Graph → ℕ → List ℕ → Claim
   -- calls on the opened session give these answers
   answers : Graph → List Call → List Answer → Claim
-  -- after the calls held is this
+  -- after the calls inverse is this
   afterwards : Graph → List Call → List ℕ → Claim
   -- this session is sound, and the call on it is refused
   by-hand : State → List ℕ → List ℕ → Call → ℕ → Claim
@@ -56,18 +54,18 @@ pub data Claim : Type 0 where
 -- buffers of just the length that is needed, full of something else
 abbrev pub before : ℕ → Buffers
 before n =
-    record { held = replicate (n * n) 9; strip = replicate n 9; witness = replicate n 9; work = replicate (n * n) 9 }
+    record { inverse = replicate (n * n) 9; order = replicate n 9; witness = replicate n 9; work = replicate (n * n) 9 }
 
 -- the same after an opening
 abbrev pub full : ℕ → List ℕ → List ℕ → Buffers
-full n held words = record { held = held; strip = replicate n 255; witness = words; work = replicate (n * n) 0 }
+full n inverse words = record { inverse = inverse; order = replicate n 255; witness = words; work = replicate (n * n) 0 }
 
 unfoldable pub Holds : Claim → Type 0
-Holds (inverse g held) = Opens 65521 g (before (g .n)) opened (full (g .n) held (replicate (g .n) 0))
+Holds (opening g inverse) = Opens 65521 g (before (g .n)) opened (full (g .n) inverse (replicate (g .n) 0))
 Holds (witness g f words) =
     Opens 65521 g (before (g .n)) (dependent f) (full (g .n) (replicate (g .n * g .n) 0) words)
 Holds (answers g calls given) = run prime-65521 g everything [] calls .answers ≡ given
-Holds (afterwards g calls held) = Held 65521 g (unmatched everything (run prime-65521 g everything [] calls .pairs)) held
+Holds (afterwards g calls inverse) = InverseTable 65521 g (unmatched everything (run prime-65521 g everything [] calls .pairs)) inverse
 Holds (by-hand s adjacency weights c k) = Handles prime-65521 adjacency weights s c (denied k 0) s
 Holds (not-opening g b k x) = Opens 65521 g b (not-opened k x) b
 Holds (spoiled s adjacency weights c k x) = Handles prime-65521 adjacency weights s c (denied k x) s
@@ -106,7 +104,7 @@ unfoldable pub Listed : Reading → List ℕ → ℕ → Type 0
 Listed (unread k x) text m = ⊥
 Listed (sheet n s edges) text m =
     IsYes (regular? prime-65521 (graph n s edges) everything [])
-    × (count n everything ≡ m + m)
+    × PicksToCome prime-65521 (graph n s edges) everything [] m
     × (first-line n (length edges) ++ pair-lines (run prime-65521 (graph n s edges) everything [] (replicate m automatic) .pairs) ++ verdict-full ≡ text)
 
 listed : (input text : List ℕ) (m : ℕ) (r : Reading) → read (take input-limit input) ≡ r → Listed r text m → Lists input text
@@ -114,15 +112,15 @@ unfolding Listed unmatched graph
 listed input text m (unread k x) q e = absurd e
 listed input text m (sheet n s edges) q e =
     let I = decided (regular? prime-65521 (graph n s edges) everything []) (e .0) in
-    subst (λ (t : List ℕ). Lists input t) (e .2) (pairs-up n s edges m q I (picks-to-come prime-65521 (graph n s edges) everything m [] I (e .1)))
+    subst (λ (t : List ℕ). Lists input t) (e .2) (pairs-up n s edges m q I (e .1))
 
 -- what computing shows of each kind of claim, and that it is enough
 unfoldable pub Shown : Claim → Type 0
-Shown (inverse g held) =
+Shown (opening g inverse) =
     (verdict 65521 g (before (g .n)) ≡ accepted)
-    × (length held ≡ g .n * g .n)
-    × (with-inverse (g .n) held (before (g .n)) ≡ full (g .n) held (replicate (g .n) 0))
-    × IsYes (held? 65521 g everything held)
+    × (length inverse ≡ g .n * g .n)
+    × (with-inverse (g .n) inverse (before (g .n)) ≡ full (g .n) inverse (replicate (g .n) 0))
+    × IsYes (inverse-table? 65521 g everything inverse)
 Shown (witness g f words) =
     (verdict 65521 g (before (g .n)) ≡ accepted)
     × (length words ≡ g .n)
@@ -131,7 +129,7 @@ Shown (witness g f words) =
     × IsYes (first-dependent? prime-65521 (g .n) (tutte g 65521) (skew prime-65521 g everything) everything f)
     × IsYes (witness? 65521 (g .n) (tutte g 65521) everything f (vector words))
 Shown (answers g calls given) = run prime-65521 g everything [] calls .answers ≡ given
-Shown (afterwards g calls held) = IsYes (held? 65521 g (unmatched everything (run prime-65521 g everything [] calls .pairs)) held)
+Shown (afterwards g calls inverse) = IsYes (inverse-table? 65521 g (unmatched everything (run prime-65521 g everything [] calls .pairs)) inverse)
 Shown (by-hand s adjacency weights c k) =
     (sound 65521 adjacency weights s ≡ accepted)
     × (step prime-65521 (graph-of s adjacency weights) everything (pairs-of s) c .answer ≡ denied k 0)
@@ -143,9 +141,9 @@ Shown (lists-refusal input text k x) = (read (take input-limit input) ≡ unread
 
 enough : (c : Claim) → Shown c → Holds c
 unfolding Shown Holds
-enough (inverse g held) e =
+enough (opening g inverse) e =
     subst (λ (b : Buffers). Opens 65521 g (before (g .n)) opened b) (e .2)
-    (opens held (e .0) (e .1) (decided (held? 65521 g everything held) (e .3)))
+    (opens inverse (e .0) (e .1) (decided (inverse-table? 65521 g everything inverse) (e .3)))
 enough (witness g f words) e =
     subst (λ (b : Buffers). Opens 65521 g (before (g .n)) (dependent f) b) (e .2)
     (depends f words (e .0) (e .1) (record {
@@ -154,7 +152,7 @@ enough (witness g f words) e =
       kernel = decided (witness? 65521 (g .n) (tutte g 65521) everything f (vector words)) (e .5);
     }))
 enough (answers g calls given) e = e
-enough (afterwards g calls held) e = decided (held? 65521 g _ held) e
+enough (afterwards g calls inverse) e = decided (inverse-table? 65521 g _ inverse) e
 enough (by-hand s adjacency weights c k) e = refuses k 0 (e .0) (e .1)
 enough (not-opening g b k x) e = refuses-opening k x e
 enough (spoiled s adjacency weights c k x) e = unsound k x e

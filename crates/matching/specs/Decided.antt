@@ -1,4 +1,4 @@
--- Whether a buffer holds the inverse, and whether a strip is well formed, are decided. Assumes nothing.
+-- Whether a buffer holds the inverse, and whether a order is well formed, are decided. Assumes nothing.
 use mathlib.Core.Path.{_≡_}
 use mathlib.Core.Logic.{_≢_}
 use mathlib.Core.List.{List}
@@ -14,7 +14,7 @@ use Rattle.skew.specs.Column.{Witness}
 use Rattle.matching.specs.Decision.{Every, both?, not?, implies?, map?, every?}
 use Rattle.matching.specs.Graph.{Graph, cell, tutte}
 use Rattle.matching.specs.Pairs.{in?, out?, unused}
-use Rattle.matching.specs.Session.{table, Held, WellFormed}
+use Rattle.matching.specs.Session.{table, InverseTable, WellFormed}
 
 unfoldable pub inverse? : (p n : ℕ) (A : Matrix) (L : Subset) (T : Matrix) → Dec (Inverse p n A L T)
 unfolding every? congruent? apply sum ℕ-discrete
@@ -61,18 +61,18 @@ inverse? p n A L T = map? to from (both? rows? (both? columns? (both? one? off?)
     from I =
         (λ i hi j hj. I .rows i j hi hj, (λ i hi j hj. I .columns i j hi hj, (I .one, λ i hi j hj. I .off i j hi hj)))
 
-unfoldable pub held? : (p : ℕ) (g : Graph) (L : Subset) (held : List ℕ) → Dec (Held p g L held)
+unfoldable pub inverse-table? : (p : ℕ) (g : Graph) (L : Subset) (inverse : List ℕ) → Dec (InverseTable p g L inverse)
 unfolding every? inverse? decLt
-held? p g L held =
-    map? (λ h. record { small = h .0; inverse = h .1 }) (λ h. (h .small, h .inverse))
-    (both? (every? _ (g .n * g .n) (λ x. decLt (getD held x 0) p)) (inverse? p (g .n) (tutte g p) L (table (g .n) held)))
+inverse-table? p g L inverse =
+    map? (λ h. record { small = h .0; is-inverse = h .1 }) (λ h. (h .small, h .is-inverse))
+    (both? (every? _ (g .n * g .n) (λ x. decLt (getD inverse x 0) p)) (inverse? p (g .n) (tutte g p) L (table (g .n) inverse)))
 
-unfoldable pub well-formed? : (g : Graph) (made : ℕ) (strip : List ℕ) → Dec (WellFormed g made strip)
+unfoldable pub well-formed? : (g : Graph) (made : ℕ) (order : List ℕ) → Dec (WellFormed g made order)
 unfolding every? decLe decLt ℕ-discrete
-well-formed? g made strip = map? to from (both? few? (both? ordered? (both? below? (both? adjacent? (both? different? rest?)))))
+well-formed? g made order = map? to from (both? few? (both? ordered? (both? below? (both? adjacent? (both? different? rest?)))))
   where
     at : ℕ → ℕ
-    at x = getD strip x 0
+    at x = getD order x 0
 
     few? : Dec (made + made ≤ g .n)
     few? = decLe (made + made) (g .n)
@@ -100,7 +100,7 @@ well-formed? g made strip = map? to from (both? few? (both? ordered? (both? belo
         × (Every made (λ k. cell g (at (k + k)) (at (k + k + 1)) ≡ 1)
         × (Every (made + made) (λ y. Every y (λ x. at x ≢ at y)) × Every (g .n) (λ x. made + made ≤ x → at x ≡ unused)))))
 
-    to : Parts → WellFormed g made strip
+    to : Parts → WellFormed g made order
     to h = record {
       few = h .0;
       ordered = h .1 .0;
@@ -110,7 +110,7 @@ well-formed? g made strip = map? to from (both? few? (both? ordered? (both? belo
       rest = h .1 .1 .1 .1 .1;
     }
 
-    from : WellFormed g made strip → Parts
+    from : WellFormed g made order → Parts
     from w = (w .few, (w .ordered, (w .below, (w .adjacent, (w .different, w .rest)))))
 
 unfoldable pub witness? : (p n : ℕ) (A : Matrix) (L : Subset) (f : ℕ) (w : Vector) → Dec (Witness p n A L f w)

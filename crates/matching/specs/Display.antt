@@ -1,4 +1,4 @@
--- Which part of the held or the witness buffer shows an opening's answer. Assumes nothing.
+-- Which part of the inverse or the witness buffer shows an opening's answer. Assumes nothing.
 use mathlib.Core.Logic.{_≢_}
 use mathlib.Core.List.{List}
 use Prim.Native.Nat.{ℕ, _*_}
@@ -10,23 +10,23 @@ use Rattle.matching.specs.Graph.{largest}
 
 -- so many words from the start of one of the two buffers
 pub data Part : Type 0 where
-  of-held : ℕ → Part
+  of-inverse : ℕ → Part
   of-witness : ℕ → Part
 
--- the witness where a word of it is not 0, else the held table
+-- the witness where a word of it is not 0, else the inverse table
 abbrev pub part : ℕ → Finding → Part
 part n (at _) = of-witness n
-part n absent = of-held (n * n)
+part n absent = of-inverse (n * n)
 
 -- the empty part for a size above 96 or a short buffer
 unfoldable pub display : ℕ → List ℕ → List ℕ → Part
 unfolding decLt ℕ-discrete first?
-display n held witness =
-    choose (decLt largest n) (of-held 0)
-    (choose (decLt (length held) (n * n)) (of-held 0)
-    (choose (decLt (length witness) n) (of-held 0)
+display n inverse witness =
+    choose (decLt largest n) (of-inverse 0)
+    (choose (decLt (length inverse) (n * n)) (of-inverse 0)
+    (choose (decLt (length witness) n) (of-inverse 0)
     (part n (found (first? (λ x. getD witness x 0 ≢ 0) n (λ x. not? (ℕ-discrete (getD witness x 0) 0)))))))
 
 abbrev pub words-of : Part → List ℕ → List ℕ → List ℕ
-words-of (of-held k) held witness = take k held
-words-of (of-witness k) held witness = take k witness
+words-of (of-inverse k) inverse witness = take k inverse
+words-of (of-witness k) inverse witness = take k witness

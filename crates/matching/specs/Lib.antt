@@ -14,13 +14,6 @@ pub mod Host
 -- Decisions that the definitions go by.
 pub mod Decision
 pub mod Decided
--- What is proved of the definitions.
-pub mod Index
-pub mod Facts
-pub mod History
-pub mod Sound
-pub mod Determined
-pub mod Carried
 -- Examples.
 pub mod Claims
 pub mod Marked

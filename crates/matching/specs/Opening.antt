@@ -7,7 +7,7 @@ use Rattle.skew.specs.Column.{FirstDependent, Witness}
 use Rattle.matching.specs.Decision.{Every, Verdict, accepted, refused}
 use Rattle.matching.specs.Graph.{Graph, tutte}
 use Rattle.matching.specs.Pairs.{everything, unused}
-use Rattle.matching.specs.Session.{Held, vector, onto}
+use Rattle.matching.specs.Session.{InverseTable, vector, onto}
 use Rattle.matching.specs.Causes.{opening-verdict}
 
 -- "opened", with a session of no pairs; "witness", with the first dependent column f; or the cause and its place
@@ -18,8 +18,8 @@ pub data Opening : Type 0 where
 
 -- the buffers that opening may write
 pub record Buffers : Type 0 where
-  pub held : List ℕ
-  pub strip : List ℕ
+  pub inverse : List ℕ
+  pub order : List ℕ
   pub witness : List ℕ
   pub work : List ℕ
 
@@ -31,28 +31,28 @@ pub record Singular (p : ℕ) (g : Graph) (f : ℕ) (witness : List ℕ) : Type 
 
 -- the buffers that an opening with the inverse leaves, and one with a witness; the excess is as it was
 abbrev pub with-inverse : ℕ → List ℕ → Buffers → Buffers
-with-inverse n held b = record {
-  held = onto held (b .held);
-  strip = onto (replicate n unused) (b .strip);
+with-inverse n inverse b = record {
+  inverse = onto inverse (b .inverse);
+  order = onto (replicate n unused) (b .order);
   witness = onto (replicate n 0) (b .witness);
   work = onto (replicate (n * n) 0) (b .work);
 }
 
 abbrev pub with-witness : ℕ → List ℕ → Buffers → Buffers
 with-witness n witness b = record {
-  held = onto (replicate (n * n) 0) (b .held);
-  strip = onto (replicate n unused) (b .strip);
+  inverse = onto (replicate (n * n) 0) (b .inverse);
+  order = onto (replicate n unused) (b .order);
   witness = onto witness (b .witness);
   work = onto (replicate (n * n) 0) (b .work);
 }
 
 abbrev pub verdict : ℕ → Graph → Buffers → Verdict
-verdict p g b = opening-verdict p g (b .held) (b .strip) (b .witness) (b .work)
+verdict p g b = opening-verdict p g (b .inverse) (b .order) (b .witness) (b .work)
 
 -- the answer and the buffers that opening leaves
 pub data Opens (p : ℕ) (g : Graph) (b : Buffers) : Opening → Buffers → Type 0 where
   refuses-opening : (k x : ℕ) → verdict p g b ≡ refused k x → Opens p g b (not-opened k x) b
-  opens : (held : List ℕ) → verdict p g b ≡ accepted → length held ≡ g .n * g .n → Held p g everything held
-      → Opens p g b opened (with-inverse (g .n) held b)
+  opens : (inverse : List ℕ) → verdict p g b ≡ accepted → length inverse ≡ g .n * g .n → InverseTable p g everything inverse
+      → Opens p g b opened (with-inverse (g .n) inverse b)
   depends : (f : ℕ) (witness : List ℕ) → verdict p g b ≡ accepted → length witness ≡ g .n → Singular p g f witness
       → Opens p g b (dependent f) (with-witness (g .n) witness b)

@@ -45,7 +45,7 @@ false? false = yes refl
 abbrev pub out? : (L : Subset) (i : ℕ) → Dec (i ∉ L)
 out? L i = false? (L i)
 
--- the byte of a place on the strip that no pair has
+-- the byte of a place that no pair has
 abbrev pub unused : ℕ
 unused = 255
 
@@ -55,11 +55,11 @@ bytes [] = []
 bytes (e ∷ earlier) = bytes earlier ++ e .smaller ∷ e .larger ∷ []
 
 -- the order of matching in n bytes (document 01: strip)
-unfoldable pub strip : ℕ → Pairs → List ℕ
+unfoldable pub order : ℕ → Pairs → List ℕ
 unfolding bytes
-strip n pairs = bytes pairs ++ replicate (n - (length pairs + length pairs)) unused
+order n pairs = bytes pairs ++ replicate (n - (length pairs + length pairs)) unused
 
--- the first so many pairs that stand on a strip
+-- the first so many pairs of an order of matching
 unfoldable pub pairs-on : List ℕ → ℕ → Pairs
 pairs-on s zero = []
 pairs-on s (suc k) = record { smaller = getD s (k + k) 0; larger = getD s (k + k + 1) 0 } ∷ pairs-on s k

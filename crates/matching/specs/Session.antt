@@ -32,19 +32,19 @@ pub record Session : Type 0 where
   pub made : ℕ
 
 -- the first n times n words are the inverse of the Tutte matrix on a set of vertices, each below p (document 01: held)
-pub record Held (p : ℕ) (g : Graph) (L : Subset) (held : List ℕ) : Type 0 where
-  pub small : Every (g .n * g .n) (λ x. getD held x 0 < p)
-  pub inverse : Inverse p (g .n) (tutte g p) L (table (g .n) held)
+pub record InverseTable (p : ℕ) (g : Graph) (L : Subset) (words : List ℕ) : Type 0 where
+  pub small : Every (g .n * g .n) (λ x. getD words x 0 < p)
+  pub is-inverse : Inverse p (g .n) (tutte g p) L (table (g .n) words)
 
--- the strip's used bytes are pairs, smaller first, all different, all below n, each adjacent; the rest up to n are unused
-pub record WellFormed (g : Graph) (made : ℕ) (strip : List ℕ) : Type 0 where
+-- the used bytes are pairs, smaller first, all different, all below n, each adjacent; the rest up to n are unused
+pub record WellFormed (g : Graph) (made : ℕ) (order : List ℕ) : Type 0 where
   pub few : made + made ≤ g .n
-  pub ordered : Every made (λ k. getD strip (k + k) 0 < getD strip (k + k + 1) 0)
-  pub below : Every made (λ k. getD strip (k + k + 1) 0 < g .n)
-  pub adjacent : Every made (λ k. cell g (getD strip (k + k) 0) (getD strip (k + k + 1) 0) ≡ 1)
-  pub different : Every (made + made) (λ y. Every y (λ x. getD strip x 0 ≢ getD strip y 0))
-  pub rest : Every (g .n) (λ x. made + made ≤ x → getD strip x 0 ≡ unused)
+  pub ordered : Every made (λ k. getD order (k + k) 0 < getD order (k + k + 1) 0)
+  pub below : Every made (λ k. getD order (k + k + 1) 0 < g .n)
+  pub adjacent : Every made (λ k. cell g (getD order (k + k) 0) (getD order (k + k + 1) 0) ≡ 1)
+  pub different : Every (made + made) (λ y. Every y (λ x. getD order x 0 ≢ getD order y 0))
+  pub rest : Every (g .n) (λ x. made + made ≤ x → getD order x 0 ≡ unused)
 
--- the vertices that a strip leaves (document 01: loose)
+-- the vertices that an order of matching leaves (document 01: loose)
 abbrev pub left : List ℕ → ℕ → Subset
-left strip made = unmatched everything (pairs-on strip made)
+left order made = unmatched everything (pairs-on order made)

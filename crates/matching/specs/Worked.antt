@@ -6,12 +6,11 @@ use Prim.Native.Nat.{ℕ}
 use native.Mathlib.Decide.{decLt}
 use lib.ListN.{replicate}
 use Rattle.modular.specs.Primes.{prime-65521}
-use Rattle.skew.specs.Subset.{count}
 use Rattle.matching.specs.Decision.{every?, first?}
 use Rattle.matching.specs.Graph.{Graph, tutte}
 use Rattle.matching.specs.Pairs.{unmatched, pairs-on}
-use Rattle.matching.specs.Model.{pick, automatic, undo, done, denied, regular?, step, run}
-use Rattle.matching.specs.Decided.{held?}
+use Rattle.matching.specs.Model.{picked, stopped, pick, automatic, undo, done, denied, regular?, step, run}
+use Rattle.matching.specs.Decided.{inverse-table?}
 use Rattle.matching.specs.Causes.{opening-verdict, session-verdict}
 use Rattle.matching.specs.Opening.{Buffers}
 use Rattle.matching.specs.Calls.{State}
@@ -26,13 +25,13 @@ two adjacency weights = record { n = 2; adjacency = adjacency; weights = weights
 abbrev in-order : List ℕ
 in-order = 0 ∷ 1 ∷ 1 ∷ 0 ∷ []
 
--- lengths of held, strip, witness and work
+-- lengths of inverse, order, witness and work
 abbrev lengths : ℕ → ℕ → ℕ → ℕ → Buffers
-lengths a b c d = record { held = replicate a 9; strip = replicate b 9; witness = replicate c 9; work = replicate d 9 }
+lengths a b c d = record { inverse = replicate a 9; order = replicate b 9; witness = replicate c 9; work = replicate d 9 }
 
 -- a session of four vertices
 abbrev session : ℕ → List ℕ → List ℕ → State
-session made held strip = record { session = record { size = 4; made = made }; held = held; strip = strip }
+session made inverse order = record { session = record { size = 4; made = made }; inverse = inverse; order = order }
 
 -- the inverse for vertices 2 and 3 of the complete graph
 abbrev last-two : List ℕ
@@ -47,6 +46,7 @@ worked =
     not-opening (record { n = 97; adjacency = []; weights = [] }) (lengths 0 0 0 0) 1 0
     ∷ not-opening (two (0 ∷ 1 ∷ 1 ∷ []) []) (lengths 0 0 0 0) 2 1
     ∷ not-opening (two in-order []) (lengths 3 1 1 3) 2 2
+    ∷ not-opening (two (2 ∷ 1 ∷ 0 ∷ 1 ∷ []) []) (lengths 4 2 2 4) 2 2
     ∷ not-opening (two in-order (1 ∷ [])) (lengths 3 1 1 3) 2 3
     ∷ not-opening (two in-order (1 ∷ [])) (lengths 4 1 1 3) 2 4
     ∷ not-opening (two in-order (1 ∷ [])) (lengths 4 2 1 3) 2 5
@@ -93,5 +93,5 @@ worked =
     ∷ []
 
 pub worked-hold : All Holds worked
-unfolding Shown Listed worked prime-65521 run step regular? held? first? every? tutte opening-verdict session-verdict cells unmatched pairs-on decLt read digits pair-lines graph count
-worked-hold = all worked (refl, (refl, (refl, (refl, (refl, (refl, (refl, (refl, (refl, (refl, (refl, (refl, (refl, (refl, (refl, (refl, (refl, (refl, ((refl, refl), ((refl, refl), ((refl, refl), (refl, (refl, (refl, (refl, (refl, (refl, (refl, (refl, (refl, (refl, (refl, (refl, (refl, (refl, (refl, (refl, (refl, ((tt, refl, refl), ((refl, refl), tt))))))))))))))))))))))))))))))))))))))))
+unfolding Shown Listed worked prime-65521 run step regular? inverse-table? first? every? tutte opening-verdict session-verdict cells unmatched pairs-on decLt read digits pair-lines graph
+worked-hold = all worked (refl, (refl, (refl, (refl, (refl, (refl, (refl, (refl, (refl, (refl, (refl, (refl, (refl, (refl, (refl, (refl, (refl, (refl, (refl, ((refl, refl), ((refl, refl), ((refl, refl), (refl, (refl, (refl, (refl, (refl, (refl, (refl, (refl, (refl, (refl, (refl, (refl, (refl, (refl, (refl, (refl, (refl, ((tt, picked refl (picked refl (stopped refl)), refl), ((refl, refl), tt)))))))))))))))))))))))))))))))))))))))))

@@ -8,11 +8,11 @@ use native.Mathlib.Decide.{ℕ-discrete, decLt}
 use Rattle.modular.specs.Prime.{OddPrime}
 use Rattle.skew.specs.Choose.{choose, choose-yes, choose-no}
 use Rattle.skew.specs.Subset.{Subset, _∈_, _∉_, bit, remove, remove-same, remove-other}
 use Rattle.matching.specs.Decision.{Verdict, accepted, refused}
 use Rattle.matching.specs.Graph.{Graph}
 use Rattle.matching.specs.Pairs.{Pair, couple, Pairs, unmatched}
 use Rattle.matching.specs.Model.{Call, pick, automatic, undo, done, denied, Step, Regular, regular?, Adjacent, pick-verdict, append, remove-last, step, run}
-use Rattle.matching.specs.Facts.{couple-smaller, couple-larger, Allowed, allowed-of-accepted, refused-place, Automatic, picks, none-left, automatic-cases, step-regular, run-regular}
+use Rattle.laws.specs.Facts.{couple-smaller, couple-larger, Allowed, allowed-of-accepted, refused-place, Automatic, picks, none-left, automatic-cases, step-regular, run-regular}
 
 -- how many of the pairs a vertex stands in
 unfoldable pub times : ℕ → Pairs → ℕ

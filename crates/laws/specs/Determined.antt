@@ -13,13 +13,13 @@ use Rattle.skew.specs.Matching.{invertible-even}
 use Rattle.skew.specs.Inverse.{Matrix, Inverse, apply-congruent, inverse-unique, same-entries}
 use Rattle.skew.specs.Column.{FirstDependent, Witness, witness-unique}
 use Rattle.skew.specs.Decide.{Outcome, inverse, column, eliminate, witness-singular, first-unique}
-use Rattle.matching.specs.Index.{row-below, column-below, index-of, index-row, index-column, index-below}
+use Rattle.laws.specs.Index.{row-below, column-below, index-of, index-row, index-column, index-below}
 use Rattle.matching.specs.Decision.{Every, Verdict, accepted, refused}
 use Rattle.matching.specs.Graph.{Graph, tutte}
 use Rattle.matching.specs.Pairs.{everything}
 use Rattle.matching.specs.Model.{skew}
-use Rattle.matching.specs.Session.{Held, table, vector, list-of}
+use Rattle.matching.specs.Session.{InverseTable, table, vector, list-of}
 use Rattle.matching.specs.Opening.{Opening, opened, dependent, not-opened, Buffers, Singular, verdict, with-inverse, with-witness, Opens, refuses-opening, opens, depends}
 
 pub length-list-of : (k : ℕ) (f : ℕ → ℕ) → length (list-of k f) ≡ k
 unfolding list-of
@@ -38,35 +38,35 @@ count-everything (suc n) = simp (count-suc, count-everything n) (omega arith)
 
 module _ {p : ℕ} (P : OddPrime p) (g : Graph) where
   -- one buffer only holds the inverse on a set
-  pub held-unique : {L : Subset} {u v : List ℕ} → length u ≡ g .n * g .n → length v ≡ g .n * g .n → Held p g L u → Held p g L v → u ≡ v
-  held-unique {L} {u} {v} hu hv U V′ = ext-getD 0 u v (hu ∙ sym hv) same
+  pub inverse-table-unique : {L : Subset} {u v : List ℕ} → length u ≡ g .n * g .n → length v ≡ g .n * g .n → InverseTable p g L u → InverseTable p g L v → u ≡ v
+  inverse-table-unique {L} {u} {v} hu hv U W = ext-getD 0 u v (hu ∙ sym hv) same
     where
       same : (x : ℕ) → x < length u → getD u x 0 ≡ getD v x 0
       same x l =
           let k : x < g .n * g .n = omega arith in
           let e =
-          inverse-unique p (g .n) (tutte g p) (P .odd) (skew P g everything) (U .inverse) (V′ .inverse) (x / g .n) (x % g .n) (row-below (g .n) x k)
+          inverse-unique p (g .n) (tutte g p) (P .odd) (skew P g everything) (U .is-inverse) (W .is-inverse) (x / g .n) (x % g .n) (row-below (g .n) x k)
           (column-below (g .n) x k) in
           let i = index-of (g .n) x in
-          below-equal (U .small x k) (V′ .small x k) (equals (ap (λ z. getD u z 0) (sym i)) ⨾ e ⨾ equals (ap (λ z. getD v z 0) i))
+          below-equal (U .small x k) (W .small x k) (equals (ap (λ z. getD u z 0) (sym i)) ⨾ e ⨾ equals (ap (λ z. getD v z 0) i))
 
   -- and where there is an inverse, one does
-  pub held-of : {L : Subset} {T : Matrix} → Inverse p (g .n) (tutte g p) L T → (held : List ℕ) × (length held ≡ g .n * g .n) × Held p g L held
-  held-of {L} {T} I = (held, length-list-of (g .n * g .n) word, record { small = small; inverse = same-entries p (g .n) (tutte g p) _ entries I })
+  pub inverse-table-of : {L : Subset} {T : Matrix} → Inverse p (g .n) (tutte g p) L T → (words : List ℕ) × (length words ≡ g .n * g .n) × InverseTable p g L words
+  inverse-table-of {L} {T} I = (words, length-list-of (g .n * g .n) word, record { small = small; is-inverse = same-entries p (g .n) (tutte g p) _ entries I })
     where
       word : ℕ → ℕ
       word x = T (x / g .n) (x % g .n) % p
 
-      held : List ℕ
-      held = list-of (g .n * g .n) word
+      words : List ℕ
+      words = list-of (g .n * g .n) word
 
-      at : (x : ℕ) → x < g .n * g .n → getD held x 0 ≡ word x
+      at : (x : ℕ) → x < g .n * g .n → getD words x 0 ≡ word x
       at x l = getD-list-of (g .n * g .n) word x l
 
-      small : Every (g .n * g .n) (λ x. getD held x 0 < p)
+      small : Every (g .n * g .n) (λ x. getD words x 0 < p)
       small x l = rw (at x l) (mod-lt _ (omega (arith, P .prime .above-one)))
 
-      entries : (i j : ℕ) → i < g .n → j < g .n → Congruent p (table (g .n) held i j) (T i j)
+      entries : (i j : ℕ) → i < g .n → j < g .n → Congruent p (table (g .n) words i j) (T i j)
       entries i j hi hj =
           equals (at (i * g .n + j) (index-below (g .n) i j hi hj))
           ⨾ remainder (T ((i * g .n + j) / g .n) ((i * g .n + j) % g .n))
@@ -121,27 +121,27 @@ module _ {p : ℕ} (P : OddPrime p) (g : Graph) where
     where
       go : (v : Verdict) → verdict p g b ≡ v → Outcome p (g .n) (tutte g p) everything → (o : Opening) × (after : Buffers) × Opens p g b o after
       go (refused k x) e _ = (not-opened k x, b, refuses-opening k x e)
-      go accepted e (inverse T I) = let h = held-of I in (opened, with-inverse (g .n) (h .0) b, opens (h .0) e (h .1) (h .2))
+      go accepted e (inverse T I) = let h = inverse-table-of I in (opened, with-inverse (g .n) (h .0) b, opens (h .0) e (h .1) (h .2))
       go accepted e (column f w F W) =
           let s = singular-of F W in (dependent f, with-witness (g .n) (s .0) b, depends f (s .0) e (s .1) (s .2))
 
   -- and no other
   pub opens-unique : {b : Buffers} {o o′ : Opening} {a a′ : Buffers} → Opens p g b o a → Opens p g b o′ a′ → (o ≡ o′) × (a ≡ a′)
   opens-unique (refuses-opening k x e) (refuses-opening k′ x′ e′) = (cc, refl)
-  opens-unique (refuses-opening k x e) (opens held e′ l h) = absurd (let z : _≡_ {A = ℕ} 0 1 = cc in omega arith)
+  opens-unique (refuses-opening k x e) (opens words e′ l h) = absurd (let z : _≡_ {A = ℕ} 0 1 = cc in omega arith)
   opens-unique (refuses-opening k x e) (depends f w e′ l s) = absurd (let z : _≡_ {A = ℕ} 0 1 = cc in omega arith)
-  opens-unique (opens held e l h) (refuses-opening k x e′) = absurd (let z : _≡_ {A = ℕ} 0 1 = cc in omega arith)
-  opens-unique {b} (opens held e l h) (opens held′ e′ l′ h′) = (refl, ap (λ words. with-inverse (g .n) words b) (held-unique l l′ h h′))
-  opens-unique (opens held e l h) (depends f w e′ l′ s) =
-      absurd (witness-singular P (g .n) (tutte g p) (skew P g everything) everything (s .kernel) (_, h .inverse))
+  opens-unique (opens words e l h) (refuses-opening k x e′) = absurd (let z : _≡_ {A = ℕ} 0 1 = cc in omega arith)
+  opens-unique {b} (opens words e l h) (opens words′ e′ l′ h′) = (refl, ap (λ words. with-inverse (g .n) words b) (inverse-table-unique l l′ h h′))
+  opens-unique (opens words e l h) (depends f w e′ l′ s) =
+      absurd (witness-singular P (g .n) (tutte g p) (skew P g everything) everything (s .kernel) (_, h .is-inverse))
   opens-unique (depends f w e l s) (refuses-opening k x e′) = absurd (let z : _≡_ {A = ℕ} 0 1 = cc in omega arith)
-  opens-unique (depends f w e l s) (opens held e′ l′ h) =
-      absurd (witness-singular P (g .n) (tutte g p) (skew P g everything) everything (s .kernel) (_, h .inverse))
+  opens-unique (depends f w e l s) (opens words e′ l′ h) =
+      absurd (witness-singular P (g .n) (tutte g p) (skew P g everything) everything (s .kernel) (_, h .is-inverse))
   opens-unique {b} (depends f w e l s) (depends f′ w′ e′ l′ s′) =
       let u = singular-unique l l′ s s′ in (ap dependent (u .0), ap (λ words. with-witness (g .n) words b) (u .1))
 
   -- an odd number of vertices never opens
   pub odd-never-opens : (half : ℕ) → g .n ≡ half + half + 1 → {b a : Buffers} → ¬ Opens p g b opened a
-  odd-never-opens half odd (opens held _ _ h) =
-      let m = invertible-even P (g .n) (tutte g p) (skew P g everything) (_, h .inverse) in
+  odd-never-opens half odd (opens words _ _ h) =
+      let m = invertible-even P (g .n) (tutte g p) (skew P g everything) (_, h .is-inverse) in
       omega (arith, m .1, count-everything (g .n))

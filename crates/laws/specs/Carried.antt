@@ -4,14 +4,14 @@ use mathlib.Core.List.{List, []}
 use Prim.Native.Nat.{ℕ}
 use native.Mathlib.Omega.{arith}
 use Rattle.modular.specs.Prime.{OddPrime}
 use Rattle.matching.specs.Decision.{Verdict, accepted, refused}
 use Rattle.matching.specs.Graph.{Graph}
-use Rattle.matching.specs.Pairs.{everything, strip}
+use Rattle.matching.specs.Pairs.{everything, order}
 use Rattle.matching.specs.Model.{Call, Answer, done, denied, Step, Regular, step}
-use Rattle.matching.specs.Facts.{step-regular}
-use Rattle.matching.specs.Sound.{session-accepted}
-use Rattle.matching.specs.Determined.{held-of, held-unique}
+use Rattle.laws.specs.Facts.{step-regular}
+use Rattle.laws.specs.Sound.{session-accepted}
+use Rattle.laws.specs.Determined.{inverse-table-of, inverse-table-unique}
 use Rattle.matching.specs.Calls.{State, graph-of, pairs-of, sound, with-pairs, Handles, unsound, refuses, carries}
 
 module _ {p : ℕ} (P : OddPrime p) (adjacency weights : List ℕ) where
   pub handles-some : (s : State) (c : Call) → (a : Answer) × (t : State) × Handles P adjacency weights s c a t
@@ -28,10 +28,10 @@ module _ {p : ℕ} (P : OddPrime p) (adjacency weights : List ℕ) where
           by-answer : (a : Answer) → t .answer ≡ a → (a : Answer) × (t : State) × Handles P adjacency weights s c a t
           by-answer (denied k x) r = (denied k x, s, refuses k x e (ap (λ u. u .answer) q ∙ r))
           by-answer (done x) r =
-              let S = session-accepted p g (s .session .made) (s .held) (s .strip) [] .0 e .1 in
+              let S = session-accepted p g (s .session .made) (s .inverse) (s .order) [] .0 e .1 in
               let J : Regular P g everything (t .pairs) =
-              rw q at (step-regular P g everything (pairs-of s) c (_, S .as-defined .inverse)) in
-              let h = held-of P g (J .1) in
+              rw q at (step-regular P g everything (pairs-of s) c (_, S .as-defined .is-inverse)) in
+              let h = inverse-table-of P g (J .1) in
               (done x, with-pairs (t .pairs) (h .0) s, carries x (t .pairs) (h .0) e (q ∙ rw (← r)) (h .1) (h .2))
 
   pub handles-unique : {s : State} {c : Call} {a a′ : Answer} {t t′ : State} → Handles P adjacency weights s c a t
@@ -49,5 +49,5 @@ module _ {p : ℕ} (P : OddPrime p) (adjacency weights : List ℕ) where
   handles-unique {s} (carries y ps h e r l i) (carries y′ ps′ h′ e′ r′ l′ i′) =
       let a : done y ≡ done y′ = ap (λ u. u .answer) (sym r ∙ r′) in
       let b : ps ≡ ps′ = ap (λ u. u .pairs) (sym r ∙ r′) in
-      let w : h ≡ h′ = held-unique P (graph-of s adjacency weights) l l′ i (rw (← b) at i′) in
+      let w : h ≡ h′ = inverse-table-unique P (graph-of s adjacency weights) l l′ i (rw (← b) at i′) in
       (a, ap₂ (λ ps words. with-pairs ps words s) b w)

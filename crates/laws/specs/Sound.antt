@@ -6,11 +6,11 @@ use Prim.Native.Nat.{ℕ, _*_, _/_, _%_, _≤_, _<_}
 use native.Mathlib.Omega.{arith}
 use native.Mathlib.Decide.{ℕ-discrete, decLt}
 use lib.ListN.{length, getD}
 use Rattle.matching.specs.Decision.{Every, not?, both?, First, nowhere, first-at, first?, Finding, absent, at, when, found, Cause, accepted, judge, unless}
 use Rattle.matching.specs.Graph.{Graph, largest, couples, fault, Faulty, Outside}
-use Rattle.matching.specs.Session.{Held, WellFormed, left}
-use Rattle.matching.specs.Decided.{held?, well-formed?}
-use Rattle.matching.specs.Causes.{Lent, lent-to-opening, opening-causes, lent-to-session, session-causes, too-large, or, first-short, bad-cell, bad-weight, ill-formed, not-held, opening-verdict, session-verdict}
+use Rattle.matching.specs.Session.{InverseTable, WellFormed, left}
+use Rattle.matching.specs.Decided.{inverse-table?, well-formed?}
+use Rattle.matching.specs.Causes.{Lent, lent-to-opening, opening-causes, lent-to-session, session-causes, too-large, or, first-short, bad-cell, bad-weight, ill-formed, not-inverse, opening-verdict, session-verdict}
 
 clash : {A : Type 0} {x : ℕ} → at x ≡ absent → A
 clash e = absurd (let z : _≡_ {A = ℕ} 0 1 = cc in omega arith)
@@ -86,13 +86,13 @@ weights-ok p g =
     (λ e x l. stable (in-range? p g x) (r .0 e x l), λ h. r .1 (λ x l d. d (h x l)))
 
 -- opening is not refused exactly when the buffers are long enough and the graph is in order
-pub opening-accepted : (p : ℕ) (g : Graph) (held strip witness work : List ℕ)
-    → (opening-verdict p g held strip witness work ≡ accepted)
-    ↔ (LongEnough (lent-to-opening g held strip witness work) × InOrder p g)
+pub opening-accepted : (p : ℕ) (g : Graph) (inverse order witness work : List ℕ)
+    → (opening-verdict p g inverse order witness work ≡ accepted)
+    ↔ (LongEnough (lent-to-opening g inverse order witness work) × InOrder p g)
 unfolding opening-verdict
-opening-accepted p g held strip witness work =
-    let r = judge-accepted (opening-causes p g (lent-to-opening g held strip witness work)) in
-    let s = short-absent (lent-to-opening g held strip witness work) in (
+opening-accepted p g inverse order witness work =
+    let r = judge-accepted (opening-causes p g (lent-to-opening g inverse order witness work)) in
+    let s = short-absent (lent-to-opening g inverse order witness work) in (
       λ e.
           let a = r .0 e in (
             s .0 (a .1 .0),
@@ -102,20 +102,20 @@ opening-accepted p g held strip witness work =
     )
 
 -- a sound session over a graph in order
-pub record Sound (p : ℕ) (g : Graph) (made : ℕ) (held strip : List ℕ) : Type 0 where
+pub record Sound (p : ℕ) (g : Graph) (made : ℕ) (inverse order : List ℕ) : Type 0 where
   pub in-order : InOrder p g
-  pub well-formed : WellFormed g made strip
-  pub as-defined : Held p g (left strip made) held
+  pub well-formed : WellFormed g made order
+  pub as-defined : InverseTable p g (left order made) inverse
 
-pub session-accepted : (p : ℕ) (g : Graph) (made : ℕ) (held strip : List ℕ) (more : List Lent)
-    → (session-verdict p g made held strip more ≡ accepted)
-    ↔ (LongEnough (lent-to-session g held strip more) × Sound p g made held strip)
-unfolding session-verdict ill-formed not-held
-session-accepted p g made held strip more =
-    let r = judge-accepted (session-causes p g made held strip (lent-to-session g held strip more)) in
-    let s = short-absent (lent-to-session g held strip more) in
-    let w = unless-absent (well-formed? g made strip) 0 in
-    let h = unless-absent (held? p g (left strip made) held) 0 in (
+pub session-accepted : (p : ℕ) (g : Graph) (made : ℕ) (inverse order : List ℕ) (more : List Lent)
+    → (session-verdict p g made inverse order more ≡ accepted)
+    ↔ (LongEnough (lent-to-session g inverse order more) × Sound p g made inverse order)
+unfolding session-verdict ill-formed not-inverse
+session-accepted p g made inverse order more =
+    let r = judge-accepted (session-causes p g made inverse order (lent-to-session g inverse order more)) in
+    let s = short-absent (lent-to-session g inverse order more) in
+    let w = unless-absent (well-formed? g made order) 0 in
+    let h = unless-absent (inverse-table? p g (left order made) inverse) 0 in (
       λ e.
           let a = r .0 e in (
             s .0 (a .1 .0),
