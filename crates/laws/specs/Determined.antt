@@ -14,12 +14,12 @@ use Rattle.skew.specs.Inverse.{Matrix, Inverse, apply-congruent, inverse-unique
 use Rattle.skew.specs.Column.{FirstDependent, Witness, witness-unique}
 use Rattle.skew.specs.Decide.{Outcome, inverse, column, eliminate, witness-singular, first-unique}
 use Rattle.laws.specs.Index.{row-below, column-below, index-of, index-row, index-column, index-below}
-use Rattle.matching.specs.Decision.{Every, Verdict, accepted, refused}
+use Rattle.matching.specs.Decision.{Every, Ruling, accepted, refused}
 use Rattle.matching.specs.Graph.{Graph, tutte}
 use Rattle.matching.specs.Pairs.{everything}
 use Rattle.matching.specs.Model.{skew}
-use Rattle.matching.specs.Session.{InverseTable, table, vector, list-of}
-use Rattle.matching.specs.Opening.{Opening, opened, dependent, not-opened, Buffers, Singular, verdict, with-inverse, with-witness, Opens, refuses-opening, opens, depends}
+use Rattle.matching.specs.Session.{Session, session, InverseTable, table, vector, list-of}
+use Rattle.matching.specs.Opening.{Opening, opened, dependent, not-opened, Buffers, Singular, ruling, with-inverse, with-witness, Opens, refuses-opening, opens, depends}
 
 pub length-list-of : (k : ℕ) (f : ℕ → ℕ) → length (list-of k f) ≡ k
 unfolding list-of
@@ -36,7 +36,7 @@ count-everything : (n : ℕ) → count n everything ≡ n
 count-everything zero = count-none everything
 count-everything (suc n) = simp (count-suc, count-everything n) (omega arith)
 
-module _ {p : ℕ} (P : OddPrime p) (g : Graph) where
+module _ {p : ℕ} (P : OddPrime p) (g : Graph) (S : Subset) where
   -- one buffer only holds the inverse on a set
   pub inverse-table-unique : {L : Subset} {u v : List ℕ} → length u ≡ g .n * g .n → length v ≡ g .n * g .n → InverseTable p g L u → InverseTable p g L v → u ≡ v
   inverse-table-unique {L} {u} {v} hu hv U W = ext-getD 0 u v (hu ∙ sym hv) same
@@ -45,7 +45,7 @@ module _ {p : ℕ} (P : OddPrime p) (g : Graph) where
       same x l =
           let k : x < g .n * g .n = omega arith in
           let e =
-          inverse-unique p (g .n) (tutte g p) (P .odd) (skew P g everything) (U .is-inverse) (W .is-inverse) (x / g .n) (x % g .n) (row-below (g .n) x k)
+          inverse-unique p (g .n) (tutte g p) (P .odd) (skew P g S) (U .is-inverse) (W .is-inverse) (x / g .n) (x % g .n) (row-below (g .n) x k)
           (column-below (g .n) x k) in
           let i = index-of (g .n) x in
           below-equal (U .small x k) (W .small x k) (equals (ap (λ z. getD u z 0) (sym i)) ⨾ e ⨾ equals (ap (λ z. getD v z 0) i))
@@ -73,19 +73,19 @@ module _ {p : ℕ} (P : OddPrime p) (g : Graph) where
           ⨾ equals (ap₂ T (index-row (g .n) i j hj) (index-column (g .n) i j hj))
 
   -- one column and one buffer only are the witness
-  pub singular-unique : {f h : ℕ} {u v : List ℕ} → length u ≡ g .n → length v ≡ g .n → Singular p g f u → Singular p g h v → (f ≡ h) × (u ≡ v)
+  pub singular-unique : {f h : ℕ} {u v : List ℕ} → length u ≡ g .n → length v ≡ g .n → Singular p g S f u → Singular p g S h v → (f ≡ h) × (u ≡ v)
   singular-unique {f} {h} {u} {v} hu hv U W =
-      let e : f ≡ h = first-unique P (g .n) (tutte g p) (skew P g everything) everything (U .first) (W .first) in
+      let e : f ≡ h = first-unique P (g .n) (tutte g p) (skew P g S) S (U .first) (W .first) in
       (e, ext-getD 0 u v (hu ∙ sym hv) (λ x l. same e x l))
     where
       same : f ≡ h → (x : ℕ) → x < length u → getD u x 0 ≡ getD v x 0
       same e x l =
           let k : x < g .n = omega arith in
           below-equal (U .small x k) (W .small x k)
-          (witness-unique p (g .n) (tutte g p) everything (P .odd) (P .prime) (U .first) (U .kernel) (rw (sym e) at (W .kernel)) x k)
+          (witness-unique p (g .n) (tutte g p) S (P .odd) (P .prime) (U .first) (U .kernel) (rw (sym e) at (W .kernel)) x k)
 
-  pub singular-of : {f : ℕ} {w : ℕ → ℕ} → FirstDependent p (g .n) (tutte g p) everything f → Witness p (g .n) (tutte g p) everything f w
-      → (witness : List ℕ) × (length witness ≡ g .n) × Singular p g f witness
+  pub singular-of : {f : ℕ} {w : ℕ → ℕ} → FirstDependent p (g .n) (tutte g p) S f → Witness p (g .n) (tutte g p) S f w
+      → (witness : List ℕ) × (length witness ≡ g .n) × Singular p g S f witness
   singular-of {f} {w} F W = (
     words,
     length-list-of (g .n) word,
@@ -116,32 +116,33 @@ module _ {p : ℕ} (P : OddPrime p) (g : Graph) where
       same x l = equals (at x l) ⨾ remainder (w x)
 
   -- opening has an outcome
-  pub opens-some : (b : Buffers) → (o : Opening) × (after : Buffers) × Opens p g b o after
-  opens-some b = go (verdict p g b) refl (eliminate P (g .n) (tutte g p) (skew P g everything) everything)
+  pub opens-some : (b : Buffers) → (o : Opening) × (after : Buffers) × Opens p g S b o after
+  opens-some b = go (ruling p g b) refl (eliminate P (g .n) (tutte g p) (skew P g S) S)
     where
-      go : (v : Verdict) → verdict p g b ≡ v → Outcome p (g .n) (tutte g p) everything → (o : Opening) × (after : Buffers) × Opens p g b o after
-      go (refused k x) e _ = (not-opened k x, b, refuses-opening k x e)
-      go accepted e (inverse T I) = let h = inverse-table-of I in (opened, with-inverse (g .n) (h .0) b, opens (h .0) e (h .1) (h .2))
+      go : (v : Ruling) → ruling p g b ≡ v → Outcome p (g .n) (tutte g p) S → (o : Opening) × (after : Buffers) × Opens p g S b o after
+      go (refused r) e _ = (not-opened r, b, refuses-opening r e)
+      go accepted e (inverse T I) = let h = inverse-table-of I in (opened (session (g .n) []), with-inverse (g .n) (h .0) b, opens (h .0) e (h .1) (h .2))
       go accepted e (column f w F W) =
           let s = singular-of F W in (dependent f, with-witness (g .n) (s .0) b, depends f (s .0) e (s .1) (s .2))
 
   -- and no other
-  pub opens-unique : {b : Buffers} {o o′ : Opening} {a a′ : Buffers} → Opens p g b o a → Opens p g b o′ a′ → (o ≡ o′) × (a ≡ a′)
-  opens-unique (refuses-opening k x e) (refuses-opening k′ x′ e′) = (cc, refl)
-  opens-unique (refuses-opening k x e) (opens words e′ l h) = absurd (let z : _≡_ {A = ℕ} 0 1 = cc in omega arith)
-  opens-unique (refuses-opening k x e) (depends f w e′ l s) = absurd (let z : _≡_ {A = ℕ} 0 1 = cc in omega arith)
-  opens-unique (opens words e l h) (refuses-opening k x e′) = absurd (let z : _≡_ {A = ℕ} 0 1 = cc in omega arith)
+  pub opens-unique : {b : Buffers} {o o′ : Opening} {a a′ : Buffers} → Opens p g S b o a → Opens p g S b o′ a′ → (o ≡ o′) × (a ≡ a′)
+  opens-unique (refuses-opening r e) (refuses-opening r′ e′) = (cc, refl)
+  opens-unique (refuses-opening r e) (opens words e′ l h) = absurd (let z : _≡_ {A = ℕ} 0 1 = cc in omega arith)
+  opens-unique (refuses-opening r e) (depends f w e′ l s) = absurd (let z : _≡_ {A = ℕ} 0 1 = cc in omega arith)
+  opens-unique (opens words e l h) (refuses-opening r e′) = absurd (let z : _≡_ {A = ℕ} 0 1 = cc in omega arith)
   opens-unique {b} (opens words e l h) (opens words′ e′ l′ h′) = (refl, ap (λ words. with-inverse (g .n) words b) (inverse-table-unique l l′ h h′))
   opens-unique (opens words e l h) (depends f w e′ l′ s) =
-      absurd (witness-singular P (g .n) (tutte g p) (skew P g everything) everything (s .kernel) (_, h .is-inverse))
-  opens-unique (depends f w e l s) (refuses-opening k x e′) = absurd (let z : _≡_ {A = ℕ} 0 1 = cc in omega arith)
+      absurd (witness-singular P (g .n) (tutte g p) (skew P g S) S (s .kernel) (_, h .is-inverse))
+  opens-unique (depends f w e l s) (refuses-opening r e′) = absurd (let z : _≡_ {A = ℕ} 0 1 = cc in omega arith)
   opens-unique (depends f w e l s) (opens words e′ l′ h) =
-      absurd (witness-singular P (g .n) (tutte g p) (skew P g everything) everything (s .kernel) (_, h .is-inverse))
+      absurd (witness-singular P (g .n) (tutte g p) (skew P g S) S (s .kernel) (_, h .is-inverse))
   opens-unique {b} (depends f w e l s) (depends f′ w′ e′ l′ s′) =
       let u = singular-unique l l′ s s′ in (ap dependent (u .0), ap (λ words. with-witness (g .n) words b) (u .1))
 
+module _ {p : ℕ} (P : OddPrime p) (g : Graph) where
   -- an odd number of vertices never opens
-  pub odd-never-opens : (half : ℕ) → g .n ≡ half + half + 1 → {b a : Buffers} → ¬ Opens p g b opened a
+  pub odd-never-opens : (half : ℕ) → g .n ≡ half + half + 1 → {b a : Buffers} {s : Session} → ¬ Opens p g everything b (opened s) a
   odd-never-opens half odd (opens words _ _ h) =
       let m = invertible-even P (g .n) (tutte g p) (skew P g everything) (_, h .is-inverse) in
       omega (arith, m .1, count-everything (g .n))

@@ -13,23 +13,23 @@ use Rattle.skew.specs.Choose.{choose-yes, choose-no}
 use Rattle.skew.specs.Subset.{Subset, _∈_, _∉_, Member, inside, outside, member?, Without, swap, without, without-same, count, count-of-empty, count-without}
 use Rattle.skew.specs.Inverse.{same-set}
 use Rattle.skew.specs.Matching.{pick-exists}
-use Rattle.matching.specs.Decision.{First, nowhere, first-at, first?, both?, Verdict, accepted, refused, judge, Accepted, accepted?, Every}
+use Rattle.matching.specs.Decision.{Refusal, because, First, nowhere, first-at, first?, both?, Ruling, accepted, refused, judge, Accepted, accepted?, Every}
 use Rattle.matching.specs.Graph.{Graph, cell, upper, tutte, tutte-upper, tutte-lower, tutte-diagonal}
-use Rattle.matching.specs.Pairs.{Pair, couple, Pairs, unmatched, in?}
-use Rattle.matching.specs.Model.{Call, pick, automatic, undo, Answer, done, denied, Named, named?, needs, skew, Regular, regular?, Adjacent, pick-verdict, append, remove-last, step, run, OpenPartner, PicksToCome, stopped, picked}
+use Rattle.matching.specs.Pairs.{Pair, pair-of, Pairs, unmatched, in?}
+use Rattle.matching.specs.Model.{Call, pick, automatic, undo, Answer, done, denied, Named, named?, needs, skew, Nonsingular, nonsingular?, Adjacent, adjacent?, pick-ruling, append, remove-last, step, run, OpenPartner, PicksToCome, stopped, picked}
 
-pub couple-smaller : (a b : ℕ) → a < b → couple a b ≡ record { smaller = a; larger = b }
-unfolding couple
-couple-smaller a b l = rw (choose-yes (decLt a b) a b l, choose-yes (decLt a b) b a l)
+pub pair-of-smaller : (a b : ℕ) → a < b → pair-of a b ≡ record { smaller = a; larger = b }
+unfolding pair-of
+pair-of-smaller a b l = rw (choose-yes (decLt a b) a b l, choose-yes (decLt a b) b a l)
 
-pub couple-larger : (a b : ℕ) → b < a → couple a b ≡ record { smaller = b; larger = a }
-unfolding couple
-couple-larger a b l =
+pub pair-of-larger : (a b : ℕ) → b < a → pair-of a b ≡ record { smaller = b; larger = a }
+unfolding pair-of
+pair-of-larger a b l =
     let h : ¬ (a < b) = λ k. omega arith in
     rw (choose-no (decLt a b) a b h, choose-no (decLt a b) b a h)
 
-second : {j k x y : ℕ} → refused j x ≡ refused k y → x ≡ y
-second q = cc
+place-of : {r t : Refusal} → refused r ≡ refused t → r .place ≡ t .place
+place-of {r} {t} q = let e : r ≡ t = cc in ap (λ u. u .place) e
 
 module _ {p : ℕ} (P : OddPrime p) (g : Graph) (S : Subset) where
   -- a hand pick that no cause refuses
@@ -37,8 +37,8 @@ module _ {p : ℕ} (P : OddPrime p) (g : Graph) (S : Subset) where
     pub named : Named (g .n) a b
     pub a-left : a ∈ unmatched S pairs
     pub b-left : b ∈ unmatched S pairs
-    pub adjacent : Adjacent P g S (couple a b)
-    pub regular : Regular P g S (couple a b ∷ pairs)
+    pub adjacent : Adjacent g (pair-of a b)
+    pub nonsingular : Nonsingular P g S (pair-of a b ∷ pairs)
 
   judged : {A B C D E : Type 0} (a : Dec A) (b : Dec B) (c : Dec C) (d : Dec D) (e : Dec E)
       → Accepted (judge (needs 7 a ∷ needs 8 (both? b c) ∷ needs 9 d ∷ needs 10 e ∷ [])) ↔ (A × B × C × D × E)
@@ -50,47 +50,47 @@ module _ {p : ℕ} (P : OddPrime p) (g : Graph) (S : Subset) where
   judged (yes a) (yes b) (yes c) (yes d) (no e) = (λ h. absurd h, λ h. e (h .4))
   judged (yes a) (yes b) (yes c) (yes d) (yes e) = (λ _. (a, b, c, d, e), λ _. tt)
 
-  placed : {A B C D E : Type 0} {k x : ℕ} (a : Dec A) (b : Dec B) (c : Dec C) (d : Dec D) (e : Dec E)
-      → judge (needs 7 a ∷ needs 8 (both? b c) ∷ needs 9 d ∷ needs 10 e ∷ []) ≡ refused k x → x ≡ 0
-  placed (no a) b c d e q = sym (second q)
-  placed (yes a) (no b) (yes c) d e q = sym (second q)
-  placed (yes a) (no b) (no c) d e q = sym (second q)
-  placed (yes a) (yes b) (no c) d e q = sym (second q)
-  placed (yes a) (yes b) (yes c) (no d) e q = sym (second q)
-  placed (yes a) (yes b) (yes c) (yes d) (no e) q = sym (second q)
+  placed : {A B C D E : Type 0} {r : Refusal} (a : Dec A) (b : Dec B) (c : Dec C) (d : Dec D) (e : Dec E)
+      → judge (needs 7 a ∷ needs 8 (both? b c) ∷ needs 9 d ∷ needs 10 e ∷ []) ≡ refused r → r .place ≡ 0
+  placed (no a) b c d e q = sym (place-of q)
+  placed (yes a) (no b) (yes c) d e q = sym (place-of q)
+  placed (yes a) (no b) (no c) d e q = sym (place-of q)
+  placed (yes a) (yes b) (no c) d e q = sym (place-of q)
+  placed (yes a) (yes b) (yes c) (no d) e q = sym (place-of q)
+  placed (yes a) (yes b) (yes c) (yes d) (no e) q = sym (place-of q)
   placed (yes a) (yes b) (yes c) (yes d) (yes e) q = absurd (let z : _≡_ {A = ℕ} 0 1 = cc in omega arith)
 
   -- the place of a refused pick is 0
-  pub refused-place : (pairs : Pairs) (a b : ℕ) {k x : ℕ} → pick-verdict P g S pairs a b ≡ refused k x → x ≡ 0
-  unfolding pick-verdict
-  refused-place pairs a b {k} {x} q =
-      placed {k = k} (named? (g .n) a b) (in? (unmatched S pairs) a) (in? (unmatched S pairs) b)
-      (ℕ-discrete (cell g (couple a b .smaller) (couple a b .larger)) 1) (regular? P g S (couple a b ∷ pairs)) q
+  pub refused-place : (pairs : Pairs) (a b : ℕ) {r : Refusal} → pick-ruling P g S pairs a b ≡ refused r → r .place ≡ 0
+  unfolding pick-ruling
+  refused-place pairs a b {r} q =
+      placed {r = r} (named? (g .n) a b) (in? (unmatched S pairs) a) (in? (unmatched S pairs) b)
+      (adjacent? g (pair-of a b)) (nonsingular? P g S (pair-of a b ∷ pairs)) q
 
-  pub allowed-of-accepted : (pairs : Pairs) (a b : ℕ) → Accepted (pick-verdict P g S pairs a b) → Allowed pairs a b
-  unfolding pick-verdict
+  pub allowed-of-accepted : (pairs : Pairs) (a b : ℕ) → Accepted (pick-ruling P g S pairs a b) → Allowed pairs a b
+  unfolding pick-ruling
   allowed-of-accepted pairs a b h =
       let r =
       judged (named? (g .n) a b) (in? (unmatched S pairs) a) (in? (unmatched S pairs) b)
-      (ℕ-discrete (cell g (couple a b .smaller) (couple a b .larger)) 1) (regular? P g S (couple a b ∷ pairs)) .0 h in
-      record { named = r .0; a-left = r .1; b-left = r .2; adjacent = r .3; regular = r .4 }
+      (adjacent? g (pair-of a b)) (nonsingular? P g S (pair-of a b ∷ pairs)) .0 h in
+      record { named = r .0; a-left = r .1; b-left = r .2; adjacent = r .3; nonsingular = r .4 }
 
-  pub accepted-of-allowed : (pairs : Pairs) (a b : ℕ) → Allowed pairs a b → Accepted (pick-verdict P g S pairs a b)
-  unfolding pick-verdict
+  pub accepted-of-allowed : (pairs : Pairs) (a b : ℕ) → Allowed pairs a b → Accepted (pick-ruling P g S pairs a b)
+  unfolding pick-ruling
   accepted-of-allowed pairs a b h =
       judged (named? (g .n) a b) (in? (unmatched S pairs) a) (in? (unmatched S pairs) b)
-      (ℕ-discrete (cell g (couple a b .smaller) (couple a b .larger)) 1) (regular? P g S (couple a b ∷ pairs))
-      .1 (h .named, h .a-left, h .b-left, h .adjacent, h .regular)
+      (adjacent? g (pair-of a b)) (nonsingular? P g S (pair-of a b ∷ pairs))
+      .1 (h .named, h .a-left, h .b-left, h .adjacent, h .nonsingular)
 
   -- an allowed pick removes two vertices from those left
   pub unmatched-without : (pairs : Pairs) (a b : ℕ) → a ≢ b → a ∈ unmatched S pairs → b ∈ unmatched S pairs
-      → Without (unmatched S pairs) a b (unmatched S (couple a b ∷ pairs))
+      → Without (unmatched S pairs) a b (unmatched S (pair-of a b ∷ pairs))
   unfolding unmatched
   unmatched-without pairs a b d ha hb = go (decLt a b) (decLt b a)
     where
-      go : Dec (a < b) → Dec (b < a) → Without (unmatched S pairs) a b (unmatched S (couple a b ∷ pairs))
-      go (yes l) _ = rw (couple-smaller a b l) (without (unmatched S pairs) a b d ha hb)
-      go (no _) (yes l) = rw (couple-larger a b l) (swap (without (unmatched S pairs) b a (λ e. d (sym e)) hb ha))
+      go : Dec (a < b) → Dec (b < a) → Without (unmatched S pairs) a b (unmatched S (pair-of a b ∷ pairs))
+      go (yes l) _ = rw (pair-of-smaller a b l) (without (unmatched S pairs) a b d ha hb)
+      go (no _) (yes l) = rw (pair-of-larger a b l) (swap (without (unmatched S pairs) b a (λ e. d (sym e)) hb ha))
       go (no h) (no k) = absurd (d (omega arith))
 
   -- where the Tutte matrix is not 0 the two are adjacent
@@ -102,22 +102,22 @@ module _ {p : ℕ} (P : OddPrime p) (g : Graph) (S : Subset) where
       go (yes e) = e
       go (no d) = absurd (h (equals (choose-no (ℕ-discrete (cell g i j) 1) _ _ d)))
 
-  pub nonzero-adjacent : (a b : ℕ) → ¬ Congruent p (tutte g p a b) 0 → Adjacent P g S (couple a b)
+  pub nonzero-adjacent : (a b : ℕ) → ¬ Congruent p (tutte g p a b) 0 → Adjacent g (pair-of a b)
   nonzero-adjacent a b h = go (decLt a b) (decLt b a)
     where
       positive : 0 < p
       positive = omega (arith, P .prime .above-one)
 
-      go : Dec (a < b) → Dec (b < a) → Adjacent P g S (couple a b)
-      go (yes l) _ = rw (couple-smaller a b l) (nonzero-upper a b (λ z. h (equals (tutte-upper g p a b l) ⨾ z)))
+      go : Dec (a < b) → Dec (b < a) → Adjacent g (pair-of a b)
+      go (yes l) _ = rw (pair-of-smaller a b l) (nonzero-upper a b (λ z. h (equals (tutte-upper g p a b l) ⨾ z)))
       go (no _) (yes l) =
-          rw (couple-larger a b l)
+          rw (pair-of-larger a b l)
           (nonzero-upper b a
           (λ z. h (equals (tutte-lower g p a b l) ⨾ linear (negative-plus positive (upper g b a) ⊖ z) (omega arith))))
       go (no d) (no e) = let same : a ≡ b = omega arith in absurd (h (rw same (equals (tutte-diagonal g p b))))
 
   -- every vertex left has an open partner
-  pub open-partner : (pairs : Pairs) → Regular P g S pairs → (c : ℕ) → c < g .n → c ∈ unmatched S pairs
+  pub open-partner : (pairs : Pairs) → Nonsingular P g S pairs → (c : ℕ) → c < g .n → c ∈ unmatched S pairs
       → (r : ℕ) × (r < g .n) × OpenPartner P g S pairs c r
   open-partner pairs I c hc l =
       let s = pick-exists P (g .n) (tutte g p) (skew P g S) I c hc l in
@@ -131,7 +131,7 @@ module _ {p : ℕ} (P : OddPrime p) (g : Graph) (S : Subset) where
           a-left = l;
           b-left = k .sets .b-in;
           adjacent = nonzero-adjacent c (s .0) (k .entry);
-          regular = same-set p (g .n) (tutte g p) (λ i _. without-same w (k .sets) i) (k .remaining);
+          nonsingular = same-set p (g .n) (tutte g p) (λ i _. without-same w (k .sets) i) (k .remaining);
         }),
       )
 
@@ -142,14 +142,14 @@ module _ {p : ℕ} (P : OddPrime p) (g : Graph) (S : Subset) where
     pub c-lowest : Every c (λ k. ¬ (k ∈ unmatched S pairs))
     pub allowed : Allowed pairs c r
     pub r-lowest : Every r (λ k. ¬ OpenPartner P g S pairs c k)
-    pub taken : step P g S pairs automatic ≡ record { answer = done (couple c r); pairs = couple c r ∷ pairs }
+    pub taken : step P g S pairs automatic ≡ record { answer = done (pair-of c r); pairs = pair-of c r ∷ pairs }
 
   pub data Automatic (pairs : Pairs) : Type 0 where
     picks : (c r : ℕ) → Lowest pairs c r → Automatic pairs
-    none-left : Every (g .n) (λ k. ¬ (k ∈ unmatched S pairs)) → step P g S pairs automatic ≡ record { answer = denied 11 0; pairs = pairs }
+    none-left : Every (g .n) (λ k. ¬ (k ∈ unmatched S pairs)) → step P g S pairs automatic ≡ record { answer = denied (because 11 0); pairs = pairs }
         → Automatic pairs
 
-  pub automatic-cases : (pairs : Pairs) → Regular P g S pairs → Automatic pairs
+  pub automatic-cases : (pairs : Pairs) → Nonsingular P g S pairs → Automatic pairs
   unfolding step
   automatic-cases pairs I = lowest (first? (λ c. c ∈ unmatched S pairs) (g .n) (in? (unmatched S pairs))) refl
     where
@@ -157,10 +157,10 @@ module _ {p : ℕ} (P : OddPrime p) (g : Graph) (S : Subset) where
           → first? (λ c. c ∈ unmatched S pairs) (g .n) (in? (unmatched S pairs)) ≡ f → Automatic pairs
       lowest (nowhere h) e = none-left h (rw e)
       lowest (first-at c hc l h) e =
-          partner (first? (λ r. OpenPartner P g S pairs c r) (g .n) (λ r. accepted? (pick-verdict P g S pairs c r))) refl
+          partner (first? (λ r. OpenPartner P g S pairs c r) (g .n) (λ r. accepted? (pick-ruling P g S pairs c r))) refl
         where
           partner : (f : First (g .n) (λ r. OpenPartner P g S pairs c r))
-              → first? (λ r. OpenPartner P g S pairs c r) (g .n) (λ r. accepted? (pick-verdict P g S pairs c r)) ≡ f → Automatic pairs
+              → first? (λ r. OpenPartner P g S pairs c r) (g .n) (λ r. accepted? (pick-ruling P g S pairs c r)) ≡ f → Automatic pairs
           partner (nowhere no-partner) q =
               let s = open-partner pairs I c hc l in absurd (no-partner (s .0) (s .1) (s .2))
           partner (first-at r hr a k) q = picks c r (record {
@@ -173,33 +173,33 @@ module _ {p : ℕ} (P : OddPrime p) (g : Graph) (S : Subset) where
           })
 
   -- a call keeps the inverse, and so does a list of calls
-  pub step-regular : (pairs : Pairs) (c : Call) → Regular P g S pairs → Regular P g S (step P g S pairs c .pairs)
+  pub step-nonsingular : (pairs : Pairs) (c : Call) → Nonsingular P g S pairs → Nonsingular P g S (step P g S pairs c .pairs)
   unfolding step
-  step-regular pairs (pick a b) I = go (pick-verdict P g S pairs a b) refl
+  step-nonsingular pairs (pick a b) I = go (pick-ruling P g S pairs a b) refl
     where
-      go : (v : Verdict) → pick-verdict P g S pairs a b ≡ v → Regular P g S (append P g S pairs (couple a b) v .pairs)
-      go accepted e = allowed-of-accepted pairs a b (rw e tt) .regular
-      go (refused k x) e = I
-  step-regular pairs automatic I = go (automatic-cases pairs I)
+      go : (v : Ruling) → pick-ruling P g S pairs a b ≡ v → Nonsingular P g S (append P g S pairs (pair-of a b) v .pairs)
+      go accepted e = allowed-of-accepted pairs a b (rw e tt) .nonsingular
+      go (refused r) e = I
+  step-nonsingular pairs automatic I = go (automatic-cases pairs I)
     where
-      go : Automatic pairs → Regular P g S (step P g S pairs automatic .pairs)
-      go (picks c r L) = rw (L .taken) (L .allowed .regular)
+      go : Automatic pairs → Nonsingular P g S (step P g S pairs automatic .pairs)
+      go (picks c r L) = rw (L .taken) (L .allowed .nonsingular)
       go (none-left _ e) = rw e I
-  step-regular [] undo I = I
-  step-regular (e ∷ earlier) undo I = go (regular? P g S earlier)
+  step-nonsingular [] undo I = I
+  step-nonsingular (e ∷ earlier) undo I = go (nonsingular? P g S earlier)
     where
-      go : (d : Dec (Regular P g S earlier)) → Regular P g S (remove-last P g S e earlier d .pairs)
+      go : (d : Dec (Nonsingular P g S earlier)) → Nonsingular P g S (remove-last P g S e earlier d .pairs)
       go (yes J) = J
       go (no _) = I
 
-  pub run-regular : (pairs : Pairs) (calls : List Call) → Regular P g S pairs → Regular P g S (run P g S pairs calls .pairs)
+  pub run-nonsingular : (pairs : Pairs) (calls : List Call) → Nonsingular P g S pairs → Nonsingular P g S (run P g S pairs calls .pairs)
   unfolding run
-  run-regular pairs [] I = I
-  run-regular pairs (c ∷ calls) I = run-regular (step P g S pairs c .pairs) calls (step-regular pairs c I)
+  run-nonsingular pairs [] I = I
+  run-nonsingular pairs (c ∷ calls) I = run-nonsingular (step P g S pairs c .pairs) calls (step-nonsingular pairs c I)
 
   -- an automatic pick leaves two vertices fewer
   fewer : (pairs : Pairs) (c r : ℕ) → Lowest pairs c r
-      → count (g .n) (unmatched S pairs) ≡ suc (suc (count (g .n) (unmatched S (couple c r ∷ pairs))))
+      → count (g .n) (unmatched S pairs) ≡ suc (suc (count (g .n) (unmatched S (pair-of c r ∷ pairs))))
   fewer pairs c r L =
       let a = L .allowed in
       count-without (g .n) (unmatched-without pairs c r (a .named .2) (a .a-left) (a .b-left)) (a .named .0) (a .named .1)
@@ -212,37 +212,37 @@ module _ {p : ℕ} (P : OddPrime p) (g : Graph) (S : Subset) where
       not-in i d (outside o) = o
 
   -- picks to come are half of the vertices left, and no other number is
-  pub picks-to-come : (m : ℕ) (pairs : Pairs) → Regular P g S pairs → count (g .n) (unmatched S pairs) ≡ m + m → PicksToCome P g S pairs m
+  pub picks-to-come : (m : ℕ) (pairs : Pairs) → Nonsingular P g S pairs → count (g .n) (unmatched S pairs) ≡ m + m → PicksToCome P g S pairs m
   picks-to-come zero pairs I e = go (automatic-cases pairs I)
     where
       go : Automatic pairs → PicksToCome P g S pairs 0
-      go (none-left h t) = stopped {k = 11} {x = 0} (ap (λ s. s .answer) t)
+      go (none-left h t) = stopped {r = because 11 0} (ap (λ s. s .answer) t)
       go (picks c r L) = absurd (omega (arith, fewer pairs c r L))
   picks-to-come (suc m) pairs I e = go (automatic-cases pairs I) (λ q J f. picks-to-come m q J f)
     where
-      go : Automatic pairs → ((q : Pairs) → Regular P g S q → count (g .n) (unmatched S q) ≡ m + m → PicksToCome P g S q m)
+      go : Automatic pairs → ((q : Pairs) → Nonsingular P g S q → count (g .n) (unmatched S q) ≡ m + m → PicksToCome P g S q m)
           → PicksToCome P g S pairs (suc m)
       go (none-left h t) _ = absurd (omega (arith, none-counted pairs h))
       go (picks c r L) next =
-          let rest : PicksToCome P g S (couple c r ∷ pairs) m =
-          next (couple c r ∷ pairs) (L .allowed .regular) (omega (arith, fewer pairs c r L)) in
-          picked {m = m} {e = couple c r} (ap (λ s. s .answer) (L .taken)) (rw (L .taken) rest)
+          let rest : PicksToCome P g S (pair-of c r ∷ pairs) m =
+          next (pair-of c r ∷ pairs) (L .allowed .nonsingular) (omega (arith, fewer pairs c r L)) in
+          picked {m = m} {e = pair-of c r} (ap (λ s. s .answer) (L .taken)) (rw (L .taken) rest)
 
-  pub unlike : {a : Answer} {q : Pair} {k x : ℕ} → a ≡ done q → a ≡ denied k x → ⊥
+  pub unlike : {a : Answer} {q : Pair} {r : Refusal} → a ≡ done q → a ≡ denied r → ⊥
   unlike u w = let z : _≡_ {A = ℕ} 0 1 = cc in omega arith
 
-  pub picks-to-come-half : (m : ℕ) (pairs : Pairs) → Regular P g S pairs → PicksToCome P g S pairs m → count (g .n) (unmatched S pairs) ≡ m + m
-  picks-to-come-half m pairs I (stopped {k = k} {x = x} e) = go (automatic-cases pairs I)
+  pub picks-to-come-half : (m : ℕ) (pairs : Pairs) → Nonsingular P g S pairs → PicksToCome P g S pairs m → count (g .n) (unmatched S pairs) ≡ m + m
+  picks-to-come-half m pairs I (stopped {r = why} e) = go (automatic-cases pairs I)
     where
       go : Automatic pairs → count (g .n) (unmatched S pairs) ≡ 0
       go (none-left h t) = none-counted pairs h
-      go (picks c r L) = absurd (unlike {k = k} {x = x} (ap (λ s. s .answer) (L .taken)) e)
+      go (picks c r L) = absurd (unlike {r = why} (ap (λ s. s .answer) (L .taken)) e)
   picks-to-come-half (suc m) pairs I (picked {e = e} a rest) =
-      go (automatic-cases pairs I) (picks-to-come-half m (step P g S pairs automatic .pairs) (step-regular pairs automatic I) rest)
+      go (automatic-cases pairs I) (picks-to-come-half m (step P g S pairs automatic .pairs) (step-nonsingular pairs automatic I) rest)
     where
       go : Automatic pairs → count (g .n) (unmatched S (step P g S pairs automatic .pairs)) ≡ m + m
           → count (g .n) (unmatched S pairs) ≡ suc m + suc m
       go (none-left h t) _ = absurd (unlike {q = e} a (ap (λ s. s .answer) t))
       go (picks c r L) k =
-          let k' : count (g .n) (unmatched S (couple c r ∷ pairs)) ≡ m + m = rw (L .taken) at k in
+          let k' : count (g .n) (unmatched S (pair-of c r ∷ pairs)) ≡ m + m = rw (L .taken) at k in
           omega (arith, fewer pairs c r L)

@@ -8,11 +8,11 @@ use native.Mathlib.Decide.{ℕ-discrete, decLt}
 use Rattle.modular.specs.Prime.{OddPrime}
 use Rattle.skew.specs.Choose.{choose, choose-yes, choose-no}
 use Rattle.skew.specs.Subset.{Subset, _∈_, _∉_, bit, remove, remove-same, remove-other}
-use Rattle.matching.specs.Decision.{Verdict, accepted, refused}
+use Rattle.matching.specs.Decision.{because, Ruling, accepted, refused}
 use Rattle.matching.specs.Graph.{Graph}
-use Rattle.matching.specs.Pairs.{Pair, couple, Pairs, unmatched}
-use Rattle.matching.specs.Model.{Call, pick, automatic, undo, done, denied, Step, Regular, regular?, Adjacent, pick-verdict, append, remove-last, step, run}
-use Rattle.laws.specs.Facts.{couple-smaller, couple-larger, Allowed, allowed-of-accepted, refused-place, Automatic, picks, none-left, automatic-cases, step-regular, run-regular}
+use Rattle.matching.specs.Pairs.{Pair, pair-of, Pairs, unmatched}
+use Rattle.matching.specs.Model.{Call, pick, automatic, undo, done, denied, Step, Nonsingular, nonsingular?, Adjacent, pick-ruling, append, remove-last, step, run}
+use Rattle.laws.specs.Facts.{pair-of-smaller, pair-of-larger, Allowed, allowed-of-accepted, refused-place, Automatic, picks, none-left, automatic-cases, step-nonsingular, run-nonsingular}
 
 -- how many of the pairs a vertex stands in
 unfoldable pub times : ℕ → Pairs → ℕ
@@ -26,7 +26,7 @@ pub record Fits {p : ℕ} (P : OddPrime p) (g : Graph) (S : Subset) (e : Pair) (
   pub below : e .larger < g .n
   pub smaller-left : e .smaller ∈ unmatched S earlier
   pub larger-left : e .larger ∈ unmatched S earlier
-  pub adjacent : Adjacent P g S e
+  pub adjacent : Adjacent g e
 
 pub data Valid {p : ℕ} (P : OddPrime p) (g : Graph) (S : Subset) : Pairs → Type 0 where
   nil : Valid P g S []
@@ -34,21 +34,21 @@ pub data Valid {p : ℕ} (P : OddPrime p) (g : Graph) (S : Subset) : Pairs → T
 
 -- what a call can make of the pairs
 pub data Change {p : ℕ} (P : OddPrime p) (g : Graph) (S : Subset) (pairs : Pairs) : Step → Type 0 where
-  appended : (e : Pair) → Fits P g S e pairs → Regular P g S (e ∷ pairs) → Change P g S pairs (record { answer = done e; pairs = e ∷ pairs })
-  removed : (e : Pair) (earlier : Pairs) → pairs ≡ e ∷ earlier → Regular P g S earlier → Change P g S pairs (record { answer = done e; pairs = earlier })
-  unchanged : (k : ℕ) → Change P g S pairs (record { answer = denied k 0; pairs = pairs })
+  appended : (e : Pair) → Fits P g S e pairs → Nonsingular P g S (e ∷ pairs) → Change P g S pairs (record { answer = done e; pairs = e ∷ pairs })
+  removed : (e : Pair) (earlier : Pairs) → pairs ≡ e ∷ earlier → Nonsingular P g S earlier → Change P g S pairs (record { answer = done e; pairs = earlier })
+  unchanged : (k : ℕ) → Change P g S pairs (record { answer = denied (because k 0); pairs = pairs })
 
 module _ {p : ℕ} (P : OddPrime p) (g : Graph) (S : Subset) where
-  pub fits : (pairs : Pairs) (a b : ℕ) → Allowed P g S pairs a b → Fits P g S (couple a b) pairs
+  pub fits : (pairs : Pairs) (a b : ℕ) → Allowed P g S pairs a b → Fits P g S (pair-of a b) pairs
   fits pairs a b h = go (decLt a b) (decLt b a) (h .adjacent)
     where
-      go : Dec (a < b) → Dec (b < a) → Adjacent P g S (couple a b) → Fits P g S (couple a b) pairs
+      go : Dec (a < b) → Dec (b < a) → Adjacent g (pair-of a b) → Fits P g S (pair-of a b) pairs
       go (yes l) _ k =
-          rw (couple-smaller a b l)
-          (record { ordered = l; below = h .named .1; smaller-left = h .a-left; larger-left = h .b-left; adjacent = rw (couple-smaller a b l) at k })
+          rw (pair-of-smaller a b l)
+          (record { ordered = l; below = h .named .1; smaller-left = h .a-left; larger-left = h .b-left; adjacent = rw (pair-of-smaller a b l) at k })
       go (no _) (yes l) k =
-          rw (couple-larger a b l)
-          (record { ordered = l; below = h .named .0; smaller-left = h .b-left; larger-left = h .a-left; adjacent = rw (couple-larger a b l) at k })
+          rw (pair-of-larger a b l)
+          (record { ordered = l; below = h .named .0; smaller-left = h .b-left; larger-left = h .a-left; adjacent = rw (pair-of-larger a b l) at k })
       go (no d) (no e) k = absurd (h .named .2 (omega arith))
 
   -- a vertex of the set that is left stands in no pair, every other in exactly one
@@ -85,23 +85,23 @@ module _ {p : ℕ} (P : OddPrime p) (g : Graph) (S : Subset) where
           )
 
   -- every call appends one pair, removes the newest, or changes nothing
-  pub change : (pairs : Pairs) (c : Call) → Regular P g S pairs → Change P g S pairs (step P g S pairs c)
+  pub change : (pairs : Pairs) (c : Call) → Nonsingular P g S pairs → Change P g S pairs (step P g S pairs c)
   unfolding step
-  change pairs (pick a b) I = go (pick-verdict P g S pairs a b) refl
+  change pairs (pick a b) I = go (pick-ruling P g S pairs a b) refl
     where
-      go : (v : Verdict) → pick-verdict P g S pairs a b ≡ v → Change P g S pairs (append P g S pairs (couple a b) v)
+      go : (v : Ruling) → pick-ruling P g S pairs a b ≡ v → Change P g S pairs (append P g S pairs (pair-of a b) v)
       go accepted e =
-          let h = allowed-of-accepted P g S pairs a b (rw e tt) in appended (couple a b) (fits pairs a b h) (h .regular)
-      go (refused k x) e = rw (refused-place P g S pairs a b {k = k} e) (unchanged k)
+          let h = allowed-of-accepted P g S pairs a b (rw e tt) in appended (pair-of a b) (fits pairs a b h) (h .nonsingular)
+      go (refused r) e = let q : r ≡ because (r .cause) 0 = rw (← refused-place P g S pairs a b {r = r} e) in rw q (unchanged (r .cause))
   change pairs automatic I = go (automatic-cases P g S pairs I)
     where
       go : Automatic P g S pairs → Change P g S pairs (step P g S pairs automatic)
-      go (picks c r L) = rw (L .taken) (appended (couple c r) (fits pairs c r (L .allowed)) (L .allowed .regular))
+      go (picks c r L) = rw (L .taken) (appended (pair-of c r) (fits pairs c r (L .allowed)) (L .allowed .nonsingular))
       go (none-left _ e) = rw e (unchanged 11)
   change [] undo I = unchanged 11
-  change (e ∷ earlier) undo I = go (regular? P g S earlier)
+  change (e ∷ earlier) undo I = go (nonsingular? P g S earlier)
     where
-      go : (d : Dec (Regular P g S earlier)) → Change P g S (e ∷ earlier) (remove-last P g S e earlier d)
+      go : (d : Dec (Nonsingular P g S earlier)) → Change P g S (e ∷ earlier) (remove-last P g S e earlier d)
       go (yes J) = removed e earlier refl J
       go (no _) = unchanged 10
 
@@ -114,11 +114,11 @@ module _ {p : ℕ} (P : OddPrime p) (g : Graph) (S : Subset) where
   change-valid pairs _ (unchanged k) v = v
 
   -- after any list of calls the pairs are valid
-  pub run-valid : (pairs : Pairs) (calls : List Call) → Regular P g S pairs → Valid P g S pairs → Valid P g S (run P g S pairs calls .pairs)
+  pub run-valid : (pairs : Pairs) (calls : List Call) → Nonsingular P g S pairs → Valid P g S pairs → Valid P g S (run P g S pairs calls .pairs)
   unfolding run
   run-valid pairs [] I v = v
   run-valid pairs (c ∷ calls) I v =
-      run-valid (step P g S pairs c .pairs) calls (step-regular P g S pairs c I) (change-valid pairs _ (change pairs c I) v)
+      run-valid (step P g S pairs c .pairs) calls (step-nonsingular P g S pairs c I) (change-valid pairs _ (change pairs c I) v)
 
   -- when no vertex of the set is left, each stands in exactly one pair
   pub perfect : (pairs : Pairs) → Valid P g S pairs → (v : ℕ) → v ∈ S → v ∉ unmatched S pairs → times v pairs ≡ 1
@@ -173,16 +173,16 @@ module _ {p : ℕ} (P : OddPrime p) (g : Graph) (S : Subset) where
   }
   account calls c _ q (appended x _ _) h (y ∷ more) e earlier w = later c (h more e earlier (tails w))
 
-  accounted : (calls rest : List Call) → Regular P g S [] → Accounted calls (run P g S [] calls .pairs)
+  accounted : (calls rest : List Call) → Nonsingular P g S [] → Accounted calls (run P g S [] calls .pairs)
       → Accounted (calls ++ rest) (run P g S [] (calls ++ rest) .pairs)
   accounted calls [] I h = rw append-nil h
   accounted calls (c ∷ rest) I h =
       rw (← append-assoc calls (c ∷ []) rest)
       (accounted (calls ++ c ∷ []) rest I
-      (rw (run-append [] calls c) (account calls c _ refl (change _ c (run-regular P g S [] calls I)) h)))
+      (rw (run-append [] calls c) (account calls c _ refl (change _ c (run-nonsingular P g S [] calls I)) h)))
 
   -- where the newest pair is e, a call of the list appended it to what a take-back gives back
-  pub undo-restores : (calls : List Call) (e : Pair) (earlier : Pairs) → Regular P g S [] → run P g S [] calls .pairs ≡ e ∷ earlier
+  pub undo-restores : (calls : List Call) (e : Pair) (earlier : Pairs) → Nonsingular P g S [] → run P g S [] calls .pairs ≡ e ∷ earlier
       → Appended calls e earlier
   unfolding run
   undo-restores calls e earlier I w = accounted [] calls I (λ more e earlier w. absurd (no-cons e earlier more w)) [] e earlier w

@@ -6,11 +6,13 @@ use Prim.Native.Nat.{ℕ, _*_, _/_, _%_, _≤_, _<_}
 use native.Mathlib.Omega.{arith}
 use native.Mathlib.Decide.{ℕ-discrete, decLt}
 use lib.ListN.{length, getD}
+use Rattle.skew.specs.Subset.{Subset}
 use Rattle.matching.specs.Decision.{Every, not?, both?, First, nowhere, first-at, first?, Finding, absent, at, when, found, Cause, accepted, judge, unless}
-use Rattle.matching.specs.Graph.{Graph, largest, couples, fault, Faulty, Outside}
-use Rattle.matching.specs.Session.{InverseTable, WellFormed, left}
+use Rattle.matching.specs.Graph.{Graph, largest, pair-count, fault, Faulty, Outside}
+use Rattle.matching.specs.Session.{InverseTable, WellFormed}
+use Rattle.matching.specs.Pairs.{Pairs, unmatched, pairs-on}
 use Rattle.matching.specs.Decided.{inverse-table?, well-formed?}
-use Rattle.matching.specs.Causes.{Lent, lent-to-opening, opening-causes, lent-to-session, session-causes, too-large, or, first-short, bad-cell, bad-weight, ill-formed, not-inverse, opening-verdict, session-verdict}
+use Rattle.matching.specs.Causes.{Lent, lent-to-opening, opening-causes, lent-to-session, session-causes, too-large, or, first-short, bad-cell, bad-weight, ill-formed, not-inverse, opening-ruling, session-ruling}
 
 clash : {A : Type 0} {x : ℕ} → at x ≡ absent → A
 clash e = absurd (let z : _≡_ {A = ℕ} 0 1 = cc in omega arith)
@@ -59,7 +61,7 @@ short-absent (b ∷ later) = go (decLt (b .length) (b .needed)) (short-absent la
 pub record InOrder (p : ℕ) (g : Graph) : Type 0 where
   pub size : g .n ≤ largest
   pub cells : Every (g .n * g .n) (λ x. fault g (x / g .n) (x % g .n) ≡ 0)
-  pub weights : Every (couples (g .n)) (λ x. (0 < getD (g .weights) x 0) × (getD (g .weights) x 0 < p))
+  pub weights : Every (pair-count (g .n)) (λ x. (0 < getD (g .weights) x 0) × (getD (g .weights) x 0 < p))
 
 stable : {A : Type 0} → Dec A → ¬ ¬ A → A
 stable (yes a) _ = a
@@ -79,20 +81,20 @@ cells-ok g =
 in-range? : (p : ℕ) (g : Graph) (x : ℕ) → Dec ((0 < getD (g .weights) x 0) × (getD (g .weights) x 0 < p))
 in-range? p g x = both? (decLt 0 (getD (g .weights) x 0)) (decLt (getD (g .weights) x 0) p)
 
-weights-ok : (p : ℕ) (g : Graph) → (bad-weight p g .finding ≡ absent) ↔ Every (couples (g .n)) (λ x. (0 < getD (g .weights) x 0) × (getD (g .weights) x 0 < p))
+weights-ok : (p : ℕ) (g : Graph) → (bad-weight p g .finding ≡ absent) ↔ Every (pair-count (g .n)) (λ x. (0 < getD (g .weights) x 0) × (getD (g .weights) x 0 < p))
 unfolding bad-weight in-range?
 weights-ok p g =
-    let r = found-absent (first? (Outside g p) (couples (g .n)) (λ x. not? (in-range? p g x))) in
+    let r = found-absent (first? (Outside g p) (pair-count (g .n)) (λ x. not? (in-range? p g x))) in
     (λ e x l. stable (in-range? p g x) (r .0 e x l), λ h. r .1 (λ x l d. d (h x l)))
 
 -- opening is not refused exactly when the buffers are long enough and the graph is in order
-pub opening-accepted : (p : ℕ) (g : Graph) (inverse order witness work : List ℕ)
-    → (opening-verdict p g inverse order witness work ≡ accepted)
-    ↔ (LongEnough (lent-to-opening g inverse order witness work) × InOrder p g)
-unfolding opening-verdict
-opening-accepted p g inverse order witness work =
-    let r = judge-accepted (opening-causes p g (lent-to-opening g inverse order witness work)) in
-    let s = short-absent (lent-to-opening g inverse order witness work) in (
+pub opening-accepted : (p : ℕ) (g : Graph) (inverse sequence witness work : List ℕ)
+    → (opening-ruling p g inverse sequence witness work ≡ accepted)
+    ↔ (LongEnough (lent-to-opening g inverse sequence witness work) × InOrder p g)
+unfolding opening-ruling
+opening-accepted p g inverse sequence witness work =
+    let r = judge-accepted (opening-causes p g (lent-to-opening g inverse sequence witness work)) in
+    let s = short-absent (lent-to-opening g inverse sequence witness work) in (
       λ e.
           let a = r .0 e in (
             s .0 (a .1 .0),
@@ -102,20 +104,20 @@ opening-accepted p g inverse order witness work =
     )
 
 -- a sound session over a graph in order
-pub record Sound (p : ℕ) (g : Graph) (made : ℕ) (inverse order : List ℕ) : Type 0 where
+pub record Sound (p : ℕ) (g : Graph) (S : Subset) (made : ℕ) (inverse sequence : List ℕ) : Type 0 where
   pub in-order : InOrder p g
-  pub well-formed : WellFormed g made order
-  pub as-defined : InverseTable p g (left order made) inverse
+  pub well-formed : WellFormed g made sequence
+  pub as-defined : InverseTable p g (unmatched S (pairs-on sequence made)) inverse
 
-pub session-accepted : (p : ℕ) (g : Graph) (made : ℕ) (inverse order : List ℕ) (more : List Lent)
-    → (session-verdict p g made inverse order more ≡ accepted)
-    ↔ (LongEnough (lent-to-session g inverse order more) × Sound p g made inverse order)
-unfolding session-verdict ill-formed not-inverse
-session-accepted p g made inverse order more =
-    let r = judge-accepted (session-causes p g made inverse order (lent-to-session g inverse order more)) in
-    let s = short-absent (lent-to-session g inverse order more) in
-    let w = unless-absent (well-formed? g made order) 0 in
-    let h = unless-absent (inverse-table? p g (left order made) inverse) 0 in (
+pub session-accepted : (p : ℕ) (g : Graph) (S : Subset) (made : ℕ) (inverse sequence : List ℕ) (more : List Lent)
+    → (session-ruling p g S made inverse sequence more ≡ accepted)
+    ↔ (LongEnough (lent-to-session g inverse sequence more) × Sound p g S made inverse sequence)
+unfolding session-ruling ill-formed not-inverse
+session-accepted p g S made inverse sequence more =
+    let r = judge-accepted (session-causes p g S made inverse sequence (lent-to-session g inverse sequence more)) in
+    let s = short-absent (lent-to-session g inverse sequence more) in
+    let w = unless-absent (well-formed? g made sequence) 0 in
+    let h = unless-absent (inverse-table? p g (unmatched S (pairs-on sequence made)) inverse) 0 in (
       λ e.
           let a = r .0 e in (
             s .0 (a .1 .0),

@@ -4,9 +4,10 @@ use mathlib.Core.List.{List, [], _∷_}
 use Prim.Native.Nat.{ℕ, _*_, _/_, _%_}
 use native.Mathlib.Decide.{ℕ-discrete, decLt}
 use lib.ListN.{length, getD}
-use Rattle.matching.specs.Decision.{both?, not?, Finding, absent, at, when, found, first?, Cause, Verdict, judge}
-use Rattle.matching.specs.Graph.{Graph, largest, couples, fault, Faulty, Outside}
-use Rattle.matching.specs.Session.{left}
+use Rattle.skew.specs.Subset.{Subset}
+use Rattle.matching.specs.Decision.{both?, not?, Finding, absent, at, when, found, first?, Cause, Ruling, judge}
+use Rattle.matching.specs.Graph.{Graph, largest, pair-count, fault, Faulty, Outside}
+use Rattle.matching.specs.Pairs.{unmatched, pairs-on}
 use Rattle.matching.specs.Decided.{inverse-table?, well-formed?}
 
 -- a lent buffer: its number in the table, how long it is, and how much of it the call needs
@@ -19,14 +20,14 @@ abbrev pub adjacency-of : Graph → Lent
 adjacency-of g = record { number = 1; length = length (g .adjacency); needed = g .n * g .n }
 
 abbrev pub weights-of : Graph → Lent
-weights-of g = record { number = 2; length = length (g .weights); needed = couples (g .n) }
+weights-of g = record { number = 2; length = length (g .weights); needed = pair-count (g .n) }
 
 -- numbers 3 inverse (held), 4 order (strip), 5 witness, 6 work, 7 row
 abbrev pub inverse-of : ℕ → List ℕ → Lent
 inverse-of n inverse = record { number = 3; length = length inverse; needed = n * n }
 
-abbrev pub order-of : ℕ → List ℕ → Lent
-order-of n order = record { number = 4; length = length order; needed = n }
+abbrev pub sequence-of : ℕ → List ℕ → Lent
+sequence-of n sequence = record { number = 4; length = length sequence; needed = n }
 
 abbrev pub witness-of : ℕ → List ℕ → Lent
 witness-of n witness = record { number = 5; length = length witness; needed = n }
@@ -64,26 +65,26 @@ unfoldable pub bad-weight : ℕ → Graph → Cause
 unfolding first? decLt
 bad-weight p g = record {
   number = 4;
-  finding = found (first? (Outside g p) (couples (g .n)) (λ x. not? (both? (decLt 0 (getD (g .weights) x 0)) (decLt (getD (g .weights) x 0) p))));
+  finding = found (first? (Outside g p) (pair-count (g .n)) (λ x. not? (both? (decLt 0 (getD (g .weights) x 0)) (decLt (getD (g .weights) x 0) p))));
 }
 
 -- 5: the session not well formed
 unfoldable pub ill-formed : Graph → ℕ → List ℕ → Cause
 unfolding well-formed?
-ill-formed g made order = record { number = 5; finding = when (not? (well-formed? g made order)) 0 }
+ill-formed g made sequence = record { number = 5; finding = when (not? (well-formed? g made sequence)) 0 }
 
 -- 6: the inverse (held) not as defined, or no inverse for the vertices left
-unfoldable pub not-inverse : ℕ → Graph → ℕ → List ℕ → List ℕ → Cause
+unfoldable pub not-inverse : ℕ → Graph → Subset → List ℕ → Cause
 unfolding inverse-table?
-not-inverse p g made order inverse = record { number = 6; finding = when (not? (inverse-table? p g (left order made) inverse)) 0 }
+not-inverse p g L inverse = record { number = 6; finding = when (not? (inverse-table? p g L inverse)) 0 }
 
 -- what opening is lent, and what it looks at: 1 to 4
-abbrev pub lent-to-opening : Graph → (inverse order witness work : List ℕ) → List Lent
-lent-to-opening g inverse order witness work =
+abbrev pub lent-to-opening : Graph → (inverse sequence witness work : List ℕ) → List Lent
+lent-to-opening g inverse sequence witness work =
     adjacency-of g
     ∷ weights-of g
     ∷ inverse-of (g .n) inverse
-    ∷ order-of (g .n) order
+    ∷ sequence-of (g .n) sequence
     ∷ witness-of (g .n) witness
     ∷ work-of (g .n) work
     ∷ []
@@ -91,25 +92,25 @@ lent-to-opening g inverse order witness work =
 abbrev pub opening-causes : ℕ → Graph → List Lent → List Cause
 opening-causes p g buffers = too-large (g .n) ∷ too-short buffers ∷ bad-cell g ∷ bad-weight p g ∷ []
 
-unfoldable pub opening-verdict : ℕ → Graph → (inverse order witness work : List ℕ) → Verdict
+unfoldable pub opening-ruling : ℕ → Graph → (inverse sequence witness work : List ℕ) → Ruling
 unfolding bad-cell bad-weight
-opening-verdict p g inverse order witness work = judge (opening-causes p g (lent-to-opening g inverse order witness work))
+opening-ruling p g inverse sequence witness work = judge (opening-causes p g (lent-to-opening g inverse sequence witness work))
 
 -- what every session call is lent, and what it looks at first: 1 to 6, whether the session is sound
-abbrev pub lent-to-session : Graph → (inverse order : List ℕ) → List Lent → List Lent
-lent-to-session g inverse order more = adjacency-of g ∷ weights-of g ∷ inverse-of (g .n) inverse ∷ order-of (g .n) order ∷ more
+abbrev pub lent-to-session : Graph → (inverse sequence : List ℕ) → List Lent → List Lent
+lent-to-session g inverse sequence more = adjacency-of g ∷ weights-of g ∷ inverse-of (g .n) inverse ∷ sequence-of (g .n) sequence ∷ more
 
-abbrev pub session-causes : ℕ → Graph → ℕ → (inverse order : List ℕ) → List Lent → List Cause
-session-causes p g made inverse order buffers =
+abbrev pub session-causes : ℕ → Graph → Subset → ℕ → (inverse sequence : List ℕ) → List Lent → List Cause
+session-causes p g S made inverse sequence buffers =
     too-large (g .n)
     ∷ too-short buffers
     ∷ bad-cell g
     ∷ bad-weight p g
-    ∷ ill-formed g made order
-    ∷ not-inverse p g made order inverse
+    ∷ ill-formed g made sequence
+    ∷ not-inverse p g (unmatched S (pairs-on sequence made)) inverse
     ∷ []
 
-unfoldable pub session-verdict : ℕ → Graph → ℕ → (inverse order : List ℕ) → List Lent → Verdict
+unfoldable pub session-ruling : ℕ → Graph → Subset → ℕ → (inverse sequence : List ℕ) → List Lent → Ruling
 unfolding bad-cell bad-weight ill-formed not-inverse
-session-verdict p g made inverse order more =
-    judge (session-causes p g made inverse order (lent-to-session g inverse order more))
+session-ruling p g S made inverse sequence more =
+    judge (session-causes p g S made inverse sequence (lent-to-session g inverse sequence more))

@@ -4,18 +4,20 @@ use mathlib.Core.List.{List, [], _∷_, _++_}
 use Prim.Native.Nat.{ℕ, _*_, _<_}
 use native.Mathlib.Decide.{decLt}
 use lib.ListN.{length, getD, take, replicate}
-use Rattle.modular.specs.Primes.{prime-65521}
+use Rattle.residue.specs.Modulus.{modulus, modulus-prime}
 use Rattle.skew.specs.Decide.{first-dependent?}
-use Rattle.matching.specs.Decision.{every?, accepted, refused}
-use Rattle.matching.specs.Graph.{Graph, couples, tutte}
+use Rattle.matching.specs.Decision.{Refusal, because, every?, accepted, refused}
+use Rattle.matching.specs.Graph.{Graph, pair-count, tutte}
 use Rattle.matching.specs.Pairs.{Pair, everything, unmatched}
-use Rattle.matching.specs.Model.{Call, automatic, Answer, denied, skew, regular?, step, run, PicksToCome}
-use Rattle.matching.specs.Session.{InverseTable, vector}
+use Rattle.matching.specs.Session.{Session, session, InverseTable, vector, onto}
 use Rattle.matching.specs.Decided.{inverse-table?, witness?}
-use Rattle.matching.specs.Opening.{opened, dependent, not-opened, Buffers, Opens, opens, refuses-opening, depends, with-inverse, with-witness, verdict}
-use Rattle.matching.specs.Calls.{State, sound, graph-of, pairs-of, Handles, unsound, refuses}
-use Rattle.matching.specs.Records.{Reading, sheet, unread, read, cells, graph}
-use Rattle.matching.specs.Listing.{input-limit, first-line, pair-lines, verdict-full, refused-line, Lists, refuses-sheet, pairs-up}
+use Rattle.matching.specs.Opening.{Opening, opened, dependent, not-opened, Buffers, Singular, Opens, opens, refuses-opening, depends, with-inverse, with-witness, ruling}
+use Rattle.matching.specs.Display.{Part, display}
+use Rattle.matching.specs.Model.{Call, automatic, Answer, denied, skew, Nonsingular, nonsingular?, run, PicksToCome}
+use Rattle.matching.specs.Calls.{State, soundness, model-step, Handles, unsound, refuses, row-ruling, open-row, ShowsRow, shows}
+use Rattle.matching.specs.Records.{Reading, sheet, unread, read, cells, graph, Read, Fills}
+use Rattle.matching.specs.Listing.{input-limit, first-line, pair-lines, witness-lines, line-full, line-none, refused-line, Lists, refuses-sheet, pairs-up, shows-witness}
+use Rattle.matching.specs.Host.{opening-number, answer-number}
 
 -- n vertices with these edges and weights
 abbrev pub linked : ℕ → List Pair → List ℕ → Graph
@@ -26,69 +28,96 @@ edge a b = record { smaller = a; larger = b }
 
 -- every weight is 1
 abbrev pub ones : ℕ → List ℕ
-ones n = replicate (couples n) 1
+ones n = replicate (pair-count n) 1
 
--- what an example says
+-- edges 01, 02, 13 of four
+abbrev pub path : Graph
+path = linked 4 (edge 0 1 ∷ edge 0 2 ∷ edge 1 3 ∷ []) (ones 4)
+
+-- all six edges of four
+abbrev pub complete : Graph
+complete = linked 4 (edge 0 1 ∷ edge 0 2 ∷ edge 0 3 ∷ edge 1 2 ∷ edge 1 3 ∷ edge 2 3 ∷ []) (ones 4)
+
+-- edges 01, 12, 23, 03, with 65520 as the weight of 12
+abbrev pub ring : Graph
+ring = linked 4 (edge 0 1 ∷ edge 1 2 ∷ edge 2 3 ∷ edge 0 3 ∷ []) (1 ∷ 1 ∷ 1 ∷ 65520 ∷ 1 ∷ 1 ∷ [])
+
 pub data Claim : Type 0 where
   -- opening gives this inverse
   opening : Graph → List ℕ → Claim
   -- opening gives this witness, with its column
   witness : Graph → ℕ → List ℕ → Claim
-  -- calls on the opened session give these answers
+  -- opening is refused
+  not-opening : Graph → Buffers → Refusal → Claim
+  -- the plain model gives these answers, from no pairs on
+  model : Graph → List Call → List Answer → Claim
+  -- the same on a graph that opens
   answers : Graph → List Call → List Answer → Claim
-  -- after the calls inverse is this
+  -- a graph that opens, and the inverse after the calls
   afterwards : Graph → List Call → List ℕ → Claim
   -- this session is sound, and the call on it is refused
-  by-hand : State → List ℕ → List ℕ → Call → ℕ → Claim
-  -- opening is refused with this cause and place
-  not-opening : Graph → Buffers → ℕ → ℕ → Claim
-  -- this session is not sound: the call on it is refused with this cause and place
-  spoiled : State → List ℕ → List ℕ → Call → ℕ → ℕ → Claim
+  by-hand : State → Graph → Call → Refusal → Claim
+  -- this session is not sound, and the call on it is refused
+  spoiled : State → Graph → Call → Refusal → Claim
+  -- the open row of a vertex, and the row buffer before and after
+  row : State → Graph → ℕ → List ℕ → List ℕ → Claim
+  -- the part that is displayed
+  displayed : ℕ → List ℕ → List ℕ → Part → Claim
   -- these bytes are read so
   reads : List ℕ → Reading → Claim
-  -- this input is listed so, after so many picks
-  lists : List ℕ → List ℕ → ℕ → Claim
-  -- this input is refused, and listed so
-  lists-refusal : List ℕ → List ℕ → ℕ → ℕ → Claim
+  -- this input opens, is paired up in so many picks, and is listed so
+  lists : List ℕ → ℕ → List ℕ → Claim
+  -- this input has this witness, and is listed so
+  lists-witness : List ℕ → ℕ → List ℕ → List ℕ → Claim
+  -- this input is refused, and is listed so
+  lists-refusal : List ℕ → Refusal → List ℕ → Claim
+  -- the host's number of an opening, and of an answer with the session after it
+  host-opening : Opening → ℕ → Claim
+  host-answer : Answer → Session → ℕ → Claim
 
 -- buffers of just the length that is needed, full of something else
 abbrev pub before : ℕ → Buffers
 before n =
-    record { inverse = replicate (n * n) 9; order = replicate n 9; witness = replicate n 9; work = replicate (n * n) 9 }
+    record { inverse = replicate (n * n) 9; sequence = replicate n 9; witness = replicate n 9; work = replicate (n * n) 9 }
 
 -- the same after an opening
 abbrev pub full : ℕ → List ℕ → List ℕ → Buffers
-full n inverse words = record { inverse = inverse; order = replicate n 255; witness = words; work = replicate (n * n) 0 }
+full n inverse words =
+    record { inverse = inverse; sequence = replicate n 255; witness = words; work = replicate (n * n) 0 }
+
+-- the adjacency table and the weights of the graph are lent to a session
+abbrev sound : State → Graph → Type 0
+sound s g = soundness modulus-prime (g .adjacency) (g .weights) everything s [] ≡ accepted
 
 unfoldable pub Holds : Claim → Type 0
-Holds (opening g inverse) = Opens 65521 g (before (g .n)) opened (full (g .n) inverse (replicate (g .n) 0))
+Holds (opening g inverse) =
+    Opens modulus g everything (before (g .n)) (opened (session (g .n) [])) (full (g .n) inverse (replicate (g .n) 0))
 Holds (witness g f words) =
-    Opens 65521 g (before (g .n)) (dependent f) (full (g .n) (replicate (g .n * g .n) 0) words)
-Holds (answers g calls given) = run prime-65521 g everything [] calls .answers ≡ given
-Holds (afterwards g calls inverse) = InverseTable 65521 g (unmatched everything (run prime-65521 g everything [] calls .pairs)) inverse
-Holds (by-hand s adjacency weights c k) = Handles prime-65521 adjacency weights s c (denied k 0) s
-Holds (not-opening g b k x) = Opens 65521 g b (not-opened k x) b
-Holds (spoiled s adjacency weights c k x) = Handles prime-65521 adjacency weights s c (denied k x) s
+    Opens modulus g everything (before (g .n)) (dependent f) (full (g .n) (replicate (g .n * g .n) 0) words)
+Holds (not-opening g b r) = Opens modulus g everything b (not-opened r) b
+Holds (model g calls given) = run modulus-prime g everything [] calls .answers ≡ given
+Holds (answers g calls given) = Nonsingular modulus-prime g everything [] × (run modulus-prime g everything [] calls .answers ≡ given)
+Holds (afterwards g calls inverse) =
+    Nonsingular modulus-prime g everything []
+    × (length inverse ≡ g .n * g .n)
+    × InverseTable modulus g (unmatched everything (run modulus-prime g everything [] calls .pairs)) inverse
+Holds (by-hand s g c r) = sound s g × Handles modulus-prime (g .adjacency) (g .weights) everything s c (denied r) s
+Holds (spoiled s g c r) =
+    (soundness modulus-prime (g .adjacency) (g .weights) everything s [] ≡ refused r)
+    × Handles modulus-prime (g .adjacency) (g .weights) everything s c (denied r) s
+Holds (row s g a old new) = ShowsRow modulus-prime (g .adjacency) (g .weights) everything s a old accepted (s .session) new
+Holds (displayed n inverse words part) = display n inverse words ≡ part
 Holds (reads bytes r) = read bytes ≡ r
-Holds (lists input text m) = Lists input text
-Holds (lists-refusal input text k x) = Lists input text
+Holds (lists input m text) = Lists input text
+Holds (lists-witness input f words text) = Lists input text
+Holds (lists-refusal input r text) = Lists input text
+Holds (host-opening o k) = opening-number o ≡ k
+Holds (host-answer a s k) = answer-number a s ≡ k
 
 -- every claim of a list
 abbrev pub All : (Claim → Type 0) → List Claim → Type 0
 All P [] = Unit {0}
 All P (c ∷ rest) = P c × All P rest
-
--- links 01, 02, 13 of four
-abbrev pub path : Graph
-path = linked 4 (edge 0 1 ∷ edge 0 2 ∷ edge 1 3 ∷ []) (ones 4)
-
--- all six links of four
-abbrev pub complete : Graph
-complete = linked 4 (edge 0 1 ∷ edge 0 2 ∷ edge 0 3 ∷ edge 1 2 ∷ edge 1 3 ∷ edge 2 3 ∷ []) (ones 4)
-
--- links 01, 12, 23, 03 with one weight turned
-abbrev pub ring : Graph
-ring = linked 4 (edge 0 1 ∷ edge 1 2 ∷ edge 2 3 ∷ edge 0 3 ∷ []) (1 ∷ 1 ∷ 1 ∷ 65520 ∷ 1 ∷ 1 ∷ [])
 
 -- a decision that computes to yes
 abbrev pub IsYes : {A : Type 0} → Dec A → Type 0
@@ -99,66 +128,109 @@ pub decided : {A : Type 0} (d : Dec A) → IsYes d → A
 decided (yes a) _ = a
 decided (no _) t = absurd t
 
--- a sheet that opens, is emptied by m picks, and is listed so
-unfoldable pub Listed : Reading → List ℕ → ℕ → Type 0
-Listed (unread k x) text m = ⊥
-Listed (sheet n s edges) text m =
-    IsYes (regular? prime-65521 (graph n s edges) everything [])
-    × PicksToCome prime-65521 (graph n s edges) everything [] m
-    × (first-line n (length edges) ++ pair-lines (run prime-65521 (graph n s edges) everything [] (replicate m automatic) .pairs) ++ verdict-full ≡ text)
-
-listed : (input text : List ℕ) (m : ℕ) (r : Reading) → read (take input-limit input) ≡ r → Listed r text m → Lists input text
-unfolding Listed unmatched graph
-listed input text m (unread k x) q e = absurd e
-listed input text m (sheet n s edges) q e =
-    let I = decided (regular? prime-65521 (graph n s edges) everything []) (e .0) in
-    subst (λ (t : List ℕ). Lists input t) (e .2) (pairs-up n s edges m q I (e .1))
-
 -- what computing shows of each kind of claim, and that it is enough
+unfoldable pub ShownSingular : Graph → ℕ → List ℕ → Type 0
+ShownSingular g f words =
+    IsYes (every? (λ x. getD words x 0 < modulus) (g .n) (λ x. decLt (getD words x 0) modulus))
+    × IsYes (first-dependent? modulus-prime (g .n) (tutte g modulus) (skew modulus-prime g everything) everything f)
+    × IsYes (witness? modulus (g .n) (tutte g modulus) everything f (vector words))
+
+singular : (g : Graph) (f : ℕ) (words : List ℕ) → ShownSingular g f words → Singular modulus g everything f words
+unfolding ShownSingular
+singular g f words e = record {
+  small = decided (every? _ (g .n) (λ x. decLt (getD words x 0) modulus)) (e .0);
+  first = decided (first-dependent? modulus-prime (g .n) (tutte g modulus) (skew modulus-prime g everything) everything f) (e .1);
+  kernel = decided (witness? modulus (g .n) (tutte g modulus) everything f (vector words)) (e .2);
+}
+
+unfoldable pub ShownListed : Reading → ℕ → List ℕ → Type 0
+ShownListed (unread r) m text = ⊥
+ShownListed (sheet n weights edges) m text =
+    IsYes (nonsingular? modulus-prime (graph n weights edges) everything [])
+    × PicksToCome modulus-prime (graph n weights edges) everything [] m
+    × (first-line n (length edges) ++ pair-lines (run modulus-prime (graph n weights edges) everything [] (replicate m automatic) .pairs) ++ line-full ≡ text)
+
+listed : (input : List ℕ) (m : ℕ) (text : List ℕ) (r : Reading) → read (take input-limit input) ≡ r → ShownListed r m text → Lists input text
+unfolding ShownListed
+listed input m text (unread r) q e = absurd e
+listed input m text (sheet n weights edges) q e =
+    subst (λ (t : List ℕ). Lists input t) (e .2)
+    (pairs-up n weights edges m q (decided (nonsingular? modulus-prime (graph n weights edges) everything []) (e .0)) (e .1))
+
+unfoldable pub ShownWitness : Reading → ℕ → List ℕ → List ℕ → Type 0
+ShownWitness (unread r) f words text = ⊥
+ShownWitness (sheet n weights edges) f words text =
+    (length words ≡ n)
+    × ShownSingular (graph n weights edges) f words
+    × (first-line n (length edges) ++ witness-lines 0 words ++ line-none ≡ text)
+
+listed-witness : (input : List ℕ) (f : ℕ) (words text : List ℕ) (r : Reading) → read (take input-limit input) ≡ r → ShownWitness r f words text
+    → Lists input text
+unfolding ShownWitness
+listed-witness input f words text (unread r) q e = absurd e
+listed-witness input f words text (sheet n weights edges) q e =
+    subst (λ (t : List ℕ). Lists input t) (e .2)
+    (shows-witness n weights edges f words q (e .0) (singular (graph n weights edges) f words (e .1)))
+
 unfoldable pub Shown : Claim → Type 0
 Shown (opening g inverse) =
-    (verdict 65521 g (before (g .n)) ≡ accepted)
+    (ruling modulus g (before (g .n)) ≡ accepted)
     × (length inverse ≡ g .n * g .n)
     × (with-inverse (g .n) inverse (before (g .n)) ≡ full (g .n) inverse (replicate (g .n) 0))
-    × IsYes (inverse-table? 65521 g everything inverse)
+    × IsYes (inverse-table? modulus g everything inverse)
 Shown (witness g f words) =
-    (verdict 65521 g (before (g .n)) ≡ accepted)
+    (ruling modulus g (before (g .n)) ≡ accepted)
     × (length words ≡ g .n)
     × (with-witness (g .n) words (before (g .n)) ≡ full (g .n) (replicate (g .n * g .n) 0) words)
-    × IsYes (every? (λ x. getD words x 0 < 65521) (g .n) (λ x. decLt (getD words x 0) 65521))
-    × IsYes (first-dependent? prime-65521 (g .n) (tutte g 65521) (skew prime-65521 g everything) everything f)
-    × IsYes (witness? 65521 (g .n) (tutte g 65521) everything f (vector words))
-Shown (answers g calls given) = run prime-65521 g everything [] calls .answers ≡ given
-Shown (afterwards g calls inverse) = IsYes (inverse-table? 65521 g (unmatched everything (run prime-65521 g everything [] calls .pairs)) inverse)
-Shown (by-hand s adjacency weights c k) =
-    (sound 65521 adjacency weights s ≡ accepted)
-    × (step prime-65521 (graph-of s adjacency weights) everything (pairs-of s) c .answer ≡ denied k 0)
-Shown (not-opening g b k x) = verdict 65521 g b ≡ refused k x
-Shown (spoiled s adjacency weights c k x) = sound 65521 adjacency weights s ≡ refused k x
+    × ShownSingular g f words
+Shown (not-opening g b r) = ruling modulus g b ≡ refused r
+Shown (model g calls given) = run modulus-prime g everything [] calls .answers ≡ given
+Shown (answers g calls given) =
+    IsYes (nonsingular? modulus-prime g everything []) × (run modulus-prime g everything [] calls .answers ≡ given)
+Shown (afterwards g calls inverse) =
+    IsYes (nonsingular? modulus-prime g everything [])
+    × (length inverse ≡ g .n * g .n)
+    × IsYes (inverse-table? modulus g (unmatched everything (run modulus-prime g everything [] calls .pairs)) inverse)
+Shown (by-hand s g c r) = sound s g × (model-step modulus-prime (g .adjacency) (g .weights) everything s c .answer ≡ denied r)
+Shown (spoiled s g c r) = soundness modulus-prime (g .adjacency) (g .weights) everything s [] ≡ refused r
+Shown (row s g a old new) =
+    (row-ruling modulus-prime (g .adjacency) (g .weights) everything s a old ≡ accepted)
+    × (onto (open-row modulus-prime (g .adjacency) (g .weights) everything s a) old ≡ new)
+Shown (displayed n inverse words part) = display n inverse words ≡ part
 Shown (reads bytes r) = read bytes ≡ r
-Shown (lists input text m) = Listed (read (take input-limit input)) text m
-Shown (lists-refusal input text k x) = (read (take input-limit input) ≡ unread k x) × (refused-line k x ≡ text)
+Shown (lists input m text) = ShownListed (read (take input-limit input)) m text
+Shown (lists-witness input f words text) = ShownWitness (read (take input-limit input)) f words text
+Shown (lists-refusal input r text) = (read (take input-limit input) ≡ unread r) × (refused-line r ≡ text)
+Shown (host-opening o k) = opening-number o ≡ k
+Shown (host-answer a s k) = answer-number a s ≡ k
 
 enough : (c : Claim) → Shown c → Holds c
 unfolding Shown Holds
 enough (opening g inverse) e =
-    subst (λ (b : Buffers). Opens 65521 g (before (g .n)) opened b) (e .2)
-    (opens inverse (e .0) (e .1) (decided (inverse-table? 65521 g everything inverse) (e .3)))
+    subst (λ (b : Buffers). Opens modulus g everything (before (g .n)) (opened (session (g .n) [])) b) (e .2)
+    (opens inverse (e .0) (e .1) (decided (inverse-table? modulus g everything inverse) (e .3)))
 enough (witness g f words) e =
-    subst (λ (b : Buffers). Opens 65521 g (before (g .n)) (dependent f) b) (e .2)
-    (depends f words (e .0) (e .1) (record {
-      small = decided (every? _ (g .n) (λ x. decLt (getD words x 0) 65521)) (e .3);
-      first = decided (first-dependent? prime-65521 (g .n) (tutte g 65521) (skew prime-65521 g everything) everything f) (e .4);
-      kernel = decided (witness? 65521 (g .n) (tutte g 65521) everything f (vector words)) (e .5);
-    }))
-enough (answers g calls given) e = e
-enough (afterwards g calls inverse) e = decided (inverse-table? 65521 g _ inverse) e
-enough (by-hand s adjacency weights c k) e = refuses k 0 (e .0) (e .1)
-enough (not-opening g b k x) e = refuses-opening k x e
-enough (spoiled s adjacency weights c k x) e = unsound k x e
+    subst (λ (b : Buffers). Opens modulus g everything (before (g .n)) (dependent f) b) (e .2)
+    (depends f words (e .0) (e .1) (singular g f words (e .3)))
+enough (not-opening g b r) e = refuses-opening r e
+enough (model g calls given) e = e
+enough (answers g calls given) e = (decided (nonsingular? modulus-prime g everything []) (e .0), e .1)
+enough (afterwards g calls inverse) e =
+    (decided (nonsingular? modulus-prime g everything []) (e .0), e .1, decided (inverse-table? modulus g _ inverse) (e .2))
+enough (by-hand s g c r) e = (e .0, refuses r (e .0) (e .1))
+enough (spoiled s g c r) e = (e, unsound r e)
+enough (row s g a old new) e =
+    subst
+    (λ (after : List ℕ).
+    ShowsRow modulus-prime (g .adjacency) (g .weights) everything s a old accepted (s .session) after)
+    (e .1) (shows (e .0))
+enough (displayed n inverse words part) e = e
 enough (reads bytes r) e = e
-enough (lists input text m) e = listed input text m (read (take input-limit input)) refl e
-enough (lists-refusal input text k x) e = subst (λ (t : List ℕ). Lists input t) (e .1) (refuses-sheet k x (e .0))
+enough (lists input m text) e = listed input m text (read (take input-limit input)) refl e
+enough (lists-witness input f words text) e = listed-witness input f words text (read (take input-limit input)) refl e
+enough (lists-refusal input r text) e = subst (λ (t : List ℕ). Lists input t) (e .1) (refuses-sheet r (e .0))
+enough (host-opening o k) e = e
+enough (host-answer a s k) e = e
 
 pub all : (claims : List Claim) → All Shown claims → All Holds claims
 all [] _ = tt

@@ -67,12 +67,12 @@ inverse-table? p g L inverse =
     map? (λ h. record { small = h .0; is-inverse = h .1 }) (λ h. (h .small, h .is-inverse))
     (both? (every? _ (g .n * g .n) (λ x. decLt (getD inverse x 0) p)) (inverse? p (g .n) (tutte g p) L (table (g .n) inverse)))
 
-unfoldable pub well-formed? : (g : Graph) (made : ℕ) (order : List ℕ) → Dec (WellFormed g made order)
+unfoldable pub well-formed? : (g : Graph) (made : ℕ) (sequence : List ℕ) → Dec (WellFormed g made sequence)
 unfolding every? decLe decLt ℕ-discrete
-well-formed? g made order = map? to from (both? few? (both? ordered? (both? below? (both? adjacent? (both? different? rest?)))))
+well-formed? g made sequence = map? to from (both? few? (both? ordered? (both? below? (both? adjacent? (both? different? rest?)))))
   where
     at : ℕ → ℕ
-    at x = getD order x 0
+    at x = getD sequence x 0
 
     few? : Dec (made + made ≤ g .n)
     few? = decLe (made + made) (g .n)
@@ -100,7 +100,7 @@ well-formed? g made order = map? to from (both? few? (both? ordered? (both? belo
         × (Every made (λ k. cell g (at (k + k)) (at (k + k + 1)) ≡ 1)
         × (Every (made + made) (λ y. Every y (λ x. at x ≢ at y)) × Every (g .n) (λ x. made + made ≤ x → at x ≡ unused)))))
 
-    to : Parts → WellFormed g made order
+    to : Parts → WellFormed g made sequence
     to h = record {
       few = h .0;
       ordered = h .1 .0;
@@ -110,7 +110,7 @@ well-formed? g made order = map? to from (both? few? (both? ordered? (both? belo
       rest = h .1 .1 .1 .1 .1;
     }
 
-    from : WellFormed g made order → Parts
+    from : WellFormed g made sequence → Parts
     from w = (w .few, (w .ordered, (w .below, (w .adjacent, (w .different, w .rest)))))
 
 unfoldable pub witness? : (p n : ℕ) (A : Matrix) (L : Subset) (f : ℕ) (w : Vector) → Dec (Witness p n A L f w)

@@ -77,14 +77,22 @@ abbrev pub found : {n : ℕ} {P : ℕ → Type 0} → First n P → Finding
 found (nowhere _) = absent
 found (first-at x _ _ _) = at x
 
--- a call is refused with a cause and a place, or none applies
-pub data Verdict : Type 0 where
-  accepted : Verdict
-  refused : ℕ → ℕ → Verdict
+-- why a call is refused: the number of the cause, and the place returned with it
+pub record Refusal : Type 0 where
+  pub cause : ℕ
+  pub place : ℕ
 
-abbrev pub unless : Finding → ℕ → Verdict → Verdict
+abbrev pub because : ℕ → ℕ → Refusal
+because k x = record { cause = k; place = x }
+
+-- a call is refused, or no cause applies
+pub data Ruling : Type 0 where
+  accepted : Ruling
+  refused : Refusal → Ruling
+
+abbrev pub unless : Finding → ℕ → Ruling → Ruling
 unless absent k v = v
-unless (at x) k v = refused k x
+unless (at x) k v = refused (because k x)
 
 -- a cause's number, and whether it applies
 pub record Cause : Type 0 where
@@ -92,14 +100,14 @@ pub record Cause : Type 0 where
   pub finding : Finding
 
 -- the first of the causes that applies, in the order in which a call looks at them
-abbrev pub judge : List Cause → Verdict
+abbrev pub judge : List Cause → Ruling
 judge [] = accepted
 judge (c ∷ later) = unless (c .finding) (c .number) (judge later)
 
-abbrev pub Accepted : Verdict → Type 0
+abbrev pub Accepted : Ruling → Type 0
 Accepted accepted = Unit {0}
-Accepted (refused k x) = ⊥
+Accepted (refused r) = ⊥
 
-abbrev pub accepted? : (v : Verdict) → Dec (Accepted v)
+abbrev pub accepted? : (v : Ruling) → Dec (Accepted v)
 accepted? accepted = yes tt
-accepted? (refused k x) = no (λ h. h)
+accepted? (refused r) = no (λ h. h)

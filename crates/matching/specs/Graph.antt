@@ -23,8 +23,8 @@ pub record Graph : Type 0 where
   pub weights : List ℕ
 
 -- how many two vertices there are: n(n - 1)/2
-abbrev pub couples : ℕ → ℕ
-couples n = n * (n - 1) / 2
+abbrev pub pair-count : ℕ → ℕ
+pair-count n = n * (n - 1) / 2
 
 module _ (g : Graph) where
   -- the adjacency table at row i, column j

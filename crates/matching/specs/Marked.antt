@@ -1,22 +1,29 @@
--- The marked sheets to try of document 01: one list, and one claim over it. Assumes nothing.
+-- The marked sheets to try of document 01, in its order: one list, and one claim over it. Assumes nothing.
 use mathlib.Core.Path.{refl}
 use mathlib.Core.List.{List, [], _∷_}
+use Prim.Native.Nat.{ℕ}
 use native.Mathlib.Decide.{decLt}
-use Rattle.modular.specs.Primes.{prime-65521}
+use lib.ListN.{replicate}
+use Rattle.draws.specs.Draws.{draws}
+use Rattle.residue.specs.Modulus.{modulus-prime}
 use Rattle.skew.specs.Decide.{first-dependent?}
-use Rattle.matching.specs.Decision.{every?}
-use Rattle.matching.specs.Graph.{tutte}
+use Rattle.matching.specs.Decision.{because, every?, first?}
+use Rattle.matching.specs.Graph.{Graph, tutte}
 use Rattle.matching.specs.Pairs.{unmatched, pairs-on}
-use Rattle.matching.specs.Model.{pick, automatic, undo, done, denied, step, run}
 use Rattle.matching.specs.Decided.{inverse-table?, witness?}
-use Rattle.matching.specs.Causes.{opening-verdict, session-verdict}
-use Rattle.matching.specs.Records.{cells}
-use Rattle.matching.specs.Claims.{linked, edge, ones, Claim, opening, witness, answers, afterwards, by-hand, Holds, All, path, complete, ring, Shown, all}
+use Rattle.matching.specs.Causes.{opening-ruling, session-ruling}
+use Rattle.matching.specs.Opening.{opened, dependent, not-opened, Buffers}
+use Rattle.matching.specs.Display.{of-inverse, of-witness, display}
+use Rattle.matching.specs.Model.{pick, automatic, undo, done, denied, nonsingular?, step, run, picked, stopped}
+use Rattle.matching.specs.Calls.{State, row-ruling, open-row}
+use Rattle.matching.specs.Records.{sheet, unread, read, cells, graph}
+use Rattle.matching.specs.Listing.{digits, pair-lines, witness-lines}
+use Rattle.matching.specs.Claims.{linked, edge, ones, path, complete, ring, Claim, opening, witness, not-opening, model, answers, afterwards, by-hand, spoiled, row, displayed, reads, lists, lists-witness, lists-refusal, host-opening, host-answer, before, Holds, All, ShownSingular, ShownListed, ShownWitness, Shown, all}
 
 pub marked : List Claim
 marked =
     opening (linked 0 [] []) []
-    ∷ answers (linked 0 [] []) (automatic ∷ []) (denied 11 0 ∷ [])
+    ∷ answers (linked 0 [] []) (automatic ∷ []) (denied (because 11 0) ∷ [])
     ∷ witness (linked 1 [] []) 0 (1 ∷ [])
     ∷ witness (linked 2 [] (ones 2)) 0 (1 ∷ 0 ∷ [])
     ∷ opening (linked 2 (edge 0 1 ∷ []) (2 ∷ [])) (0 ∷ 32760 ∷ 32761 ∷ 0 ∷ [])
@@ -25,13 +32,11 @@ marked =
     ∷ opening complete (0 ∷ 65520 ∷ 1 ∷ 65520 ∷ 1 ∷ 0 ∷ 65520 ∷ 1 ∷ 65520 ∷ 1 ∷ 0 ∷ 65520 ∷ 1 ∷ 65520 ∷ 1 ∷ 0 ∷ [])
     ∷ answers complete (pick 0 1 ∷ []) (done (edge 0 1) ∷ [])
     ∷ afterwards complete (pick 0 1 ∷ []) (0 ∷ 0 ∷ 0 ∷ 0 ∷ 0 ∷ 0 ∷ 0 ∷ 0 ∷ 0 ∷ 0 ∷ 0 ∷ 65520 ∷ 0 ∷ 0 ∷ 1 ∷ 0 ∷ [])
-    ∷ answers path (pick 0 1 ∷ pick 2 3 ∷ automatic ∷ pick 0 1 ∷ []) (denied 10 0 ∷ denied 9 0 ∷ done (edge 0 2) ∷ denied 8 0 ∷ [])
+    ∷ answers path (pick 0 1 ∷ pick 2 3 ∷ automatic ∷ pick 0 1 ∷ []) (denied (because 10 0) ∷ denied (because 9 0) ∷ done (edge 0 2) ∷ denied (because 8 0) ∷ [])
     ∷ witness ring 2 (65520 ∷ 0 ∷ 1 ∷ 0 ∷ [])
-    ∷ by-hand (record { session = record { size = 4; made = 1 }; inverse = 0 ∷ 0 ∷ 0 ∷ 0 ∷ 0 ∷ 0 ∷ 0 ∷ 0 ∷ 0 ∷ 0 ∷ 0 ∷ 65520 ∷ 0 ∷ 0 ∷ 1 ∷ 0 ∷ []; order = 0 ∷ 1 ∷ 255 ∷ 255 ∷ [] })
-    (ring .adjacency) (ring .weights) undo 10
+    ∷ by-hand (record { session = record { size = 4; made = 1 }; inverse = 0 ∷ 0 ∷ 0 ∷ 0 ∷ 0 ∷ 0 ∷ 0 ∷ 0 ∷ 0 ∷ 0 ∷ 0 ∷ 65520 ∷ 0 ∷ 0 ∷ 1 ∷ 0 ∷ []; sequence = 0 ∷ 1 ∷ 255 ∷ 255 ∷ [] }) ring undo (because 10 0)
     ∷ []
 
 pub marked-hold : All Holds marked
-unfolding Shown marked prime-65521 run step inverse-table? witness? first-dependent? every? tutte opening-verdict session-verdict cells unmatched pairs-on decLt
-marked-hold =
-    all marked ((refl, refl, refl, tt), (refl, ((refl, refl, refl, tt, tt, tt), ((refl, refl, refl, tt, tt, tt), ((refl, refl, refl, tt), ((refl, refl, refl, tt, tt, tt), ((refl, refl, refl, tt, tt, tt), ((refl, refl, refl, tt), (refl, (tt, (refl, ((refl, refl, refl, tt, tt, tt), ((refl, refl), tt)))))))))))))
+unfolding marked Shown ShownSingular ShownListed ShownWitness modulus-prime run step nonsingular? inverse-table? witness? first-dependent? first? every? tutte opening-ruling session-ruling row-ruling open-row display cells unmatched pairs-on decLt read digits pair-lines witness-lines graph
+marked-hold = all marked ((refl, refl, refl, tt), ((tt, refl), ((refl, refl, refl, (tt, tt, tt)), ((refl, refl, refl, (tt, tt, tt)), ((refl, refl, refl, tt), ((refl, refl, refl, (tt, tt, tt)), ((refl, refl, refl, (tt, tt, tt)), ((refl, refl, refl, tt), ((tt, refl), ((tt, refl, tt), ((tt, refl), ((refl, refl, refl, (tt, tt, tt)), ((refl, refl), tt)))))))))))))

@@ -9,9 +9,9 @@ use Rattle.modular.specs.Prime.{OddPrime}
 use Rattle.skew.specs.Subset.{Subset, _∈_}
 use Rattle.skew.specs.Inverse.{Skew, Invertible}
 use Rattle.skew.specs.Decide.{invertible?}
-use Rattle.matching.specs.Decision.{both?, not?, First, nowhere, first-at, first?, when, Cause, Verdict, accepted, refused, judge, Accepted, accepted?}
+use Rattle.matching.specs.Decision.{Refusal, because, both?, not?, First, nowhere, first-at, first?, when, Cause, Ruling, accepted, refused, judge, Accepted, accepted?}
 use Rattle.matching.specs.Graph.{Graph, cell, tutte, tutte-skew}
-use Rattle.matching.specs.Pairs.{Pair, couple, Pairs, unmatched, in?}
+use Rattle.matching.specs.Pairs.{Pair, pair-of, Pairs, unmatched, in?}
 
 -- hand pick of a and b, automatic pick, take-back
 pub data Call : Type 0 where
@@ -19,10 +19,10 @@ pub data Call : Type 0 where
   automatic : Call
   undo : Call
 
--- the pair appended or removed, or the cause and the place
+-- the pair appended or removed, or a refusal
 pub data Answer : Type 0 where
   done : Pair → Answer
-  denied : ℕ → ℕ → Answer
+  denied : Refusal → Answer
 
 -- the answer, and the pairs afterwards
 pub record Step : Type 0 where
@@ -51,59 +51,64 @@ named? n a b = all (decLt a n) (decLt b n) (not? (ℕ-discrete a b))
 abbrev pub needs : {A : Type 0} → ℕ → Dec A → Cause
 needs k d = record { number = k; finding = when (not? d) 0 }
 
+-- the two are adjacent (may share)
+abbrev pub Adjacent : Graph → Pair → Type 0
+Adjacent g e = cell g (e .smaller) (e .larger) ≡ 1
+
+abbrev pub adjacent? : (g : Graph) (e : Pair) → Dec (Adjacent g e)
+adjacent? g e = ℕ-discrete (cell g (e .smaller) (e .larger)) 1
+
+-- the vertices in play are a set S
 module _ {p : ℕ} (P : OddPrime p) (g : Graph) (S : Subset) where
   pub skew : Skew p (g .n) (tutte g p)
   skew = tutte-skew g (omega (arith, P .prime .above-one)) (g .n)
 
   -- the Tutte matrix has an inverse on the vertices that the pairs leave
-  abbrev pub Regular : Pairs → Type 0
-  Regular pairs = Invertible p (g .n) (tutte g p) (unmatched S pairs)
+  abbrev pub Nonsingular : Pairs → Type 0
+  Nonsingular pairs = Invertible p (g .n) (tutte g p) (unmatched S pairs)
 
-  unfoldable pub regular? : (pairs : Pairs) → Dec (Regular pairs)
+  unfoldable pub nonsingular? : (pairs : Pairs) → Dec (Nonsingular pairs)
   unfolding invertible? tutte unmatched
-  regular? pairs = invertible? P (g .n) (tutte g p) skew (unmatched S pairs)
-
-  -- the two are adjacent
-  abbrev pub Adjacent : Pair → Type 0
-  Adjacent e = cell g (e .smaller) (e .larger) ≡ 1
+  nonsingular? pairs = invertible? P (g .n) (tutte g p) skew (unmatched S pairs)
 
   -- causes 7 to 10 of a hand pick: not two vertices, one of them matched, not adjacent, no inverse for what is left
-  unfoldable pub pick-verdict : Pairs → ℕ → ℕ → Verdict
-  unfolding regular? couple unmatched decLt ℕ-discrete
-  pick-verdict pairs a b =
+  unfoldable pub pick-ruling : Pairs → ℕ → ℕ → Ruling
+  unfolding nonsingular? pair-of unmatched decLt ℕ-discrete
+  pick-ruling pairs a b =
       judge
       (needs 7 (named? (g .n) a b)
       ∷ needs 8 (both? (in? (unmatched S pairs) a) (in? (unmatched S pairs) b))
-      ∷ needs 9 (ℕ-discrete (cell g (couple a b .smaller) (couple a b .larger)) 1)
-      ∷ needs 10 (regular? (couple a b ∷ pairs))
+      ∷ needs 9 (adjacent? g (pair-of a b))
+      ∷ needs 10 (nonsingular? (pair-of a b ∷ pairs))
       ∷ [])
 
   -- the pair is appended where no cause applies
-  abbrev pub append : Pairs → Pair → Verdict → Step
+  abbrev pub append : Pairs → Pair → Ruling → Step
   append pairs e accepted = record { answer = done e; pairs = e ∷ pairs }
-  append pairs e (refused k x) = record { answer = denied k x; pairs = pairs }
+  append pairs e (refused r) = record { answer = denied r; pairs = pairs }
 
-  -- c with the lowest r whose hand pick with c is accepted
-  abbrev pub with-lowest : (pairs : Pairs) (c : ℕ) → First (g .n) (λ r. Accepted (pick-verdict pairs c r)) → Step
-  with-lowest pairs c (first-at r _ _ _) = record { answer = done (couple c r); pairs = couple c r ∷ pairs }
-  with-lowest pairs c (nowhere _) = record { answer = denied 11 0; pairs = pairs }
+  -- c with the lowest r whose hand pick with c is accepted. There is one wherever the vertices left have an inverse (laws, Facts,
+  -- automatic-cases), so the second case is never met
+  abbrev pub with-lowest : (pairs : Pairs) (c : ℕ) → First (g .n) (λ r. Accepted (pick-ruling pairs c r)) → Step
+  with-lowest pairs c (first-at r _ _ _) = record { answer = done (pair-of c r); pairs = pair-of c r ∷ pairs }
+  with-lowest pairs c (nowhere _) = record { answer = denied (because 11 0); pairs = pairs }
 
   -- c is the lowest vertex left; none: cause 11
   abbrev pub from-lowest : (pairs : Pairs) → First (g .n) (λ c. c ∈ unmatched S pairs) → Step
-  from-lowest pairs (nowhere _) = record { answer = denied 11 0; pairs = pairs }
-  from-lowest pairs (first-at c _ _ _) = with-lowest pairs c (first? _ (g .n) (λ r. accepted? (pick-verdict pairs c r)))
+  from-lowest pairs (nowhere _) = record { answer = denied (because 11 0); pairs = pairs }
+  from-lowest pairs (first-at c _ _ _) = with-lowest pairs c (first? _ (g .n) (λ r. accepted? (pick-ruling pairs c r)))
 
   -- cause 10 where the vertices left afterwards would have no inverse
-  abbrev pub remove-last : Pair → (earlier : Pairs) → Dec (Regular earlier) → Step
+  abbrev pub remove-last : Pair → (earlier : Pairs) → Dec (Nonsingular earlier) → Step
   remove-last e earlier (yes _) = record { answer = done e; pairs = earlier }
-  remove-last e earlier (no _) = record { answer = denied 10 0; pairs = e ∷ earlier }
+  remove-last e earlier (no _) = record { answer = denied (because 10 0); pairs = e ∷ earlier }
 
   unfoldable pub step : Pairs → Call → Step
-  unfolding pick-verdict first? regular?
-  step pairs (pick a b) = append pairs (couple a b) (pick-verdict pairs a b)
+  unfolding pick-ruling first? nonsingular?
+  step pairs (pick a b) = append pairs (pair-of a b) (pick-ruling pairs a b)
   step pairs automatic = from-lowest pairs (first? _ (g .n) (in? (unmatched S pairs)))
-  step [] undo = record { answer = denied 11 0; pairs = [] }
-  step (e ∷ earlier) undo = remove-last e earlier (regular? earlier)
+  step [] undo = record { answer = denied (because 11 0); pairs = [] }
+  step (e ∷ earlier) undo = remove-last e earlier (nonsingular? earlier)
 
   -- one call after the other
   unfoldable pub run : Pairs → List Call → Run
@@ -116,9 +121,9 @@ module _ {p : ℕ} (P : OddPrime p) (g : Graph) (S : Subset) where
 
   -- r is an open partner of a
   abbrev pub OpenPartner : Pairs → ℕ → ℕ → Type 0
-  OpenPartner pairs a r = Accepted (pick-verdict pairs a r)
+  OpenPartner pairs a r = Accepted (pick-ruling pairs a r)
 
   -- so many automatic picks in a row are accepted before one is refused (picks to come)
   pub data PicksToCome : Pairs → ℕ → Type 0 where
-    stopped : {pairs : Pairs} {k x : ℕ} → step pairs automatic .answer ≡ denied k x → PicksToCome pairs 0
+    stopped : {pairs : Pairs} {r : Refusal} → step pairs automatic .answer ≡ denied r → PicksToCome pairs 0
     picked : {pairs : Pairs} {m : ℕ} {e : Pair} → step pairs automatic .answer ≡ done e → PicksToCome (step pairs automatic .pairs) m → PicksToCome pairs (suc m)

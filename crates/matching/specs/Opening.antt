@@ -1,39 +1,41 @@
 -- Opening: the inverse, or the first dependent column with its witness, or a refusal; and every buffer afterwards. Assumes nothing.
 use mathlib.Core.Path.{_≡_}
-use mathlib.Core.List.{List}
+use mathlib.Core.List.{List, []}
 use Prim.Native.Nat.{ℕ, _*_, _<_}
 use lib.ListN.{length, getD, replicate}
+use Rattle.skew.specs.Subset.{Subset}
 use Rattle.skew.specs.Column.{FirstDependent, Witness}
-use Rattle.matching.specs.Decision.{Every, Verdict, accepted, refused}
+use Rattle.matching.specs.Decision.{Every, Refusal, Ruling, accepted, refused}
 use Rattle.matching.specs.Graph.{Graph, tutte}
-use Rattle.matching.specs.Pairs.{everything, unused}
-use Rattle.matching.specs.Session.{InverseTable, vector, onto}
-use Rattle.matching.specs.Causes.{opening-verdict}
+use Rattle.matching.specs.Pairs.{unused}
+use Rattle.matching.specs.Session.{Session, session, InverseTable, vector, onto}
+use Rattle.matching.specs.Causes.{opening-ruling}
 
--- "opened", with a session of no pairs; "witness", with the first dependent column f; or the cause and its place
+-- "opened" and a session with no pairs; "witness" with the first dependent column f; or a refusal
 pub data Opening : Type 0 where
-  opened : Opening
+  opened : Session → Opening
   dependent : ℕ → Opening
-  not-opened : ℕ → ℕ → Opening
+  not-opened : Refusal → Opening
 
--- the buffers that opening may write
+-- the buffers that opening may write: the inverse (held), the sequence of pairs (strip), the witness and work
 pub record Buffers : Type 0 where
   pub inverse : List ℕ
-  pub order : List ℕ
+  pub sequence : List ℕ
   pub witness : List ℕ
   pub work : List ℕ
 
--- column f is the first that depends on those before it, and the first n words are its witness, each below p
-pub record Singular (p : ℕ) (g : Graph) (f : ℕ) (witness : List ℕ) : Type 0 where
+-- column f is the first that depends on those before it, and the first n words, each below p, are its kernel vector (document 01:
+-- witness); the vertices in play are a set S
+pub record Singular (p : ℕ) (g : Graph) (S : Subset) (f : ℕ) (witness : List ℕ) : Type 0 where
   pub small : Every (g .n) (λ x. getD witness x 0 < p)
-  pub first : FirstDependent p (g .n) (tutte g p) everything f
-  pub kernel : Witness p (g .n) (tutte g p) everything f (vector witness)
+  pub first : FirstDependent p (g .n) (tutte g p) S f
+  pub kernel : Witness p (g .n) (tutte g p) S f (vector witness)
 
 -- the buffers that an opening with the inverse leaves, and one with a witness; the excess is as it was
 abbrev pub with-inverse : ℕ → List ℕ → Buffers → Buffers
 with-inverse n inverse b = record {
   inverse = onto inverse (b .inverse);
-  order = onto (replicate n unused) (b .order);
+  sequence = onto (replicate n unused) (b .sequence);
   witness = onto (replicate n 0) (b .witness);
   work = onto (replicate (n * n) 0) (b .work);
 }
@@ -41,18 +43,18 @@ with-inverse n inverse b = record {
 abbrev pub with-witness : ℕ → List ℕ → Buffers → Buffers
 with-witness n witness b = record {
   inverse = onto (replicate (n * n) 0) (b .inverse);
-  order = onto (replicate n unused) (b .order);
+  sequence = onto (replicate n unused) (b .sequence);
   witness = onto witness (b .witness);
   work = onto (replicate (n * n) 0) (b .work);
 }
 
-abbrev pub verdict : ℕ → Graph → Buffers → Verdict
-verdict p g b = opening-verdict p g (b .inverse) (b .order) (b .witness) (b .work)
+abbrev pub ruling : ℕ → Graph → Buffers → Ruling
+ruling p g b = opening-ruling p g (b .inverse) (b .sequence) (b .witness) (b .work)
 
 -- the answer and the buffers that opening leaves
-pub data Opens (p : ℕ) (g : Graph) (b : Buffers) : Opening → Buffers → Type 0 where
-  refuses-opening : (k x : ℕ) → verdict p g b ≡ refused k x → Opens p g b (not-opened k x) b
-  opens : (inverse : List ℕ) → verdict p g b ≡ accepted → length inverse ≡ g .n * g .n → InverseTable p g everything inverse
-      → Opens p g b opened (with-inverse (g .n) inverse b)
-  depends : (f : ℕ) (witness : List ℕ) → verdict p g b ≡ accepted → length witness ≡ g .n → Singular p g f witness
-      → Opens p g b (dependent f) (with-witness (g .n) witness b)
+pub data Opens (p : ℕ) (g : Graph) (S : Subset) (b : Buffers) : Opening → Buffers → Type 0 where
+  refuses-opening : (r : Refusal) → ruling p g b ≡ refused r → Opens p g S b (not-opened r) b
+  opens : (inverse : List ℕ) → ruling p g b ≡ accepted → length inverse ≡ g .n * g .n → InverseTable p g S inverse
+      → Opens p g S b (opened (session (g .n) [])) (with-inverse (g .n) inverse b)
+  depends : (f : ℕ) (witness : List ℕ) → ruling p g b ≡ accepted → length witness ≡ g .n → Singular p g S f witness
+      → Opens p g S b (dependent f) (with-witness (g .n) witness b)

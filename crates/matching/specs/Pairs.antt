@@ -13,9 +13,9 @@ pub record Pair : Type 0 where
   pub larger : ℕ
 
 -- a and b, in either order
-unfoldable pub couple : ℕ → ℕ → Pair
+unfoldable pub pair-of : ℕ → ℕ → Pair
 unfolding decLt
-couple a b = record { smaller = choose (decLt a b) a b; larger = choose (decLt a b) b a }
+pair-of a b = record { smaller = choose (decLt a b) a b; larger = choose (decLt a b) b a }
 
 -- the newest pair stands first
 abbrev pub Pairs : Type 0
@@ -55,9 +55,9 @@ bytes [] = []
 bytes (e ∷ earlier) = bytes earlier ++ e .smaller ∷ e .larger ∷ []
 
 -- the order of matching in n bytes (document 01: strip)
-unfoldable pub order : ℕ → Pairs → List ℕ
+unfoldable pub sequence : ℕ → Pairs → List ℕ
 unfolding bytes
-order n pairs = bytes pairs ++ replicate (n - (length pairs + length pairs)) unused
+sequence n pairs = bytes pairs ++ replicate (n - (length pairs + length pairs)) unused
 
 -- the first so many pairs of an order of matching
 unfoldable pub pairs-on : List ℕ → ℕ → Pairs

@@ -1,4 +1,4 @@
--- Lent buffers and the session over them: well formed, and sound (document 01, "Sheet, matrix, session"). Assumes nothing.
+-- Lent buffers and the session over them (document 01, "Sheet, matrix, session"). Assumes nothing.
 use mathlib.Core.Path.{_≡_}
 use mathlib.Core.Logic.{_≢_}
 use mathlib.Core.List.{List, [], _∷_, _++_}
@@ -8,7 +8,7 @@ use Rattle.skew.specs.Subset.{Subset}
 use Rattle.skew.specs.Inverse.{Matrix, Vector, Inverse}
 use Rattle.matching.specs.Decision.{Every}
 use Rattle.matching.specs.Graph.{Graph, cell, tutte}
-use Rattle.matching.specs.Pairs.{unused, pairs-on, unmatched, everything}
+use Rattle.matching.specs.Pairs.{Pairs, unused}
 
 -- n times n words, row by row, as a matrix
 abbrev pub table : ℕ → List ℕ → Matrix
@@ -31,20 +31,21 @@ pub record Session : Type 0 where
   pub size : ℕ
   pub made : ℕ
 
--- the first n times n words are the inverse of the Tutte matrix on a set of vertices, each below p (document 01: held)
+-- that of a graph of n vertices with these pairs made
+abbrev pub session : ℕ → Pairs → Session
+session n pairs = record { size = n; made = length pairs }
+
+-- the first n times n words, each below p, are the inverse of the Tutte matrix on a set of vertices (document 01: held)
 pub record InverseTable (p : ℕ) (g : Graph) (L : Subset) (words : List ℕ) : Type 0 where
   pub small : Every (g .n * g .n) (λ x. getD words x 0 < p)
   pub is-inverse : Inverse p (g .n) (tutte g p) L (table (g .n) words)
 
--- the used bytes are pairs, smaller first, all different, all below n, each adjacent; the rest up to n are unused
-pub record WellFormed (g : Graph) (made : ℕ) (order : List ℕ) : Type 0 where
+-- the used bytes are pairs, smaller first, all different, all below n, each adjacent; the rest up to n are unused (document 01: well
+-- formed)
+pub record WellFormed (g : Graph) (made : ℕ) (sequence : List ℕ) : Type 0 where
   pub few : made + made ≤ g .n
-  pub ordered : Every made (λ k. getD order (k + k) 0 < getD order (k + k + 1) 0)
-  pub below : Every made (λ k. getD order (k + k + 1) 0 < g .n)
-  pub adjacent : Every made (λ k. cell g (getD order (k + k) 0) (getD order (k + k + 1) 0) ≡ 1)
-  pub different : Every (made + made) (λ y. Every y (λ x. getD order x 0 ≢ getD order y 0))
-  pub rest : Every (g .n) (λ x. made + made ≤ x → getD order x 0 ≡ unused)
-
--- the vertices that an order of matching leaves (document 01: loose)
-abbrev pub left : List ℕ → ℕ → Subset
-left order made = unmatched everything (pairs-on order made)
+  pub ordered : Every made (λ k. getD sequence (k + k) 0 < getD sequence (k + k + 1) 0)
+  pub below : Every made (λ k. getD sequence (k + k + 1) 0 < g .n)
+  pub adjacent : Every made (λ k. cell g (getD sequence (k + k) 0) (getD sequence (k + k + 1) 0) ≡ 1)
+  pub different : Every (made + made) (λ y. Every y (λ x. getD sequence x 0 ≢ getD sequence y 0))
+  pub rest : Every (g .n) (λ x. made + made ≤ x → getD sequence x 0 ≡ unused)

@@ -1,22 +1,25 @@
--- Worked examples of the causes with their places and order, of the records, and of the listing: one list, and one claim over it.
--- Assumes nothing.
+-- Worked examples of the causes with their places and order, of open rows, the displayed part, records, the listing and the host's
+-- numbers: one list, and one claim over it. Assumes nothing.
 use mathlib.Core.Path.{refl}
 use mathlib.Core.List.{List, [], _∷_}
 use Prim.Native.Nat.{ℕ}
 use native.Mathlib.Decide.{decLt}
 use lib.ListN.{replicate}
-use Rattle.modular.specs.Primes.{prime-65521}
-use Rattle.matching.specs.Decision.{every?, first?}
+use Rattle.draws.specs.Draws.{draws}
+use Rattle.residue.specs.Modulus.{modulus-prime}
+use Rattle.skew.specs.Decide.{first-dependent?}
+use Rattle.matching.specs.Decision.{because, every?, first?}
 use Rattle.matching.specs.Graph.{Graph, tutte}
 use Rattle.matching.specs.Pairs.{unmatched, pairs-on}
-use Rattle.matching.specs.Model.{picked, stopped, pick, automatic, undo, done, denied, regular?, step, run}
-use Rattle.matching.specs.Decided.{inverse-table?}
-use Rattle.matching.specs.Causes.{opening-verdict, session-verdict}
-use Rattle.matching.specs.Opening.{Buffers}
-use Rattle.matching.specs.Calls.{State}
+use Rattle.matching.specs.Decided.{inverse-table?, witness?}
+use Rattle.matching.specs.Causes.{opening-ruling, session-ruling}
+use Rattle.matching.specs.Opening.{opened, dependent, not-opened, Buffers}
+use Rattle.matching.specs.Display.{of-inverse, of-witness, display}
+use Rattle.matching.specs.Model.{pick, automatic, undo, done, denied, nonsingular?, step, run, picked, stopped}
+use Rattle.matching.specs.Calls.{State, row-ruling, open-row}
 use Rattle.matching.specs.Records.{sheet, unread, read, cells, graph}
-use Rattle.matching.specs.Listing.{digits, pair-lines}
-use Rattle.matching.specs.Claims.{linked, edge, ones, Claim, witness, answers, by-hand, not-opening, spoiled, reads, lists, lists-refusal, before, Holds, All, path, complete, ring, Listed, Shown, all}
+use Rattle.matching.specs.Listing.{digits, pair-lines, witness-lines}
+use Rattle.matching.specs.Claims.{linked, edge, ones, path, complete, ring, Claim, opening, witness, not-opening, model, answers, afterwards, by-hand, spoiled, row, displayed, reads, lists, lists-witness, lists-refusal, host-opening, host-answer, before, Holds, All, ShownSingular, ShownListed, ShownWitness, Shown, all}
 
 -- two vertices, whose adjacency table and weights are as lent
 abbrev two : List ℕ → List ℕ → Graph
@@ -25,13 +28,12 @@ two adjacency weights = record { n = 2; adjacency = adjacency; weights = weights
 abbrev in-order : List ℕ
 in-order = 0 ∷ 1 ∷ 1 ∷ 0 ∷ []
 
--- lengths of inverse, order, witness and work
+-- lengths of the inverse, the sequence, the witness and work
 abbrev lengths : ℕ → ℕ → ℕ → ℕ → Buffers
-lengths a b c d = record { inverse = replicate a 9; order = replicate b 9; witness = replicate c 9; work = replicate d 9 }
+lengths a b c d = record { inverse = replicate a 9; sequence = replicate b 9; witness = replicate c 9; work = replicate d 9 }
 
--- a session of four vertices
-abbrev session : ℕ → List ℕ → List ℕ → State
-session made inverse order = record { session = record { size = 4; made = made }; inverse = inverse; order = order }
+abbrev four-vertices : ℕ → List ℕ → List ℕ → State
+four-vertices made inverse sequence = record { session = record { size = 4; made = made }; inverse = inverse; sequence = sequence }
 
 -- the inverse for vertices 2 and 3 of the complete graph
 abbrev last-two : List ℕ
@@ -43,55 +45,73 @@ first-pair = 0 ∷ 1 ∷ 255 ∷ 255 ∷ []
 pub worked : List Claim
 worked =
     -- causes 1 to 4, each with its place, and the lowest first
-    not-opening (record { n = 97; adjacency = []; weights = [] }) (lengths 0 0 0 0) 1 0
-    ∷ not-opening (two (0 ∷ 1 ∷ 1 ∷ []) []) (lengths 0 0 0 0) 2 1
-    ∷ not-opening (two in-order []) (lengths 3 1 1 3) 2 2
-    ∷ not-opening (two (2 ∷ 1 ∷ 0 ∷ 1 ∷ []) []) (lengths 4 2 2 4) 2 2
-    ∷ not-opening (two in-order (1 ∷ [])) (lengths 3 1 1 3) 2 3
-    ∷ not-opening (two in-order (1 ∷ [])) (lengths 4 1 1 3) 2 4
-    ∷ not-opening (two in-order (1 ∷ [])) (lengths 4 2 1 3) 2 5
-    ∷ not-opening (two in-order (1 ∷ [])) (lengths 4 2 2 3) 2 6
-    ∷ not-opening (two (0 ∷ 0 ∷ 2 ∷ 0 ∷ []) (0 ∷ [])) (lengths 4 2 2 4) 3 1
-    ∷ not-opening (two (0 ∷ 1 ∷ 1 ∷ 1 ∷ []) (0 ∷ [])) (lengths 4 2 2 4) 3 3
-    ∷ not-opening (two (2 ∷ 1 ∷ 0 ∷ 1 ∷ []) (0 ∷ [])) (lengths 4 2 2 4) 3 0
-    ∷ not-opening (two in-order (0 ∷ [])) (lengths 4 2 2 4) 4 0
-    ∷ not-opening (linked 3 [] (1 ∷ 65520 ∷ 65521 ∷ [])) (before 3) 4 2
-    -- causes 5 and 6 before the vertices named, and 7, 8 and 9
-    ∷ spoiled (session 3 last-two first-pair) (complete .adjacency) (ones 4) (pick 300 300) 5 0
-    ∷ spoiled (session 0 last-two first-pair) (complete .adjacency) (ones 4) undo 5 0
-    ∷ spoiled (session 1 last-two (1 ∷ 0 ∷ 255 ∷ 255 ∷ [])) (complete .adjacency) (ones 4) undo 5 0
-    ∷ spoiled (session 1 last-two (0 ∷ 1 ∷ 255 ∷ 2 ∷ [])) (complete .adjacency) (ones 4) undo 5 0
-    ∷ spoiled (session 1 (65521 ∷ 0 ∷ 0 ∷ 0 ∷ 0 ∷ 0 ∷ 0 ∷ 0 ∷ 0 ∷ 0 ∷ 0 ∷ 65520 ∷ 0 ∷ 0 ∷ 1 ∷ 0 ∷ []) first-pair) (complete .adjacency) (ones 4) (pick 0 0) 6 0
-    ∷ spoiled (session 1 (0 ∷ 0 ∷ 0 ∷ 0 ∷ 0 ∷ 0 ∷ 0 ∷ 0 ∷ 0 ∷ 0 ∷ 0 ∷ 1 ∷ 0 ∷ 0 ∷ 65520 ∷ 0 ∷ []) first-pair) (complete .adjacency) (ones 4) automatic 6 0
-    ∷ by-hand (session 1 last-two first-pair) (complete .adjacency) (ones 4) (pick 0 0) 7
-    ∷ by-hand (session 1 last-two first-pair) (complete .adjacency) (ones 4) (pick 2 256) 7
-    ∷ by-hand (session 1 last-two first-pair) (complete .adjacency) (ones 4) (pick 3 0) 8
-    ∷ answers path (pick 0 3 ∷ automatic ∷ pick 0 3 ∷ pick 2 2 ∷ []) (denied 9 0 ∷ done (edge 0 2) ∷ denied 8 0 ∷ denied 7 0 ∷ [])
-    ∷ answers ring (undo ∷ []) (denied 11 0 ∷ [])
-    ∷ answers complete (undo ∷ automatic ∷ automatic ∷ automatic ∷ undo ∷ undo ∷ undo ∷ [])
-    (denied 11 0 ∷ done (edge 0 1) ∷ done (edge 2 3) ∷ denied 11 0 ∷ done (edge 2 3) ∷ done (edge 0 1) ∷ denied 11 0 ∷ [])
+    not-opening (record { n = 97; adjacency = []; weights = [] }) (lengths 0 0 0 0) (because 1 0)
+    ∷ not-opening (two (0 ∷ 1 ∷ 1 ∷ []) []) (lengths 0 0 0 0) (because 2 1)
+    ∷ not-opening (two in-order []) (lengths 3 1 1 3) (because 2 2)
+    ∷ not-opening (two (2 ∷ 1 ∷ 0 ∷ 1 ∷ []) []) (lengths 4 2 2 4) (because 2 2)
+    ∷ not-opening (two in-order (1 ∷ [])) (lengths 3 1 1 3) (because 2 3)
+    ∷ not-opening (two in-order (1 ∷ [])) (lengths 4 1 1 3) (because 2 4)
+    ∷ not-opening (two in-order (1 ∷ [])) (lengths 4 2 1 3) (because 2 5)
+    ∷ not-opening (two in-order (1 ∷ [])) (lengths 4 2 2 3) (because 2 6)
+    ∷ not-opening (two (0 ∷ 0 ∷ 2 ∷ 0 ∷ []) (0 ∷ [])) (lengths 4 2 2 4) (because 3 1)
+    ∷ not-opening (two (0 ∷ 1 ∷ 1 ∷ 1 ∷ []) (0 ∷ [])) (lengths 4 2 2 4) (because 3 3)
+    ∷ not-opening (two (2 ∷ 1 ∷ 0 ∷ 1 ∷ []) (0 ∷ [])) (lengths 4 2 2 4) (because 3 0)
+    ∷ not-opening (two in-order (0 ∷ [])) (lengths 4 2 2 4) (because 4 0)
+    ∷ not-opening (linked 3 [] (1 ∷ 65520 ∷ 65521 ∷ [])) (before 3) (because 4 2)
+    -- causes 5 and 6 before the vertices named; then 7, 8, 9 and 10, and 11 before 10
+    ∷ spoiled (four-vertices 3 last-two first-pair) complete (pick 300 300) (because 5 0)
+    ∷ spoiled (four-vertices 0 last-two first-pair) complete undo (because 5 0)
+    ∷ spoiled (four-vertices 1 last-two (1 ∷ 0 ∷ 255 ∷ 255 ∷ [])) complete undo (because 5 0)
+    ∷ spoiled (four-vertices 1 last-two (0 ∷ 1 ∷ 255 ∷ 2 ∷ [])) complete undo (because 5 0)
+    ∷ spoiled (four-vertices 1 last-two first-pair) (linked 4 (edge 2 3 ∷ []) (ones 4)) undo (because 5 0)
+    ∷ spoiled (four-vertices 1 (65521 ∷ 0 ∷ 0 ∷ 0 ∷ 0 ∷ 0 ∷ 0 ∷ 0 ∷ 0 ∷ 0 ∷ 0 ∷ 65520 ∷ 0 ∷ 0 ∷ 1 ∷ 0 ∷ []) first-pair) complete (pick 0 0) (because 6 0)
+    ∷ spoiled (four-vertices 1 (0 ∷ 0 ∷ 0 ∷ 0 ∷ 0 ∷ 0 ∷ 0 ∷ 0 ∷ 0 ∷ 0 ∷ 0 ∷ 1 ∷ 0 ∷ 0 ∷ 65520 ∷ 0 ∷ []) first-pair) complete automatic (because 6 0)
+    ∷ by-hand (four-vertices 1 last-two first-pair) complete (pick 0 0) (because 7 0)
+    ∷ by-hand (four-vertices 1 last-two first-pair) complete (pick 2 256) (because 7 0)
+    ∷ by-hand (four-vertices 1 last-two first-pair) complete (pick 3 0) (because 8 0)
+    ∷ answers path (pick 0 3 ∷ automatic ∷ pick 0 3 ∷ pick 2 2 ∷ []) (denied (because 9 0) ∷ done (edge 0 2) ∷ denied (because 8 0) ∷ denied (because 7 0) ∷ [])
+    ∷ model ring (undo ∷ []) (denied (because 11 0) ∷ [])
+    ∷ answers complete (undo ∷ automatic ∷ pick 3 2 ∷ automatic ∷ undo ∷ undo ∷ undo ∷ []) (denied (because 11 0) ∷ done (edge 0 1) ∷ done (edge 2 3) ∷ denied (because 11 0) ∷ done (edge 2 3) ∷ done (edge 0 1) ∷ denied (because 11 0) ∷ [])
+    -- open rows: of the path from the start, where only 0 with 2 and 1 with 3 leave an inverse; and with an excess byte
+    ∷ row (four-vertices 0 (0 ∷ 0 ∷ 65520 ∷ 0 ∷ 0 ∷ 0 ∷ 0 ∷ 65520 ∷ 1 ∷ 0 ∷ 0 ∷ 1 ∷ 0 ∷ 1 ∷ 65520 ∷ 0 ∷ []) (255 ∷ 255 ∷ 255 ∷ 255 ∷ [])) path 0 (9 ∷ 9 ∷ 9 ∷ 9 ∷ 9 ∷ []) (0 ∷ 0 ∷ 1 ∷ 0 ∷ 9 ∷ [])
+    ∷ row (four-vertices 1 last-two first-pair) complete 3 (9 ∷ 9 ∷ 9 ∷ 9 ∷ []) (0 ∷ 0 ∷ 1 ∷ 0 ∷ [])
+    -- the displayed part
+    ∷ displayed 2 (0 ∷ 1 ∷ 2 ∷ 0 ∷ 7 ∷ []) (0 ∷ 0 ∷ 5 ∷ []) (of-inverse 4)
+    ∷ displayed 2 (0 ∷ 0 ∷ 0 ∷ 0 ∷ []) (1 ∷ 0 ∷ []) (of-witness 2)
+    ∷ displayed 2 (0 ∷ 0 ∷ 0 ∷ []) (1 ∷ 0 ∷ []) (of-inverse 0)
+    ∷ displayed 2 (0 ∷ 0 ∷ 0 ∷ 0 ∷ []) (1 ∷ []) (of-inverse 0)
+    ∷ displayed 97 [] [] (of-inverse 0)
     -- records: 12 and 13 before 1 and 14, and these before 15
-    ∷ reads [] (unread 13 0)
-    ∷ reads (1 ∷ []) (unread 13 1)
-    ∷ reads (2 ∷ []) (unread 12 0)
-    ∷ reads (1 ∷ 97 ∷ []) (unread 1 0)
-    ∷ reads (1 ∷ 96 ∷ []) (unread 13 2)
-    ∷ reads (1 ∷ 2 ∷ 4 ∷ []) (unread 12 2)
-    ∷ reads (1 ∷ 2 ∷ 3 ∷ 1 ∷ 0 ∷ 0 ∷ []) (unread 13 6)
-    ∷ reads (1 ∷ 2 ∷ 3 ∷ 1 ∷ 2 ∷ 0 ∷ 0 ∷ 4 ∷ []) (sheet 2 513 [])
-    ∷ reads (1 ∷ 2 ∷ 3 ∷ 1 ∷ 2 ∷ 0 ∷ 0 ∷ 4 ∷ 4 ∷ []) (unread 12 8)
-    ∷ reads (1 ∷ 2 ∷ 3 ∷ 1 ∷ 2 ∷ 0 ∷ 0 ∷ 2 ∷ 9 ∷ []) (unread 13 9)
-    ∷ reads (1 ∷ 2 ∷ 3 ∷ 1 ∷ 2 ∷ 0 ∷ 0 ∷ 2 ∷ 1 ∷ 2 ∷ []) (unread 14 7)
-    ∷ reads (1 ∷ 2 ∷ 3 ∷ 1 ∷ 2 ∷ 0 ∷ 0 ∷ 2 ∷ 1 ∷ 1 ∷ 4 ∷ []) (unread 14 7)
-    ∷ reads (1 ∷ 2 ∷ 3 ∷ 1 ∷ 2 ∷ 0 ∷ 0 ∷ 2 ∷ 1 ∷ 0 ∷ 2 ∷ 0 ∷ 1 ∷ 4 ∷ []) (unread 15 10)
-    ∷ reads (1 ∷ 2 ∷ 3 ∷ 1 ∷ 2 ∷ 0 ∷ 0 ∷ 2 ∷ 1 ∷ 0 ∷ []) (unread 13 10)
-    -- the listed input, and empty input
-    ∷ lists (1 ∷ 4 ∷ 3 ∷ 0 ∷ 0 ∷ 0 ∷ 0 ∷ 2 ∷ 0 ∷ 1 ∷ 2 ∷ 0 ∷ 2 ∷ 2 ∷ 1 ∷ 3 ∷ 4 ∷ [])
+    ∷ reads [] (unread (because 13 0))
+    ∷ reads (1 ∷ []) (unread (because 13 1))
+    ∷ reads (2 ∷ []) (unread (because 12 0))
+    ∷ reads (1 ∷ 97 ∷ []) (unread (because 1 0))
+    ∷ reads (1 ∷ 96 ∷ []) (unread (because 13 2))
+    ∷ reads (1 ∷ 2 ∷ 4 ∷ []) (unread (because 12 2))
+    ∷ reads (1 ∷ 2 ∷ 3 ∷ 1 ∷ 0 ∷ 0 ∷ []) (unread (because 13 6))
+    ∷ reads (1 ∷ 2 ∷ 3 ∷ 1 ∷ 2 ∷ 0 ∷ 0 ∷ 4 ∷ []) (sheet 2 (draws 513 1) [])
+    ∷ reads (1 ∷ 2 ∷ 3 ∷ 1 ∷ 2 ∷ 0 ∷ 0 ∷ 4 ∷ 4 ∷ []) (unread (because 12 8))
+    ∷ reads (1 ∷ 2 ∷ 3 ∷ 1 ∷ 2 ∷ 0 ∷ 0 ∷ 5 ∷ []) (unread (because 12 7))
+    ∷ reads (1 ∷ 2 ∷ 3 ∷ 1 ∷ 2 ∷ 0 ∷ 0 ∷ 2 ∷ 9 ∷ []) (unread (because 13 9))
+    ∷ reads (1 ∷ 2 ∷ 3 ∷ 1 ∷ 2 ∷ 0 ∷ 0 ∷ 2 ∷ 1 ∷ 2 ∷ []) (unread (because 14 7))
+    ∷ reads (1 ∷ 2 ∷ 3 ∷ 1 ∷ 2 ∷ 0 ∷ 0 ∷ 2 ∷ 1 ∷ 1 ∷ 4 ∷ []) (unread (because 14 7))
+    ∷ reads (1 ∷ 2 ∷ 3 ∷ 1 ∷ 2 ∷ 0 ∷ 0 ∷ 2 ∷ 1 ∷ 0 ∷ 2 ∷ 0 ∷ 1 ∷ 4 ∷ []) (unread (because 15 10))
+    ∷ reads (1 ∷ 2 ∷ 3 ∷ 1 ∷ 2 ∷ 0 ∷ 0 ∷ 2 ∷ 1 ∷ 0 ∷ []) (unread (because 13 10))
+    ∷ reads (1 ∷ 2 ∷ 3 ∷ 1 ∷ 2 ∷ 0 ∷ 0 ∷ 2 ∷ 1 ∷ 0 ∷ 4 ∷ []) (sheet 2 (draws 513 1) (edge 0 1 ∷ []))
+    -- the listed input; one vertex; empty input
+    ∷ lists (1 ∷ 4 ∷ 3 ∷ 0 ∷ 0 ∷ 0 ∷ 0 ∷ 2 ∷ 0 ∷ 1 ∷ 2 ∷ 0 ∷ 2 ∷ 2 ∷ 1 ∷ 3 ∷ 4 ∷ []) 2
     (115 ∷ 108 ∷ 101 ∷ 101 ∷ 118 ∷ 101 ∷ 115 ∷ 32 ∷ 52 ∷ 32 ∷ 108 ∷ 105 ∷ 110 ∷ 107 ∷ 115 ∷ 32 ∷ 51 ∷ 10 ∷ 112 ∷ 97 ∷ 105 ∷ 114 ∷ 32 ∷ 48 ∷ 32 ∷ 50 ∷ 10 ∷ 112 ∷ 97 ∷ 105 ∷ 114 ∷ 32 ∷ 49 ∷ 32 ∷ 51 ∷ 10 ∷ 118 ∷ 101 ∷ 114 ∷ 100 ∷ 105 ∷ 99 ∷ 116 ∷ 32 ∷ 70 ∷ 10 ∷ [])
-    2
-    ∷ lists-refusal [] (114 ∷ 101 ∷ 102 ∷ 117 ∷ 115 ∷ 101 ∷ 100 ∷ 32 ∷ 49 ∷ 51 ∷ 32 ∷ 97 ∷ 116 ∷ 32 ∷ 48 ∷ 10 ∷ []) 13 0
+    ∷ lists-witness (1 ∷ 1 ∷ 3 ∷ 0 ∷ 0 ∷ 0 ∷ 0 ∷ 4 ∷ []) 0 (1 ∷ [])
+    (115 ∷ 108 ∷ 101 ∷ 101 ∷ 118 ∷ 101 ∷ 115 ∷ 32 ∷ 49 ∷ 32 ∷ 108 ∷ 105 ∷ 110 ∷ 107 ∷ 115 ∷ 32 ∷ 48 ∷ 10 ∷ 119 ∷ 105 ∷ 116 ∷ 110 ∷ 101 ∷ 115 ∷ 115 ∷ 32 ∷ 48 ∷ 32 ∷ 49 ∷ 10 ∷ 118 ∷ 101 ∷ 114 ∷ 100 ∷ 105 ∷ 99 ∷ 116 ∷ 32 ∷ 78 ∷ 10 ∷ [])
+    ∷ lists-refusal [] (because 13 0) (114 ∷ 101 ∷ 102 ∷ 117 ∷ 115 ∷ 101 ∷ 100 ∷ 32 ∷ 49 ∷ 51 ∷ 32 ∷ 97 ∷ 116 ∷ 32 ∷ 48 ∷ 10 ∷ [])
+    -- the host's numbers
+    ∷ host-opening (opened (record { size = 4; made = 0 })) 256
+    ∷ host-opening (dependent 2) 131584
+    ∷ host-opening (not-opened (because 3 9215)) 603914243
+    ∷ host-answer (done (edge 0 2)) (record { size = 4; made = 1 }) 4328522496
+    ∷ host-answer (denied (because 10 0)) (record { size = 4; made = 1 }) 10
     ∷ []
 
 pub worked-hold : All Holds worked
-unfolding Shown Listed worked prime-65521 run step regular? inverse-table? first? every? tutte opening-verdict session-verdict cells unmatched pairs-on decLt read digits pair-lines graph
-worked-hold = all worked (refl, (refl, (refl, (refl, (refl, (refl, (refl, (refl, (refl, (refl, (refl, (refl, (refl, (refl, (refl, (refl, (refl, (refl, (refl, ((refl, refl), ((refl, refl), ((refl, refl), (refl, (refl, (refl, (refl, (refl, (refl, (refl, (refl, (refl, (refl, (refl, (refl, (refl, (refl, (refl, (refl, (refl, ((tt, picked refl (picked refl (stopped refl)), refl), ((refl, refl), tt)))))))))))))))))))))))))))))))))))))))))
+unfolding worked Shown ShownSingular ShownListed ShownWitness modulus-prime run step nonsingular? inverse-table? witness? first-dependent? first? every? tutte opening-ruling session-ruling row-ruling open-row display cells unmatched pairs-on decLt read digits pair-lines witness-lines graph
+worked-hold = all worked (refl, (refl, (refl, (refl, (refl, (refl, (refl, (refl, (refl, (refl, (refl, (refl, (refl, (refl, (refl, (refl, (refl, (refl, (refl, (refl, ((refl, refl), ((refl, refl), ((refl, refl), ((tt, refl), (refl, ((tt, refl), ((refl, refl), ((refl, refl), (refl, (refl, (refl, (refl, (refl, (refl, (refl, (refl, (refl, (refl, (refl, (refl, (refl, (refl, (refl, (refl, (refl, (refl, (refl, (refl, (refl, ((tt, picked refl (picked refl (stopped refl)), refl), ((refl, (tt, tt, tt), refl), ((refl, refl), (refl, (refl, (refl, (refl, (refl, tt)))))))))))))))))))))))))))))))))))))))))))))))))))))))))
