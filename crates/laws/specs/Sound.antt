@@ -1,5 +1,5 @@
 -- What an accepting verdict says: the size, the lengths, the tables and the session are in order; and conversely. Assumes nothing.
-use mathlib.Core.Path.{_≡_, refl}
+use mathlib.Core.Path.{_≡_, refl, ap}
 use mathlib.Core.Logic.{_↔_}
 use mathlib.Core.List.{List, [], _∷_}
 use Prim.Native.Nat.{ℕ, _*_, _/_, _%_, _≤_, _<_}
@@ -7,7 +7,7 @@ use native.Mathlib.Omega.{arith}
 use native.Mathlib.Decide.{ℕ-discrete, decLt}
 use lib.ListN.{length, getD}
 use Rattle.skew.specs.Subset.{Subset}
-use Rattle.matching.specs.Decision.{Every, not?, both?, First, nowhere, first-at, first?, Finding, absent, at, when, found, Cause, accepted, judge, unless}
+use Rattle.matching.specs.Decision.{because, refused, Every, not?, both?, First, nowhere, first-at, first?, Finding, absent, at, when, found, Cause, accepted, judge, unless}
 use Rattle.matching.specs.Graph.{Graph, largest, pair-count, fault, Faulty, Outside}
 use Rattle.matching.specs.Session.{InverseTable, WellFormed}
 use Rattle.matching.specs.Pairs.{Pairs, unmatched, pairs-on}
@@ -42,6 +42,22 @@ unless-absent (no n) x = (λ e. clash e, λ a. absurd (n a))
 pub found-absent : {n : ℕ} {P : ℕ → Type 0} (f : First n P) → (found f ≡ absent) ↔ Every n (λ k. ¬ P k)
 found-absent (nowhere h) = (λ _. h, λ _. refl)
 found-absent (first-at x l e h) = (λ q. clash q, λ a. absurd (a x l e))
+
+pub found-at : {n : ℕ} {P : ℕ → Type 0} (f : First n P) (x : ℕ) → x < n → P x → Every x (λ k. ¬ P k) → found f ≡ at x
+found-at (nowhere h) x l e k = absurd (h x l e)
+found-at (first-at y m e′ h) x l e k = go (decLt x y) (decLt y x)
+  where
+    go : Dec (x < y) → Dec (y < x) → at y ≡ at x
+    go (yes o) _ = absurd (h x o e)
+    go (no _) (yes o) = absurd (k y o e′)
+    go (no a) (no b) = ap at (omega arith)
+
+-- the first cause that applies
+pub judge-refused : (c : Cause) (later : List Cause) (x : ℕ) → c .finding ≡ at x → judge (c ∷ later) ≡ refused (because (c .number) x)
+judge-refused c later x e = rw e
+
+pub judge-next : (c : Cause) (later : List Cause) → c .finding ≡ absent → judge (c ∷ later) ≡ judge later
+judge-next c later e = rw e
 
 -- no buffer of the list is too short
 abbrev pub LongEnough : List Lent → Type 0
