@@ -32,7 +32,7 @@ getD-list-of zero f x l = absurd (omega arith)
 getD-list-of (suc k) f zero l = refl
 getD-list-of (suc k) f (suc x) l = getD-list-of k (λ x. f (suc x)) x (omega arith)
 
-count-everything : (n : ℕ) → count n everything ≡ n
+pub count-everything : (n : ℕ) → count n everything ≡ n
 count-everything zero = count-none everything
 count-everything (suc n) = simp (count-suc, count-everything n) (omega arith)
 

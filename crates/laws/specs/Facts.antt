@@ -31,6 +31,9 @@ pair-of-larger a b l =
 place-of : {r t : Refusal} → refused r ≡ refused t → r .place ≡ t .place
 place-of {r} {t} q = let e : r ≡ t = cc in ap (λ u. u .place) e
 
+pub unlike : {a : Answer} {q : Pair} {r : Refusal} → a ≡ done q → a ≡ denied r → ⊥
+unlike u w = let z : _≡_ {A = ℕ} 0 1 = cc in omega arith
+
 module _ {p : ℕ} (P : OddPrime p) (g : Graph) (S : Subset) where
   -- a hand pick that no cause refuses
   pub record Allowed (pairs : Pairs) (a b : ℕ) : Type 0 where
@@ -227,9 +230,6 @@ module _ {p : ℕ} (P : OddPrime p) (g : Graph) (S : Subset) where
           let rest : PicksToCome P g S (pair-of c r ∷ pairs) m =
           next (pair-of c r ∷ pairs) (L .allowed .nonsingular) (omega (arith, fewer pairs c r L)) in
           picked {m = m} {e = pair-of c r} (ap (λ s. s .answer) (L .taken)) (rw (L .taken) rest)
-
-  pub unlike : {a : Answer} {q : Pair} {r : Refusal} → a ≡ done q → a ≡ denied r → ⊥
-  unlike u w = let z : _≡_ {A = ℕ} 0 1 = cc in omega arith
 
   pub picks-to-come-half : (m : ℕ) (pairs : Pairs) → Nonsingular P g S pairs → PicksToCome P g S pairs m → count (g .n) (unmatched S pairs) ≡ m + m
   picks-to-come-half m pairs I (stopped {r = why} e) = go (automatic-cases pairs I)

@@ -1,8 +1,15 @@
--- What is proved of the definitions of document 01, in reading order: indices into a table, the plain model's promises, histories of
--- calls, what an accepting verdict says, and that opening and every session call have exactly one outcome.
+-- What is proved of the definitions of document 01, in reading order.
+-- Indices into a table, row by row.
 pub mod Index
+-- The plain model: picks, partners, picks to come; then histories of calls.
 pub mod Facts
 pub mod History
+-- What an accepting ruling says.
 pub mod Sound
+-- Every call has exactly one outcome.
 pub mod Determined
 pub mod Carried
+pub mod Outcomes
+-- The bytes of a sequence of pairs, and demand 3.
+pub mod Sequence
+pub mod Runs

@@ -1,0 +1,170 @@
+-- The sequence of bytes that valid pairs make: it gives the pairs back, and it is well formed. Assumes nothing.
+use mathlib.Core.Path.{_≡_, refl, sym, ap, _∙_}
+use mathlib.Core.Logic.{_≢_}
+use mathlib.Core.List.{List, [], _∷_, _++_, append-assoc}
+use Prim.Native.Nat.{ℕ, zero, suc, _+_, _-_, _≤_, _<_}
+use native.Mathlib.Numerals.{add-one}
+use native.Mathlib.Omega.{arith}
+use native.Mathlib.Decide.{ℕ-discrete, decLt}
+use lib.ListN.{length, getD, replicate, length-append, length-replicate, getD-replicate, List·getD-append}
+use lib.Seq.{getD-append-seam, getD-append-add}
+use Rattle.modular.specs.Prime.{OddPrime}
+use Rattle.skew.specs.Subset.{Subset, _∈_, _∉_, clash, Without, without, smaller, remove-same, remove-other, count, count-without}
+use Rattle.matching.specs.Decision.{Every}
+use Rattle.matching.specs.Graph.{Graph, cell}
+use Rattle.matching.specs.Pairs.{Pair, Pairs, everything, unused, bytes, sequence, pairs-on, unmatched}
+use Rattle.matching.specs.Session.{WellFormed}
+use Rattle.laws.specs.Determined.{count-everything}
+use Rattle.laws.specs.History.{Fits, Valid, nil, cons}
+
+pub length-bytes : (pairs : Pairs) → length (bytes pairs) ≡ length pairs + length pairs
+unfolding bytes
+length-bytes [] = refl
+length-bytes (e ∷ earlier) = length-append (bytes earlier) (e .smaller ∷ e .larger ∷ []) ∙ omega (arith, length-bytes earlier)
+
+-- the bytes of a list of pairs end in those of the newest
+newest : (e : Pair) (earlier : Pairs) (rest : List ℕ) → bytes (e ∷ earlier) ++ rest ≡ bytes earlier ++ e .smaller ∷ e .larger ∷ rest
+unfolding bytes
+newest e earlier rest = append-assoc (bytes earlier) (e .smaller ∷ e .larger ∷ []) rest
+
+module _ (earlier : Pairs) (a b : ℕ) (rest : List ℕ) where
+  at-smaller : getD (bytes earlier ++ a ∷ b ∷ rest) (length earlier + length earlier) 0 ≡ a
+  at-smaller = ap (λ k. getD (bytes earlier ++ a ∷ b ∷ rest) k 0) (sym (length-bytes earlier)) ∙ getD-append-seam (bytes earlier) a (b ∷ rest) 0
+
+  at-larger : getD (bytes earlier ++ a ∷ b ∷ rest) (length earlier + length earlier + 1) 0 ≡ b
+  at-larger =
+      ap (λ k. getD (bytes earlier ++ a ∷ b ∷ rest) (k + 1) 0) (sym (length-bytes earlier))
+      ∙ getD-append-add (bytes earlier) (a ∷ b ∷ rest) 1 0
+
+-- the pairs are read off again
+pub pairs-on-bytes : (pairs : Pairs) (rest : List ℕ) → pairs-on (bytes pairs ++ rest) (length pairs) ≡ pairs
+unfolding pairs-on
+pairs-on-bytes [] rest = refl
+pairs-on-bytes (e ∷ earlier) rest =
+    rw (newest e earlier rest, at-smaller earlier (e .smaller) (e .larger) rest, at-larger earlier (e .smaller) (e .larger) rest, pairs-on-bytes earlier (e .smaller ∷ e .larger ∷ rest))
+
+module _ {p : ℕ} (P : OddPrime p) (g : Graph) (S : Subset) where
+  -- a property of two vertices that every pair has
+  pub every-pair : (Q : ℕ → ℕ → Type 0) → ((e : Pair) (earlier : Pairs) → Fits P g S e earlier → Q (e .smaller) (e .larger))
+      → (pairs : Pairs) (rest : List ℕ) → Valid P g S pairs
+      → Every (length pairs) (λ k. Q (getD (bytes pairs ++ rest) (k + k) 0) (getD (bytes pairs ++ rest) (k + k + 1) 0))
+  every-pair Q q [] rest nil k l = absurd (omega arith)
+  every-pair Q q (e ∷ earlier) rest (cons f v) k l =
+      rw (newest e earlier rest) (go (ℕ-discrete k (length earlier)) (every-pair Q q earlier (e .smaller ∷ e .larger ∷ rest) v k))
+    where
+      xs : List ℕ
+      xs = bytes earlier ++ e .smaller ∷ e .larger ∷ rest
+
+      go : Dec (k ≡ length earlier) → (k < length earlier → Q (getD xs (k + k) 0) (getD xs (k + k + 1) 0)) → Q (getD xs (k + k) 0) (getD xs (k + k + 1) 0)
+      go (yes h) r = rw (h, at-smaller earlier (e .smaller) (e .larger) rest, at-larger earlier (e .smaller) (e .larger) rest) (q e earlier f)
+      go (no d) r = r (omega arith)
+
+  pub fits-without : (e : Pair) (earlier : Pairs) → Fits P g S e earlier
+      → Without (unmatched S earlier) (e .smaller) (e .larger) (unmatched S (e ∷ earlier))
+  unfolding unmatched
+  fits-without e earlier f =
+      without (unmatched S earlier) (e .smaller) (e .larger) (λ q. omega (arith, f .ordered)) (f .smaller-left) (f .larger-left)
+
+  -- every byte of the pairs is a vertex that they match
+  pub every-byte : (pairs : Pairs) (rest : List ℕ) → Valid P g S pairs
+      → Every (length pairs + length pairs) (λ x. getD (bytes pairs ++ rest) x 0 ∉ unmatched S pairs)
+  every-byte [] rest nil x l = absurd (omega arith)
+  every-byte (e ∷ earlier) rest (cons f v) x l =
+      rw (newest e earlier rest)
+      (go (ℕ-discrete x (length earlier + length earlier)) (ℕ-discrete x (length earlier + length earlier + 1))
+      (every-byte earlier (e .smaller ∷ e .larger ∷ rest) v x))
+    where
+      xs : List ℕ
+      xs = bytes earlier ++ e .smaller ∷ e .larger ∷ rest
+
+      w : Without (unmatched S earlier) (e .smaller) (e .larger) (unmatched S (e ∷ earlier))
+      w = fits-without e earlier f
+
+      go : Dec (x ≡ length earlier + length earlier) → Dec (x ≡ length earlier + length earlier + 1)
+          → (x < length earlier + length earlier → getD xs x 0 ∉ unmatched S earlier) → getD xs x 0 ∉ unmatched S (e ∷ earlier)
+      go (yes h) _ r = rw (h, at-smaller earlier (e .smaller) (e .larger) rest) (w .a-out)
+      go (no _) (yes h) r = rw (h, at-larger earlier (e .smaller) (e .larger) rest) (w .b-out)
+      go (no d) (no c) r = smaller w (getD xs x 0) (r (omega arith))
+
+  -- all bytes of the pairs are different
+  pub all-different : (pairs : Pairs) (rest : List ℕ) → Valid P g S pairs
+      → Every (length pairs + length pairs) (λ y. Every y (λ x. getD (bytes pairs ++ rest) x 0 ≢ getD (bytes pairs ++ rest) y 0))
+  all-different [] rest nil y l x o = absurd (omega arith)
+  all-different (e ∷ earlier) rest (cons f v) y l x o =
+      rw (newest e earlier rest)
+      (go (ℕ-discrete y (length earlier + length earlier)) (ℕ-discrete y (length earlier + length earlier + 1))
+      (λ m. all-different earlier (e .smaller ∷ e .larger ∷ rest) v y m x o) (every-byte earlier (e .smaller ∷ e .larger ∷ rest) v x))
+    where
+      xs : List ℕ
+      xs = bytes earlier ++ e .smaller ∷ e .larger ∷ rest
+
+      at : ℕ → ℕ
+      at k = getD xs k 0
+
+      apart : (v : ℕ) → at x ∉ unmatched S earlier → v ∈ unmatched S earlier → at x ≢ v
+      apart v out in-set q = clash in-set (ap (unmatched S earlier) (sym q) ∙ out)
+
+      last : Dec (x ≡ length earlier + length earlier) → (x < length earlier + length earlier → at x ∉ unmatched S earlier) → x ≤ length earlier + length earlier
+          → at x ≢ e .larger
+      last (yes h) r m q =
+          omega (arith, f .ordered, sym (at-smaller earlier (e .smaller) (e .larger) rest), ap at h, q)
+      last (no d) r m q = apart (e .larger) (r (omega arith)) (f .larger-left) q
+
+      go : Dec (y ≡ length earlier + length earlier) → Dec (y ≡ length earlier + length earlier + 1)
+          → (y < length earlier + length earlier → at x ≢ at y) → (x < length earlier + length earlier → at x ∉ unmatched S earlier) → at x ≢ at y
+      go (yes h) _ r b =
+          rw (h, at-smaller earlier (e .smaller) (e .larger) rest) (apart (e .smaller) (b (omega arith)) (f .smaller-left))
+      go (no _) (yes h) r b =
+          rw (h, at-larger earlier (e .smaller) (e .larger) rest) (last (ℕ-discrete x (length earlier + length earlier)) b (omega arith))
+      go (no d) (no c) r b = r (omega arith)
+
+  -- two vertices fewer are left for each pair
+  pub count-left : (pairs : Pairs) → Valid P g S pairs → count (g .n) (unmatched S pairs) + (length pairs + length pairs) ≡ count (g .n) S
+  unfolding unmatched
+  count-left [] nil = omega arith
+  count-left (e ∷ earlier) (cons f v) =
+      omega
+      (arith, count-left earlier v, count-without (g .n) (fits-without e earlier f) (omega (arith, f .ordered, f .below)) (f .below))
+
+-- the sequence of valid pairs of a graph, whatever stands after it, is well formed
+module _ {p : ℕ} (P : OddPrime p) (g : Graph) (S : Subset) (few : count (g .n) S ≤ g .n) where
+  half : (pairs : Pairs) → Valid P g S pairs → length pairs + length pairs ≤ g .n
+  half pairs v = omega (arith, count-left P g S pairs v)
+
+  pub length-sequence : (pairs : Pairs) → Valid P g S pairs → length (sequence (g .n) pairs) ≡ g .n
+  unfolding sequence
+  length-sequence pairs v =
+      length-append (bytes pairs) (replicate (g .n - (length pairs + length pairs)) unused)
+      ∙ omega (arith, length-bytes pairs, length-replicate (g .n - (length pairs + length pairs)) unused, half pairs v)
+
+  pub well-formed-sequence : (pairs : Pairs) (rest : List ℕ) → Valid P g S pairs → WellFormed g (length pairs) (sequence (g .n) pairs ++ rest)
+  unfolding sequence
+  well-formed-sequence pairs rest v = rw append-assoc (record {
+    few = half pairs v;
+    ordered = every-pair P g S (λ a b. a < b) (λ e earlier f. f .ordered) pairs after v;
+    below = every-pair P g S (λ a b. b < g .n) (λ e earlier f. f .below) pairs after v;
+    adjacent = every-pair P g S (λ a b. cell g a b ≡ 1) (λ e earlier f. f .adjacent) pairs after v;
+    different = all-different P g S pairs after v;
+    rest = unused-rest;
+  })
+    where
+      spare : List ℕ
+      spare = replicate (g .n - (length pairs + length pairs)) unused
+
+      after : List ℕ
+      after = spare ++ rest
+
+      unused-rest : Every (g .n) (λ x. length pairs + length pairs ≤ x → getD (bytes pairs ++ after) x 0 ≡ unused)
+      unused-rest x l m =
+          let k = x - (length pairs + length pairs) in
+          let e : x ≡ length (bytes pairs) + k = omega (arith, length-bytes pairs) in
+          let o : k < g .n - (length pairs + length pairs) = omega arith in
+          let o' : k < length spare = omega (arith, length-replicate (g .n - (length pairs + length pairs)) unused) in
+          ap (λ z. getD (bytes pairs ++ after) z 0) e
+          ∙ getD-append-add (bytes pairs) after k 0
+          ∙ List·getD-append spare rest 0 k o'
+          ∙ getD-replicate (g .n - (length pairs + length pairs)) k unused 0 o
+
+  pub pairs-on-sequence : (pairs : Pairs) (rest : List ℕ) → pairs-on (sequence (g .n) pairs ++ rest) (length pairs) ≡ pairs
+  unfolding sequence
+  pairs-on-sequence pairs rest = rw append-assoc (pairs-on-bytes pairs (replicate (g .n - (length pairs + length pairs)) unused ++ rest))
