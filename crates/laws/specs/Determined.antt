@@ -13,6 +13,7 @@ use Rattle.skew.specs.Matching.{invertible-even}
 use Rattle.skew.specs.Inverse.{Matrix, Inverse, apply-congruent, inverse-unique, same-entries}
 use Rattle.skew.specs.Column.{FirstDependent, Witness, witness-unique}
 use Rattle.skew.specs.Decide.{Outcome, inverse, column, eliminate, witness-singular, first-unique}
+use Rattle.laws.specs.Lists.{length-list-of, getD-list-of}
 use Rattle.laws.specs.Index.{row-below, column-below, index-of, index-row, index-column, index-below}
 use Rattle.matching.specs.Decision.{Every, Ruling, accepted, refused}
 use Rattle.matching.specs.Graph.{Graph, tutte}
@@ -20,17 +21,6 @@ use Rattle.matching.specs.Pairs.{everything}
 use Rattle.matching.specs.Model.{skew}
 use Rattle.matching.specs.Session.{Session, session, InverseTable, table, vector, list-of}
 use Rattle.matching.specs.Opening.{Opening, opened, dependent, not-opened, Buffers, Singular, ruling, with-inverse, with-witness, Opens, refuses-opening, opens, depends}
-
-pub length-list-of : (k : ℕ) (f : ℕ → ℕ) → length (list-of k f) ≡ k
-unfolding list-of
-length-list-of zero f = refl
-length-list-of (suc k) f = ap suc (length-list-of k (λ x. f (suc x)))
-
-pub getD-list-of : (k : ℕ) (f : ℕ → ℕ) (x : ℕ) → x < k → getD (list-of k f) x 0 ≡ f x
-unfolding list-of
-getD-list-of zero f x l = absurd (omega arith)
-getD-list-of (suc k) f zero l = refl
-getD-list-of (suc k) f (suc x) l = getD-list-of k (λ x. f (suc x)) x (omega arith)
 
 pub count-everything : (n : ℕ) → count n everything ≡ n
 count-everything zero = count-none everything

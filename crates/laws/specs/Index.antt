@@ -1,6 +1,6 @@
 -- Indices into a table of n rows of n, row by row. Assumes nothing.
 use mathlib.Core.Path.{_≡_, ap, _∙_}
-use Prim.Native.Nat.{ℕ, zero, suc, _+_, _*_, _/_, _%_, _<_}
+use Prim.Native.Nat.{ℕ, zero, suc, _+_, _*_, _/_, _%_, _≤_, _<_}
 use native.Mathlib.Nat.{mod-lt, mod-eq-of-lt, div-add-mod', div-lt-iff-lt-mul, add-mul-div-right, add-mul-mod-self-right, div-eq-of-lt, mul-le-mul}
 use native.Mathlib.Omega.{arith}
 
@@ -31,3 +31,7 @@ module _ (n : ℕ) where
 
   pub index-below : (i j : ℕ) → i < n → j < n → i * n + j < n * n
   index-below i j hi hj = omega (arith, mul-le-mul {n₁ = suc i} {m₁ = n} {n₂ = n} {m₂ = n} hi (omega arith))
+
+  -- a row ends within the table
+  pub row-fits : (i : ℕ) → i < n → i * n + n ≤ n * n
+  row-fits i h = omega (arith, mul-le-mul {n₁ = suc i} {m₁ = n} {n₂ = n} {m₂ = n} h (omega arith))

@@ -1,5 +1,6 @@
 -- What is proved of the definitions of document 01, in reading order.
--- Indices into a table, row by row.
+-- Lists of values, and indices into a table, row by row.
+pub mod Lists
 pub mod Index
 -- The plain model: picks, partners, picks to come; then histories of calls.
 pub mod Facts
@@ -13,3 +14,5 @@ pub mod Outcomes
 -- The bytes of a sequence of pairs, and demand 3.
 pub mod Sequence
 pub mod Runs
+-- Where a weight stands.
+pub mod Weights

@@ -1,0 +1,82 @@
+-- `tutte::fill_row` meets its contract. The invariant of its loop: the first j words are those of the row, the others as they came.
+-- Assumes nothing.
+use mathlib.Core.Path.{_≡_, refl, sym, ap, _∙_}
+use mathlib.Core.List.{List, _++_}
+use Prim.Native.Nat.{ℕ, _-_, _≤_}
+use native.Mathlib.Omega.{arith}
+use lib.ListN.{length, drop, length-set}
+use borrow.Author.Needs.{needs}
+use Rattle.residue.specs.Modulus.{modulus}
+use Rattle.matching.specs.Graph.{Graph, tutte}
+use Rattle.matching.specs.Session.{list-of}
+use Rattle.laws.specs.Lists.{set-more, all-written}
+use Rattle.tutte.specs.Table.{over}
+use Rattle.tutte.proofs.fill_row.Statement.{statement}
+use Rattle.tutte.proofs.fill_row.Tie as tie
+
+record Written (g : Graph) (i : ℕ) (row₀ row : List ℕ) (j : ℕ) : Type 0 where
+  within : j ≤ length row₀
+  front : row ≡ list-of j (λ k. tutte g modulus i k) ++ drop j row₀
+  size : length row ≡ length row₀
+
+abbrev Inv-loop : tie.InvT-loop
+Inv-loop n adjacency weights i row₀ j₀ row j = Written (over n adjacency weights) i row₀ row j
+
+abbrev μ-loop : tie.MeasureT-loop
+μ-loop n adjacency weights i row₀ j₀ row j = n - j
+
+loop-holds : tie.Need-loop-holds Inv-loop μ-loop
+unfolding list-of
+loop-holds c = record { within = search needs; front = refl; size = refl }
+
+entry-requires : tie.Need-entry-requires Inv-loop μ-loop
+entry-requires c κs = search needs
+
+cast-row : tie.Need-cast-row Inv-loop μ-loop
+cast-row c = search needs
+
+mul-row : tie.Need-mul-row Inv-loop μ-loop
+mul-row c = search needs
+
+slice-write-row : tie.Need-slice-write-row Inv-loop μ-loop
+slice-write-row c = omega arith
+
+add-j : tie.Need-add-j Inv-loop μ-loop
+add-j c = omega arith
+
+loop-less : tie.Need-loop-less Inv-loop μ-loop
+loop-less c = omega arith
+
+loop-again : tie.Need-loop-again Inv-loop μ-loop
+loop-again c =
+    let inv = c .before .before .loop .inv in
+    record {
+      within = omega arith;
+      front = set-more _ _ _ _ _ (omega arith) (inv .front) (c .entry .ensures);
+      size = simp length-set (inv .size);
+    }
+
+same-length : tie.Need-same-length Inv-loop μ-loop
+same-length c = c .before .loop .inv .size
+
+returns : tie.Need-returns Inv-loop μ-loop
+returns c =
+    let s = c .before .before .before .before .before in
+    all-written _ _ _ _ (omega arith) (c .before .loop .inv .front) ∙ rw (s .pre .1 .1)
+
+pub fill-row-spec : {M : Type 1} → statement M
+fill-row-spec =
+    tie.close
+    (tie.spec
+    Inv-loop
+    μ-loop
+    loop-holds
+    entry-requires
+    cast-row
+    mul-row
+    slice-write-row
+    add-j
+    loop-less
+    loop-again
+    same-length
+    returns)
