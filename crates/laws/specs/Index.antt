@@ -35,3 +35,7 @@ module _ (n : ℕ) where
   -- a row ends within the table
   pub row-fits : (i : ℕ) → i < n → i * n + n ≤ n * n
   row-fits i h = omega (arith, mul-le-mul {n₁ = suc i} {m₁ = n} {n₂ = n} {m₂ = n} h (omega arith))
+
+-- the largest table
+pub square-small : (n : ℕ) → n ≤ 96 → n * n ≤ 9216
+square-small n l = mul-le-mul {n₁ = n} {m₁ = n} {n₂ = 96} {m₂ = 96} l l

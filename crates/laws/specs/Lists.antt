@@ -1,12 +1,12 @@
 -- The list of the values of a function. Assumes nothing.
 use mathlib.Core.Path.{_≡_, refl, sym, ap, ap₂, _∙_}
 use mathlib.Core.List.{List, [], _∷_, _++_, append-nil, append-assoc}
-use Prim.Native.Nat.{ℕ, zero, suc, _+_, _<_}
+use Prim.Native.Nat.{ℕ, zero, suc, _+_, _≤_, _<_}
 use native.Mathlib.Nat.{add-zero}
 use native.Mathlib.Numerals.{add-one}
 use native.Mathlib.Omega.{arith}
-use lib.ListN.{length, getD, take, drop, set}
-use lib.Seq.{drop-cons, drop-length, drop-drop, drop-at, take-at, set-at, append-snoc}
+use lib.ListN.{length, getD, take, drop, set, replicate, length-set, length-replicate}
+use lib.Seq.{length-take-le, drop-cons, drop-length, drop-drop, drop-at, take-at, set-at, append-snoc}
 use Rattle.matching.specs.Session.{list-of}
 
 pub length-list-of : (k : ℕ) (f : ℕ → ℕ) → length (list-of k f) ≡ k
@@ -43,20 +43,50 @@ pub list-of-more : (k : ℕ) (f : ℕ → ℕ) → list-of (k + 1) f ≡ list-of
 unfolding list-of
 list-of-more k f = list-of-add k 1 f ∙ ap (λ x. list-of k f ++ f x ∷ []) (add-zero k)
 
--- a list that is being written, one value after the other, over an old one
-pub set-more : (k : ℕ) (f : ℕ → ℕ) (words old : List ℕ) (d : ℕ) → k < length old → words ≡ list-of k f ++ drop k old → d ≡ f k
-    → set words k d ≡ list-of (k + 1) f ++ drop (k + 1) old
-set-more k f words old d h e ed =
-    rw (e, drop-cons old k 0 h, ed, list-of-more k f, add-one)
-    (set-at (list-of k f) _ _ _ k (length-list-of k f) ∙ sym (append-snoc (list-of k f) _ _))
+-- a list that is being written over an old one: its first i values are those of f, the others as they were
+pub record Written (f : ℕ → ℕ) (old words : List ℕ) (i : ℕ) : Type 0 where
+  pub within : i ≤ length old
+  pub front : words ≡ list-of i f ++ drop i old
+  pub size : length words ≡ length old
 
-pub all-written : (k : ℕ) (f : ℕ → ℕ) (words old : List ℕ) → k ≡ length old → words ≡ list-of k f ++ drop k old → words ≡ list-of (length old) f
-all-written k f words old h e = e ∙ rw (h, drop-length old, append-nil)
+pub written-start : (f : ℕ → ℕ) (old : List ℕ) → Written f old old 0
+unfolding list-of
+written-start f old = record { within = omega arith; front = refl; size = refl }
 
--- the same, a part of k values after the other
+pub written-more : {f : ℕ → ℕ} {old words : List ℕ} {i : ℕ} (d : ℕ) → Written f old words i → i < length old → d ≡ f i
+    → Written f old (set words i d) (i + 1)
+written-more {f} {old} {words} {i} d W h e = record {
+  within = omega arith;
+  front =
+      rw (W .front, drop-cons old i 0 h, e, list-of-more i f, add-one)
+      (set-at (list-of i f) _ _ _ i (length-list-of i f) ∙ sym (append-snoc (list-of i f) _ _));
+  size = simp length-set (W .size);
+}
+
+pub written-all : {f : ℕ → ℕ} {old words : List ℕ} {i : ℕ} → Written f old words i → length old ≤ i → words ≡ list-of (length old) f
+written-all {f} {old} {words} {i} W l =
+    let e : i ≡ length old = omega (arith, W .within) in
+    W .front ∙ rw (e, drop-length old, append-nil)
+
+-- a part of k values written after the first a
 pub part-more : (a k : ℕ) (f : ℕ → ℕ) (words old row : List ℕ) → words ≡ list-of a f ++ drop a old → row ≡ list-of k (λ x. f (a + x))
     → take a words ++ (row ++ drop k (drop a words)) ≡ list-of (a + k) f ++ drop (a + k) old
 part-more a k f words old row e er =
     rw
     (e, take-at (list-of a f) (drop a old) a (length-list-of a f), drop-at (list-of a f) (drop a old) a (length-list-of a f), drop-drop k a old, er, list-of-add a k f)
     (sym (append-assoc (list-of a f) (list-of k (λ x. f (a + x))) (drop (a + k) old)))
+
+pub list-of-constant : (k v : ℕ) → list-of k (λ _. v) ≡ replicate k v
+unfolding list-of
+list-of-constant zero v = refl
+list-of-constant (suc k) v = ap (λ l. v ∷ l) (list-of-constant k v)
+
+-- a list is that of its own values
+pub list-of-values : (l : List ℕ) → list-of (length l) (λ x. getD l x 0) ≡ l
+unfolding list-of
+list-of-values [] = refl
+list-of-values (x ∷ l) = ap (λ r. x ∷ r) (list-of-values l)
+
+-- the first k of m equal values
+pub length-part : (k m v : ℕ) → k ≤ m → length (take k (replicate m v)) ≡ k
+length-part k m v l = length-take-le k (replicate m v) (omega (arith, length-replicate m v))

@@ -1,19 +1,19 @@
 -- `tutte::fill` meets its contract. The invariant of its loop: the first i rows are those of the matrix, the others as they came.
 -- Assumes nothing.
 use mathlib.Core.Path.{_≡_, refl, sym, ap, ap₂, _∙_}
-use mathlib.Core.List.{List, _++_}
+use mathlib.Core.List.{List, _++_, append-nil}
 use Prim.Native.Nat.{ℕ, _+_, _*_, _-_, _/_, _%_, _≤_, _<_}
 use native.Mathlib.Nat.{zero-mul, mul-le-mul}
 use native.Mathlib.Omega.{arith}
 use lib.ListN.{length, take, drop}
-use lib.Seq.{length-take-le}
 use lib.ListN.{length-drop}
+use lib.Seq.{length-take-le, drop-length}
 use borrow.Author.Needs.{needs}
 use Rattle.residue.specs.Modulus.{modulus}
 use Rattle.matching.specs.Graph.{Graph, tutte}
 use Rattle.matching.specs.Session.{list-of}
-use Rattle.laws.specs.Index.{index-row, index-column, row-fits}
-use Rattle.laws.specs.Lists.{list-of-same, part-more, all-written}
+use Rattle.laws.specs.Index.{index-row, index-column, row-fits, square-small}
+use Rattle.laws.specs.Lists.{list-of-same, part-more}
 use Rattle.tutte.specs.Table.{over, Lent, row-small}
 use Rattle.tutte.proofs.fill.Statement.{statement}
 use Rattle.tutte.proofs.fill.Tie as tie
@@ -30,9 +30,6 @@ record Written (g : Graph) (table₀ table : List ℕ) (i : ℕ) : Type 0 where
 row-part : (g : Graph) (i : ℕ) → list-of (g .n) (λ j. tutte g modulus i j) ≡ list-of (g .n) (λ j. value g (i * g .n + j))
 row-part g i =
     list-of-same (g .n) _ _ (λ j l. sym (ap₂ (tutte g modulus) (index-row (g .n) i j l) (index-column (g .n) i j l)))
-
-square : (n : ℕ) → n ≤ 96 → n * n ≤ 9216
-square n l = mul-le-mul {n₁ = n} {m₁ = n} {n₂ = 96} {m₂ = 96} l l
 
 part-length : (i n : ℕ) (table : List ℕ) → i * n + n ≤ length table → length (take (i * n + n - i * n) (drop (i * n) table)) ≡ n
 part-length i n table h =
@@ -52,17 +49,17 @@ loop-holds c = record { within = search needs; front = rw zero-mul refl; size = 
 mul-at : tie.Need-mul-at Inv-loop μ-loop
 mul-at c =
     let s = c .before .before .before .before .before in
-    record { fits = omega (arith, row-fits (s .args .n) (c .before .loop .i) (omega arith), square (s .args .n) (s .pre .0 .size)) }
+    record { fits = omega (arith, row-fits (s .args .n) (c .before .loop .i) (omega arith), square-small (s .args .n) (s .pre .0 .size)) }
 
 add-end : tie.Need-add-end Inv-loop μ-loop
 add-end c =
     let s = c .before .before .before .before .before in
-    record { fits = omega (arith, row-fits (s .args .n) (c .before .loop .i) (omega arith), square (s .args .n) (s .pre .0 .size)) }
+    record { fits = omega (arith, row-fits (s .args .n) (c .before .loop .i) (omega arith), square-small (s .args .n) (s .pre .0 .size)) }
 
 mul-fill-row : tie.Need-mul-fill-row Inv-loop μ-loop
 mul-fill-row c =
     let s = c .before .before .before .before .before in
-    record { fits = omega (arith, row-fits (s .args .n) (c .before .loop .i) (omega arith), square (s .args .n) (s .pre .0 .size)) }
+    record { fits = omega (arith, row-fits (s .args .n) (c .before .loop .i) (omega arith), square-small (s .args .n) (s .pre .0 .size)) }
 
 sub-fill-row : tie.Need-sub-fill-row Inv-loop μ-loop
 sub-fill-row c = search needs
@@ -112,7 +109,8 @@ returns c =
     let s = c .before .before .before .before .before in
     let inv = c .before .loop .inv in
     let e : c .before .loop .i ≡ s .args .n = omega arith in
-    all-written _ _ _ _ (rw (s .pre .1, e) refl) (inv .front) ∙ rw (s .pre .1) refl
+    let f : c .before .loop .i * s .args .n ≡ length (s .args .table .now) = rw (s .pre .1, e) refl in
+    inv .front ∙ rw (f, drop-length (s .args .table .now), append-nil, s .pre .1)
 
 pub fill-spec : {M : Type 1} → statement M
 fill-spec =

@@ -9,25 +9,19 @@ use borrow.Author.Needs.{needs}
 use Rattle.residue.specs.Modulus.{modulus}
 use Rattle.matching.specs.Graph.{Graph, tutte}
 use Rattle.matching.specs.Session.{list-of}
-use Rattle.laws.specs.Lists.{set-more, all-written}
+use Rattle.laws.specs.Lists.{Written, written-start, written-more, written-all}
 use Rattle.tutte.specs.Table.{over}
 use Rattle.tutte.proofs.fill_row.Statement.{statement}
 use Rattle.tutte.proofs.fill_row.Tie as tie
 
-record Written (g : Graph) (i : ℕ) (row₀ row : List ℕ) (j : ℕ) : Type 0 where
-  within : j ≤ length row₀
-  front : row ≡ list-of j (λ k. tutte g modulus i k) ++ drop j row₀
-  size : length row ≡ length row₀
-
 abbrev Inv-loop : tie.InvT-loop
-Inv-loop n adjacency weights i row₀ j₀ row j = Written (over n adjacency weights) i row₀ row j
+Inv-loop n adjacency weights i row₀ j₀ row j = Written (λ k. tutte (over n adjacency weights) modulus i k) row₀ row j
 
 abbrev μ-loop : tie.MeasureT-loop
 μ-loop n adjacency weights i row₀ j₀ row j = n - j
 
 loop-holds : tie.Need-loop-holds Inv-loop μ-loop
-unfolding list-of
-loop-holds c = record { within = search needs; front = refl; size = refl }
+loop-holds c = written-start _ _
 
 entry-requires : tie.Need-entry-requires Inv-loop μ-loop
 entry-requires c κs = search needs
@@ -48,13 +42,7 @@ loop-less : tie.Need-loop-less Inv-loop μ-loop
 loop-less c = omega arith
 
 loop-again : tie.Need-loop-again Inv-loop μ-loop
-loop-again c =
-    let inv = c .before .before .loop .inv in
-    record {
-      within = omega arith;
-      front = set-more _ _ _ _ _ (omega arith) (inv .front) (c .entry .ensures);
-      size = simp length-set (inv .size);
-    }
+loop-again c = written-more _ (c .before .before .loop .inv) (omega arith) (c .entry .ensures)
 
 same-length : tie.Need-same-length Inv-loop μ-loop
 same-length c = c .before .loop .inv .size
@@ -62,7 +50,7 @@ same-length c = c .before .loop .inv .size
 returns : tie.Need-returns Inv-loop μ-loop
 returns c =
     let s = c .before .before .before .before .before in
-    all-written _ _ _ _ (omega arith) (c .before .loop .inv .front) ∙ rw (s .pre .1 .1)
+    written-all (c .before .loop .inv) (omega arith) ∙ rw (s .pre .1 .1)
 
 pub fill-row-spec : {M : Type 1} → statement M
 fill-row-spec =

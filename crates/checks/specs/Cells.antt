@@ -1,0 +1,134 @@
+-- Laws of the faults of the adjacency table's cells, and of the first of them. Assumes nothing.
+use mathlib.Core.Path.{_≡_, refl, sym, ap, _∙_}
+use mathlib.Core.Logic.{_≢_}
+use mathlib.Core.List.{List, []}
+use Prim.Native.Nat.{ℕ, suc, _+_, _*_, _/_, _%_, _≤_, _<_}
+use native.Mathlib.Nat.{div-lt-iff-lt-mul}
+use native.Mathlib.Omega.{arith}
+use native.Mathlib.Decide.{ℕ-discrete, decLt}
+use lib.ListN.{getD}
+use Rattle.skew.specs.Choose.{choose-yes, choose-no}
+use Rattle.matching.specs.Decision.{Every, absent, at, not?, First, first?}
+use Rattle.matching.specs.Graph.{Graph, cell, fault, Faulty}
+use Rattle.matching.specs.Causes.{bad-cell}
+use Rattle.laws.specs.Index.{index-positive, row-below, column-below, index-of, index-row, index-column, index-below}
+use Rattle.laws.specs.Sound.{found-at, found-absent}
+use Rattle.checks.specs.Answers.{graph-of, kind-of, FaultInRow, FirstFault, Located}
+use Rattle.checks.specs.declared.Fault.{Fault}
+use Rattle.checks.specs.declared.Cells.{Cells}
+use Rattle.checks.specs.declared.Cells.the-variants as variants
+
+pub fault-kind : (g : Graph) (i j : ℕ) → fault g i j ≡ kind-of (cell g i j) (cell g j i) i j
+unfolding fault kind-of
+fault-kind g i j = refl
+
+-- by the indices of the cell and of its mirror
+pub kind-at : (g : Graph) (i j x y : ℕ) → x ≡ i * g .n + j → y ≡ j * g .n + i → kind-of (getD (g .adjacency) x 0) (getD (g .adjacency) y 0) i j ≡ fault g i j
+kind-at g i j x y ex ey = rw (ex, ey) (sym (fault-kind g i j))
+
+-- case by case
+module _ (x y i j : ℕ) where
+  pub kind-large : 1 < x → kind-of x y i j ≡ 1
+  unfolding kind-of
+  kind-large l = choose-yes (decLt 1 x) _ _ l
+
+  pub kind-diagonal-zero : x ≤ 1 → i ≡ j → x ≡ 0 → kind-of x y i j ≡ 0
+  unfolding kind-of
+  kind-diagonal-zero l d z =
+      choose-no (decLt 1 x) _ _ (λ h. omega arith) ∙ choose-yes (ℕ-discrete i j) _ _ d ∙ choose-yes (ℕ-discrete x 0) _ _ z
+
+  pub kind-diagonal : x ≤ 1 → i ≡ j → x ≢ 0 → kind-of x y i j ≡ 2
+  unfolding kind-of
+  kind-diagonal l d z =
+      choose-no (decLt 1 x) _ _ (λ h. omega arith) ∙ choose-yes (ℕ-discrete i j) _ _ d ∙ choose-no (ℕ-discrete x 0) _ _ z
+
+  pub kind-equal : x ≤ 1 → i ≢ j → x ≡ y → kind-of x y i j ≡ 0
+  unfolding kind-of
+  kind-equal l d e =
+      choose-no (decLt 1 x) _ _ (λ h. omega arith) ∙ choose-no (ℕ-discrete i j) _ _ d ∙ choose-yes (ℕ-discrete x y) _ _ e
+
+  pub kind-unequal : x ≤ 1 → i ≢ j → x ≢ y → kind-of x y i j ≡ 3
+  unfolding kind-of
+  kind-unequal l d e =
+      choose-no (decLt 1 x) _ _ (λ h. omega arith) ∙ choose-no (ℕ-discrete i j) _ _ d ∙ choose-no (ℕ-discrete x y) _ _ e
+
+-- off the diagonal a cell without fault has a mirror without fault
+pub kind-mirror : (x y i j : ℕ) → i ≢ j → kind-of x y i j ≡ 0 → kind-of y x j i ≡ 0
+kind-mirror x y i j d e = go (decLt 1 x) (ℕ-discrete x y)
+  where
+    go : Dec (1 < x) → Dec (x ≡ y) → kind-of y x j i ≡ 0
+    go (yes l) _ = absurd (omega (arith, kind-large x y i j l))
+    go (no l) (yes q) = kind-equal y x j i (omega arith) (λ h. d (sym h)) (sym q)
+    go (no l) (no q) = absurd (omega (arith, kind-unequal x y i j (omega arith) d q))
+
+module _ (g : Graph) where
+  fault-mirror : (i j : ℕ) → i ≢ j → fault g i j ≡ 0 → fault g j i ≡ 0
+  fault-mirror i j d e = fault-kind g j i ∙ kind-mirror (cell g i j) (cell g j i) i j d (sym (fault-kind g i j) ∙ e)
+
+  -- the rows before i have no fault from the diagonal on
+  abbrev pub RowsPassed : ℕ → Type 0
+  RowsPassed i = (k : ℕ) → k < i → (l : ℕ) → k ≤ l → l < g .n → fault g k l ≡ 0
+
+  -- then no cell of these rows and of the next, up to a column before which it has no fault from the diagonal on, has one
+  pub passed : (i j : ℕ) → j ≤ g .n → i * g .n + j ≤ g .n * g .n → RowsPassed i → ((l : ℕ) → i ≤ l → l < j → fault g i l ≡ 0)
+      → Every (i * g .n + j) (λ x. ¬ Faulty g x)
+  passed i j hj below rows row x l d = d (go (decLt (x / g .n) i) (decLt (x % g .n) (x / g .n)))
+    where
+      inside : x < g .n * g .n
+      inside = omega arith
+
+      at-row : x / g .n < g .n
+      at-row = row-below (g .n) x inside
+
+      at-column : x % g .n < g .n
+      at-column = column-below (g .n) x inside
+
+      same-row : ¬ (x / g .n < i) → x / g .n ≡ i
+      same-row a = omega (arith, div-lt-iff-lt-mul {k = g .n} {x = x} {y = suc i} (index-positive (g .n) x inside) .1 (omega arith))
+
+      left-of : x / g .n ≡ i → x % g .n < j
+      left-of e = omega (arith, index-of (g .n) x, ap (λ k. k * g .n) e)
+
+      go : Dec (x / g .n < i) → Dec (x % g .n < x / g .n) → fault g (x / g .n) (x % g .n) ≡ 0
+      go (yes a) (no b) = rows (x / g .n) a (x % g .n) (omega arith) at-column
+      go (yes a) (yes b) = fault-mirror (x % g .n) (x / g .n) (λ e. omega arith) (rows (x % g .n) (omega arith) (x / g .n) (omega arith) at-row)
+      go (no a) (yes b) =
+          fault-mirror (x % g .n) (x / g .n) (λ e. omega arith) (rows (x % g .n) (omega (arith, same-row a)) (x / g .n) (omega arith) at-row)
+      go (no a) (no b) = rw (same-row a) (row (x % g .n) (omega (arith, same-row a)) (left-of (same-row a)))
+
+  cells : First (g .n * g .n) (Faulty g)
+  unfolding first? fault ℕ-discrete
+  cells = first? (Faulty g) (g .n * g .n) (λ x. not? (ℕ-discrete (fault g (x / g .n) (x % g .n)) 0))
+
+  pub cell-found : (i j : ℕ) → i < g .n → j < g .n → fault g i j ≢ 0 → RowsPassed i → ((l : ℕ) → i ≤ l → l < j → fault g i l ≡ 0)
+      → bad-cell g .finding ≡ at (i * g .n + j)
+  unfolding bad-cell cells
+  cell-found i j hi hj d rows row =
+      let below = index-below (g .n) i j hi hj in
+      found-at cells (i * g .n + j) below (rw (index-row (g .n) i j hj, index-column (g .n) i j hj) d) (passed i j (omega arith) (omega arith) rows row)
+
+  pub cells-absent : RowsPassed (g .n) → bad-cell g .finding ≡ absent
+  unfolding bad-cell cells
+  cells-absent rows = found-absent cells .1 (λ x l. passed (g .n) 0 (omega arith) (omega arith) rows (λ l a b. absurd (omega arith)) x (omega arith))
+
+  -- a row's scan after the rows before it
+  pub first-in-row : (i : ℕ) → i < g .n → RowsPassed i → (f : Fault) → FaultInRow g i f → FirstFault g f
+  first-in-row i hi rows f s = record {
+    row = omega (arith, s .row);
+    column = s .column;
+    kind = rw (s .row) (s .kind);
+    place = rw (s .row) (cell-found i (f .column) hi (s .column) (λ e. s .faulty (s .kind ∙ e)) rows (s .before));
+  }
+
+  pub next-row : (i : ℕ) → RowsPassed i → ((l : ℕ) → i ≤ l → l < g .n → fault g i l ≡ 0) → RowsPassed (i + 1)
+  next-row i rows row k a l b c = go (ℕ-discrete k i)
+    where
+      go : Dec (k ≡ i) → fault g k l ≡ 0
+      go (yes e) = rw e (row l (omega arith) c)
+      go (no d) = rows k (omega arith) l b c
+
+-- the weights have no part in it
+pub whatever-weights : (n : ℕ) (adjacency : List ℕ) (r : Cells) → Located (graph-of n adjacency []) r → (weights : List ℕ) → Located (graph-of n adjacency weights) r
+unfolding bad-cell fault
+whatever-weights n adjacency variants.Faultless h weights = h
+whatever-weights n adjacency (variants.Faulty f) h weights = record { row = h .row; column = h .column; kind = h .kind; place = h .place }

@@ -1,0 +1,70 @@
+-- Laws of the causes 3 and 4, and of opening's 1 to 4, case by case. Assumes nothing.
+use mathlib.Core.Path.{_≡_, sym, _∙_}
+use mathlib.Core.List.{List, [], _∷_, _++_}
+use Prim.Native.Nat.{ℕ, _*_, _≤_, _<_}
+use lib.ListN.{length}
+use Rattle.matching.specs.Decision.{absent, at, Refusal, because, Ruling, accepted, refused, Cause, judge}
+use Rattle.matching.specs.Graph.{Graph, largest, pair-count}
+use Rattle.matching.specs.Causes.{Lent, too-large, too-short, bad-cell, bad-weight, opening-causes, opening-ruling}
+use Rattle.laws.specs.Sound.{judge-refused, judge-next}
+use Rattle.checks.specs.Answers.{lent-always}
+use Rattle.checks.specs.Lengths.{lent-besides, lengths-refused, lengths-accepted, short-witness, short-work, long-besides}
+
+module _ (p : ℕ) (g : Graph) where
+  abbrev pub graph-causes : List Cause
+  graph-causes = bad-cell g ∷ bad-weight p g ∷ []
+
+  pub cell-refused : (x : ℕ) → bad-cell g .finding ≡ at x → judge graph-causes ≡ refused (because 3 x)
+  unfolding bad-cell
+  cell-refused x e = judge-refused (bad-cell g) (bad-weight p g ∷ []) x e
+
+  pub weight-refused : (x : ℕ) → bad-cell g .finding ≡ absent → at x ≡ bad-weight p g .finding → judge graph-causes ≡ refused (because 4 x)
+  unfolding bad-weight
+  weight-refused x a e = judge-next (bad-cell g) (bad-weight p g ∷ []) a ∙ judge-refused (bad-weight p g) [] x (sym e)
+
+  pub graph-accepted : bad-cell g .finding ≡ absent → absent ≡ bad-weight p g .finding → judge graph-causes ≡ accepted
+  graph-accepted a e = judge-next (bad-cell g) (bad-weight p g ∷ []) a ∙ judge-next (bad-weight p g) [] (sym e)
+
+  module _ (inverse sequence witness work : ℕ) where
+    -- opening's ruling, whatever the other buffers hold
+    abbrev pub RulesOpening : Ruling → Type 0
+    RulesOpening r =
+        (I S W K : List ℕ) → length I ≡ inverse → length S ≡ sequence → length W ≡ witness → length K ≡ work → r ≡ opening-ruling p g I S W K
+
+    abbrev pub before : List Lent
+    before = lent-always (g .n) (length (g .adjacency)) (length (g .weights)) inverse sequence
+
+    abbrev pub after : List Lent
+    after = lent-besides (g .n) witness work
+
+    by-lengths : (r : Ruling) → r ≡ judge (opening-causes p g (before ++ after)) → RulesOpening r
+    unfolding opening-ruling
+    by-lengths r e I S W K i s w k = rw (i, s, w, k) e
+
+    -- what is judged of the size and the first lengths
+    abbrev pub lengths-judged : Ruling
+    lengths-judged = judge (too-large (g .n) ∷ too-short before ∷ [])
+
+    pub opening-lengths : (r : Refusal) → refused r ≡ lengths-judged → RulesOpening (refused r)
+    opening-lengths r e = by-lengths (refused r) (sym (lengths-refused (g .n) before after graph-causes r (sym e)))
+
+    pub opening-witness : accepted ≡ lengths-judged → witness < g .n → RulesOpening (refused (because 2 5))
+    opening-witness e h =
+        by-lengths (refused (because 2 5))
+        (sym (lengths-accepted (g .n) before after graph-causes (sym e) .2 ∙ short-witness (g .n) witness work graph-causes h))
+
+    pub opening-work : accepted ≡ lengths-judged → g .n ≤ witness → work < g .n * g .n → RulesOpening (refused (because 2 6))
+    opening-work e l h =
+        by-lengths (refused (because 2 6))
+        (sym (lengths-accepted (g .n) before after graph-causes (sym e) .2 ∙ short-work (g .n) witness work graph-causes l h))
+
+    pub opening-graph : accepted ≡ lengths-judged → g .n ≤ witness → g .n * g .n ≤ work → (r : Ruling) → r ≡ judge graph-causes → RulesOpening r
+    opening-graph e l m r q =
+        by-lengths r
+        (q ∙ sym (lengths-accepted (g .n) before after graph-causes (sym e) .2 ∙ long-besides (g .n) witness work graph-causes l m))
+
+    -- what the graph's check needs
+    pub tables-long : accepted ≡ lengths-judged → (g .n ≤ largest) × (g .n * g .n ≤ length (g .adjacency)) × (pair-count (g .n) ≤ length (g .weights))
+    tables-long e =
+        let judged = lengths-accepted (g .n) before after graph-causes (sym e) in
+        (judged .0, judged .1 .0, judged .1 .1 .0)

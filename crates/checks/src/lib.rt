@@ -1,0 +1,224 @@
+// The check of a graph as it is lent: the causes 1 to 4 of document 01's table with their places, in that order.
+ghost use mathlib.Core.Path.{_≡_};
+ghost use mathlib.Core.List.{List, [], _∷_};
+ghost use Prim.Native.Nat.{ℕ, _+_, _*_, _≤_, _<_};
+ghost use lib.ListN.{length};
+ghost use Rattle.residue.specs.Modulus.{modulus};
+ghost use Rattle.matching.specs.Decision.{judge};
+ghost use Rattle.matching.specs.Graph.{largest, pair-count};
+ghost use Rattle.matching.specs.Causes.{first-short, too-large, too-short, bad-cell, bad-weight, opening-ruling};
+ghost use Rattle.checks.specs.Answers.{graph-of, finding-of, ruling-of, lent-always, kind-of, InRow, Located};
+use residue::Residue;
+
+// The most vertices that a graph may have.
+pub const LARGEST: usize = 96;
+
+// Why a call is refused: the number of the cause, and the place returned with it.
+pub struct Refusal {
+    pub cause: u8,
+    pub place: usize,
+}
+
+// A call is refused, or no cause applies.
+pub enum Ruling {
+    Accepted,
+    Refused(Refusal),
+}
+
+// Whether a cause applies, and its place.
+pub enum Finding {
+    Absent,
+    At(usize),
+}
+
+// A cell of the adjacency table with a fault: 1 not 0 or 1, 2 on the diagonal and not 0, 3 unequal to its mirror.
+pub struct Fault {
+    pub row: usize,
+    pub column: usize,
+    pub kind: u8,
+}
+
+// The first cell with a fault, or that there is none.
+pub enum Cells {
+    Faultless,
+    Faulty(Fault),
+}
+
+// How many pairs of vertices there are.
+pub fn pair_count(n: usize) -> usize
+    requires { ⌜ n ≤ largest ⌝ }
+    ensures { λ r. ⌜ r ≡ pair-count n ⌝ }
+{
+    if n == 0 {
+        return 0;
+    }
+    n * (n - 1) / 2
+}
+
+// The number of the first buffer that is too short, of those that opening and every session call are lent: 1 adjacency, 2 weights,
+// 3 inverse, 4 sequence.
+fn first_short(
+    n: usize,
+    adjacency: usize,
+    weights: usize,
+    inverse: usize,
+    sequence: usize,
+) -> Finding
+    requires { ⌜ n ≤ largest ⌝ }
+    ensures { λ r. ⌜ finding-of r ≡ first-short (lent-always n adjacency weights inverse sequence) ⌝ }
+{
+    let cells = n * n;
+    if adjacency < cells {
+        return Finding::At(1);
+    }
+    if weights < pair_count(n) {
+        return Finding::At(2);
+    }
+    if inverse < cells {
+        return Finding::At(3);
+    }
+    if sequence < n {
+        return Finding::At(4);
+    }
+    Finding::Absent
+}
+
+// Causes 1 and 2, for the size and the lengths of the same buffers.
+pub fn judge_lengths(
+    n: usize,
+    adjacency: usize,
+    weights: usize,
+    inverse: usize,
+    sequence: usize,
+) -> Ruling
+    ensures { λ r. ⌜ ruling-of r ≡ judge (too-large n ∷ too-short (lent-always n adjacency weights inverse sequence) ∷ []) ⌝ }
+{
+    if LARGEST < n {
+        return Ruling::Refused(Refusal { cause: 1, place: 0 });
+    }
+    match first_short(n, adjacency, weights, inverse, sequence) {
+        Finding::Absent => Ruling::Accepted,
+        Finding::At(place) => Ruling::Refused(Refusal { cause: 2, place }),
+    }
+}
+
+// The fault of a cell, by its number; 0 for none.
+fn kind_of(cell: u8, mirror: u8, row: usize, column: usize) -> u8
+    ensures { λ r. ⌜ r ≡ kind-of cell mirror row column ⌝ }
+{
+    if 1 < cell {
+        return 1;
+    }
+    if row == column {
+        if cell == 0 {
+            return 0;
+        }
+        return 2;
+    }
+    if cell == mirror {
+        return 0;
+    }
+    3
+}
+
+// The first fault of a row from the diagonal on, whose index is start.
+fn row_fault(n: usize, adjacency: &[u8], row: usize, start: usize) -> Cells
+    requires { ⌜ (n ≤ largest) × (n * n ≤ length (now adjacency)) × (row < n) × (start ≡ row * n + row) ⌝ }
+    ensures { λ r. ⌜ InRow (graph-of n (now (adjacency .entry)) []) row r ⌝ }
+{
+    let mut column = row;
+    let mut index = start;
+    let mut mirror = start;
+    while column < n {
+        let kind = kind_of(adjacency[index], adjacency[mirror], row, column);
+        if kind != 0 {
+            return Cells::Faulty(Fault { row, column, kind });
+        }
+        column += 1;
+        index += 1;
+        mirror += n;
+    }
+    Cells::Faultless
+}
+
+// The first fault, row by row. A cell left of the diagonal has one only if its mirror, which comes before it, has one.
+pub fn first_fault(n: usize, adjacency: &[u8]) -> Cells
+    requires { ⌜ (n ≤ largest) × (n * n ≤ length (now adjacency)) ⌝ }
+    ensures { λ r. ⌜ ((weights : List ℕ) → Located (graph-of n (now (adjacency .entry)) weights) r) ⌝ }
+{
+    let mut row = 0;
+    let mut start = 0;
+    while row < n {
+        if let Cells::Faulty(fault) = row_fault(n, adjacency, row, start) {
+            return Cells::Faulty(fault);
+        }
+        row += 1;
+        start += n + 1;
+    }
+    Cells::Faultless
+}
+
+// The first weight that is 0 or not below the modulus, of one for each pair of vertices.
+pub fn first_outside(n: usize, weights: &[u16]) -> Finding
+    requires { ⌜ (n ≤ largest) × (pair-count n ≤ length (now weights)) ⌝ }
+    ensures { λ r. ⌜ ((adjacency : List ℕ) → finding-of r ≡ bad-weight modulus (graph-of n adjacency (now (weights .entry))) .finding) ⌝ }
+{
+    let count = pair_count(n);
+    let mut i = 0;
+    while i < count {
+        let weight = weights[i] as u64;
+        if weight == 0 {
+            return Finding::At(i);
+        }
+        if Residue::MODULUS <= weight {
+            return Finding::At(i);
+        }
+        i += 1;
+    }
+    Finding::Absent
+}
+
+// Causes 3 and 4, for tables that are long enough.
+pub fn judge_graph(n: usize, adjacency: &[u8], weights: &[u16]) -> Ruling
+    requires { ⌜ (n ≤ largest) × (n * n ≤ length (now adjacency)) × (pair-count n ≤ length (now weights)) ⌝ }
+    ensures { λ r. ⌜ ruling-of r ≡ judge (bad-cell (graph-of n (now (adjacency .entry)) (now (weights .entry))) ∷ bad-weight modulus (graph-of n (now (adjacency .entry)) (now (weights .entry))) ∷ []) ⌝ }
+{
+    if let Cells::Faulty(fault) = first_fault(n, adjacency) {
+        let place = fault.row * n + fault.column;
+        return Ruling::Refused(Refusal { cause: 3, place });
+    }
+    if let Finding::At(place) = first_outside(n, weights) {
+        return Ruling::Refused(Refusal { cause: 4, place });
+    }
+    Ruling::Accepted
+}
+
+// Causes 1 to 4 as opening looks at them. The last four are the lengths of the other buffers lent to it.
+pub fn judge_opening(
+    n: usize,
+    adjacency: &[u8],
+    weights: &[u16],
+    inverse: usize,
+    sequence: usize,
+    witness: usize,
+    work: usize,
+) -> Ruling
+    ensures { λ r. ⌜ ((I S W K : List ℕ) → length I ≡ inverse → length S ≡ sequence → length W ≡ witness → length K ≡ work → ruling-of r ≡ opening-ruling modulus (graph-of n (now (adjacency .entry)) (now (weights .entry))) I S W K) ⌝ }
+{
+    if let Ruling::Refused(refusal) = judge_lengths(
+        n,
+        adjacency.len(),
+        weights.len(),
+        inverse,
+        sequence,
+    ) {
+        return Ruling::Refused(refusal);
+    }
+    if witness < n {
+        return Ruling::Refused(Refusal { cause: 2, place: 5 });
+    }
+    if work < n * n {
+        return Ruling::Refused(Refusal { cause: 2, place: 6 });
+    }
+    judge_graph(n, adjacency, weights)
+}

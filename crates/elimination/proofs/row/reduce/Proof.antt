@@ -1,0 +1,63 @@
+-- `elimination::row::reduce` meets its contract: the words before j are reduced.
+-- Assumes nothing.
+use mathlib.Core.Path.{ap}
+use Prim.Native.Nat.{_-_, _%_}
+use native.Mathlib.Nat.{le-refl}
+use native.Mathlib.Omega.{arith}
+use lib.ListN.{length, getD}
+use borrow.Author.Needs.{needs}
+use Rattle.residue.specs.Modulus.{modulus}
+use Rattle.elimination.specs.Words.{Filled, filled-start, filled-next, filled-end}
+use Rattle.elimination.proofs.row.reduce.Statement.{statement}
+use Rattle.elimination.proofs.row.reduce.Tie as tie
+
+abbrev Inv-loop : tie.InvT-loop
+Inv-loop row₀ j₀ row j = Filled (λ m. getD row₀ m 0 % modulus) j row₀ row
+
+abbrev μ-loop : tie.MeasureT-loop
+μ-loop row₀ j₀ row j = length row₀ - j
+
+loop-holds : tie.Need-loop-holds Inv-loop μ-loop
+loop-holds c = filled-start _ _
+
+mul-row : tie.Need-mul-row Inv-loop μ-loop
+mul-row c = search needs
+
+slice-read-row : tie.Need-slice-read-row Inv-loop μ-loop
+slice-read-row c = search needs
+
+slice-write-row : tie.Need-slice-write-row Inv-loop μ-loop
+slice-write-row c = search needs
+
+add-j : tie.Need-add-j Inv-loop μ-loop
+add-j c = search needs
+
+loop-less : tie.Need-loop-less Inv-loop μ-loop
+loop-less c = search needs
+
+loop-again : tie.Need-loop-again Inv-loop μ-loop
+loop-again c =
+    let at = c .before .before .loop in
+    filled-next (at .inv) (omega arith) (ap (λ x. x % modulus) (at .inv .rest (at .j) (le-refl _)))
+
+same-length : tie.Need-same-length Inv-loop μ-loop
+same-length c = c .before .loop .inv .size
+
+returns : tie.Need-returns Inv-loop μ-loop
+returns c = filled-end (c .before .loop .inv) (omega arith)
+
+pub reduce-spec : {M : Type 1} → statement M
+reduce-spec =
+    tie.close
+    (tie.spec
+    Inv-loop
+    μ-loop
+    loop-holds
+    mul-row
+    slice-read-row
+    slice-write-row
+    add-j
+    loop-less
+    loop-again
+    same-length
+    returns)
