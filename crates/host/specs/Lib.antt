@@ -1,0 +1,6 @@
+-- Laws of words as bytes.
+pub mod Words
+-- Tables that agree as far as they are needed, and opening over them.
+pub mod Same
+pub mod Room
+pub mod Opened

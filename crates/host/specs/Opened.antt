@@ -1,0 +1,149 @@
+-- Opening over lent words, and through the host. Assumes nothing.
+use mathlib.Core.Path.{_≡_, refl, sym, ap, _∙_}
+use mathlib.Core.List.{List}
+use Prim.Native.Nat.{ℕ, _*_, _≤_, _<_}
+use native.Mathlib.Omega.{arith}
+use lib.ListN.{length, getD, take, drop, replicate, length-append, length-replicate}
+use Rattle.skew.specs.Subset.{Subset}
+use Rattle.residue.specs.Modulus.{modulus}
+use Rattle.matching.specs.Decision.{Every, accepted}
+use Rattle.matching.specs.Pairs.{everything, unused}
+use Rattle.matching.specs.Graph.{Graph, pair-count}
+use Rattle.matching.specs.Session.{onto}
+use Rattle.matching.specs.Opening.{Opening, opened, dependent, not-opened, Buffers, ruling, with-inverse, with-witness, Opens, refuses-opening, opens, depends}
+use Rattle.matching.specs.Host.{words, bytes-of, opening-number, unpacked, HostOpens}
+use Rattle.laws.specs.Index.{square-small}
+use Rattle.laws.specs.Sound.{opening-accepted}
+use Rattle.tutte.specs.Table.{over}
+use Rattle.opening.specs.Solved.{buffers}
+use Rattle.host.specs.Words.{Bytes, stored-front, stored-again}
+use Rattle.host.specs.Same.{table-same, singular-same}
+use Rattle.host.specs.Room.{Lends, room-enough, lent-agree, ruling-same, place-small}
+
+-- the parts of an answer fit their bits
+abbrev pub Small : Opening → Type 0
+Small (opened s) = s .made < 256
+Small (dependent f) = f < 256
+Small (not-opened r) = r .place < 65536
+
+-- for how many vertices words are stored
+abbrev pub extent : ℕ → Opening → ℕ
+extent n (opened s) = n
+extent n (dependent f) = n
+extent n (not-opened r) = 0
+
+-- the words left for m vertices, as bytes written over those of the host
+abbrev pub store : ℕ → Buffers → Buffers → Buffers
+store m left b = record {
+  inverse = onto (bytes-of (take (m * m) (left .inverse))) (b .inverse);
+  sequence = left .sequence;
+  witness = onto (bytes-of (take m (left .witness))) (b .witness);
+  work = onto (bytes-of (take (m * m) (left .work))) (b .work);
+}
+
+-- opening over lent words w, where the host's buffers are b
+pub record OpensOver (n : ℕ) (adjacency weights : List ℕ) (w b : Buffers) (answer : ℕ) (after : Buffers) : Type 0 where
+  pub opening : Opening
+  pub left : Buffers
+  pub outcome : Opens modulus (over n adjacency weights) everything w opening left
+  pub numbered : answer ≡ opening-number opening
+  pub stored : after ≡ store (extent n opening) left b
+
+-- what is stored is there
+pub record Within (m : ℕ) (left : Buffers) : Type 0 where
+  pub size : m ≤ 96
+  pub inverse : m * m ≤ length (left .inverse)
+  pub witness : m ≤ length (left .witness)
+  pub work : m * m ≤ length (left .work)
+
+onto-long : (new old : List ℕ) (k : ℕ) → length new ≡ k → k ≤ length (onto new old)
+onto-long new old k e = omega (arith, length-append new (drop (length new) old))
+
+pub opens-within : {p : ℕ} {g : Graph} {S : Subset} {b left : Buffers} {o : Opening} → Opens p g S b o left → Within (extent (g .n) o) left
+opens-within (refuses-opening r e) = record { size = omega arith; inverse = omega arith; witness = omega arith; work = omega arith }
+opens-within {p} {g} {S} {b} (opens inverse e l I) = record {
+  size = opening-accepted p g _ _ _ _ .0 e .1 .size;
+  inverse = onto-long inverse (b .inverse) (g .n * g .n) l;
+  witness = onto-long (replicate (g .n) 0) (b .witness) (g .n) (length-replicate _ _);
+  work = onto-long (replicate (g .n * g .n) 0) (b .work) (g .n * g .n) (length-replicate _ _);
+}
+opens-within {p} {g} {S} {b} (depends f witness e l s) = record {
+  size = opening-accepted p g _ _ _ _ .0 e .1 .size;
+  inverse = onto-long (replicate (g .n * g .n) 0) (b .inverse) (g .n * g .n) (length-replicate _ _);
+  witness = onto-long witness (b .witness) (g .n) l;
+  work = onto-long (replicate (g .n * g .n) 0) (b .work) (g .n * g .n) (length-replicate _ _);
+}
+
+pub opens-small : {p : ℕ} {g : Graph} {S : Subset} {b left : Buffers} {o : Opening} → Opens p g S b o left → Small o
+opens-small {p} {g} {S} {b} (refuses-opening r e) = place-small p g b e
+opens-small (opens inverse e l I) = omega arith
+opens-small {p} {g} (depends f witness e l s) =
+    omega (arith, s .kernel .below, opening-accepted p g _ _ _ _ .0 e .1 .size)
+
+pub same-buffers : {i i′ s s′ w w′ k k′ : List ℕ} → i ≡ i′ → s ≡ s′ → w ≡ w′ → k ≡ k′ → buffers i s w k ≡ buffers i′ s′ w′ k′
+same-buffers ei es ew ek = rw (ei, es, ew, ek)
+
+-- enough is lent where it is needed
+record Enough (n : ℕ) (weights lent : List ℕ) (b : Buffers) : Type 0 where
+  agree : Every (pair-count n) (λ x. getD lent x 0 ≡ getD (words weights) x 0)
+  inverse : n * n ≤ length (words (b .inverse))
+  witness : n ≤ length (words (b .witness))
+  work : n * n ≤ length (words (b .work))
+
+-- opening over the words that matter is opening through the host
+module _ (n : ℕ) (adjacency : List ℕ) {weights lent : List ℕ} {w b : Buffers} (L : Lends weights lent b w)
+    (inverse-bytes : Bytes (b .inverse)) (witness-bytes : Bytes (b .witness)) (work-bytes : Bytes (b .work)) where
+  enough : ruling modulus (over n adjacency lent) w ≡ accepted → Enough n weights lent b
+  enough e =
+      let k = opening-accepted modulus (over n adjacency lent) (w .inverse) (w .sequence) (w .witness) (w .work) .0 e in
+      let h = k .1 .size in
+      record {
+        agree = lent-agree L n adjacency (k .0 .1 .0);
+        inverse = room-enough (b .inverse) (L .inverse) (n * n) (square-small n h) .0 (k .0 .1 .1 .0);
+        witness = room-enough (b .witness) (L .witness) n h .0 (k .0 .1 .1 .1 .1 .0);
+        work = room-enough (b .work) (L .work) (n * n) (square-small n h) .0 (k .0 .1 .1 .1 .1 .1 .0);
+      }
+
+  through : {o : Opening} {left : Buffers} → Opens modulus (over n adjacency lent) everything w o left
+      → HostOpens modulus n adjacency weights everything b (opening-number o) (store (extent n o) left b)
+  unfolding bytes-of
+  through (refuses-opening r e) = record {
+    opening = not-opened r;
+    buffers = unpacked b;
+    outcome = refuses-opening r (sym (ruling-same L n adjacency modulus) ∙ e);
+    numbered = refl;
+    stored =
+        same-buffers (sym (stored-again (b .inverse) inverse-bytes)) (L .sequence) (sym (stored-again (b .witness) witness-bytes))
+        (sym (stored-again (b .work) work-bytes));
+  }
+  through (opens inverse e l I) =
+      let E = enough e in
+      record {
+        opening = opened _;
+        buffers = with-inverse n inverse (unpacked b);
+        outcome = opens inverse (sym (ruling-same L n adjacency modulus) ∙ e) l (table-same n adjacency lent (words weights) (E .agree) I);
+        numbered = refl;
+        stored =
+            same-buffers (stored-front inverse (w .inverse) (b .inverse) (n * n) inverse-bytes l (E .inverse))
+            (ap (λ (l : List ℕ). onto (replicate n unused) l) (L .sequence))
+            (stored-front (replicate n 0) (w .witness) (b .witness) n witness-bytes (length-replicate _ _) (E .witness))
+            (stored-front (replicate (n * n) 0) (w .work) (b .work) (n * n) work-bytes (length-replicate _ _) (E .work));
+      }
+  through (depends f witness e l s) =
+      let E = enough e in
+      record {
+        opening = dependent f;
+        buffers = with-witness n witness (unpacked b);
+        outcome = depends f witness (sym (ruling-same L n adjacency modulus) ∙ e) l (singular-same n adjacency lent (words weights) (E .agree) s);
+        numbered = refl;
+        stored =
+            same-buffers (stored-front (replicate (n * n) 0) (w .inverse) (b .inverse) (n * n) inverse-bytes (length-replicate _ _) (E .inverse))
+            (ap (λ (l : List ℕ). onto (replicate n unused) l) (L .sequence))
+            (stored-front witness (w .witness) (b .witness) n witness-bytes l (E .witness))
+            (stored-front (replicate (n * n) 0) (w .work) (b .work) (n * n) work-bytes (length-replicate _ _) (E .work));
+      }
+
+pub host-opens : {n answer : ℕ} {adjacency weights lent : List ℕ} {w b after : Buffers} → OpensOver n adjacency lent w b answer after → Lends weights lent b w
+    → Bytes (b .inverse) → Bytes (b .witness) → Bytes (b .work) → HostOpens modulus n adjacency weights everything b answer after
+host-opens {n} {adjacency = adjacency} O L inverse-bytes witness-bytes work-bytes =
+    rw (O .numbered, O .stored) (through n adjacency L inverse-bytes witness-bytes work-bytes (O .outcome))

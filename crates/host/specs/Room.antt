@@ -1,0 +1,180 @@
+-- The room for words in byte slices, and the causes of opening where only the words that matter are lent. Assumes nothing.
+use mathlib.Core.Path.{_≡_, refl, sym, ap, _∙_}
+use mathlib.Core.Logic.{_↔_}
+use mathlib.Core.List.{List, [], _∷_, _++_}
+use Prim.Native.Nat.{ℕ, _+_, _*_, _-_, _/_, _%_, _≤_, _<_}
+use native.Mathlib.Nat.{mul-le-mul}
+use native.Mathlib.Omega.{arith}
+use native.Mathlib.Decide.{ℕ-discrete, decLt}
+use lib.ListN.{length, getD, take, replicate, length-append}
+use lib.Seq.{length-take-le, take-at, getD-take}
+use Rattle.matching.specs.Decision.{Every, not?, First, first?, nowhere, first-at, Finding, absent, at, when, found, because, Refusal, Ruling, accepted, refused, unless, judge}
+use Rattle.matching.specs.Graph.{Graph, largest, pair-count, fault, Faulty}
+use Rattle.matching.specs.Causes.{Lent, lent-to-opening, first-short, or, bad-cell, bad-weight, opening-ruling}
+use Rattle.matching.specs.Opening.{Buffers, ruling}
+use Rattle.matching.specs.Host.{words, unpacked}
+use Rattle.laws.specs.Sound.{when-absent, short-absent}
+use Rattle.laws.specs.Index.{square-small}
+use Rattle.laws.specs.Lists.{length-part}
+use Rattle.tutte.specs.Table.{over}
+use Rattle.host.specs.Words.{words-length}
+use Rattle.host.specs.Same.{outside, outside-found, cells-same, weights-same}
+
+-- r words are all that so many bytes hold, or the most that matter
+pub record Room (bytes most r : ℕ) : Type 0 where
+  pub fits : 2 * r ≤ bytes
+  pub capped : r ≤ most
+  pub whole : r < most → bytes ≤ 2 * r + 1
+
+-- the room is enough exactly where the words are
+pub room-enough : (l : List ℕ) {most r : ℕ} → Room (length l) most r → (needed : ℕ) → needed ≤ most → (needed ≤ r) ↔ (needed ≤ length (words l))
+room-enough l {most} {r} R needed h = (to, λ k. from k (decLt r most))
+  where
+    to : needed ≤ r → needed ≤ length (words l)
+    to k = omega (arith, R .fits, words-length l .1)
+
+    from : needed ≤ length (words l) → Dec (r < most) → needed ≤ r
+    from k (yes o) = omega (arith, R .whole o, words-length l .0)
+    from k (no o) = omega arith
+
+-- the first r of a buffer of zeros
+pub part-room : {bytes most r : ℕ} → Room bytes most r → Room bytes most (length {A = ℕ} (take r (replicate most 0)))
+part-room {bytes} {most} {r} R = rw (length-part r most 0 (R .capped)) R
+
+-- the first k of an array that were lent, and came back as l
+pub part-filled : (k : ℕ) (l rest : List ℕ) → length l ≡ k → (k ≤ length (l ++ rest)) × (take k (l ++ rest) ≡ l)
+part-filled k l rest e = (omega (arith, length-append l rest), take-at l rest k e)
+
+-- the first words that are left, where there is room for all
+pub part-fits : (m : ℕ) (left old : List ℕ) {bytes : ℕ} → m ≤ length left → length left ≡ length old → 2 * length old ≤ bytes → 2 * length (take m left) ≤ bytes
+part-fits m left old h e k = rw (length-take-le m left h) (omega arith)
+
+-- at most 96 vertices
+pub pairs-small : (n : ℕ) → n ≤ largest → pair-count n ≤ 4560
+pairs-small n h = let k : n * (n - 1) ≤ 9120 = mul-le-mul {n₁ = n} {m₁ = n - 1} {n₂ = 96} {m₂ = 95} h (omega arith) in omega arith
+
+applies : {A : Type 0} (d : Dec A) (x : ℕ) → A → when d x ≡ at x
+applies (yes a) x h = refl
+applies (no n) x h = absurd (n h)
+
+-- two lengths that are enough in the same case
+when-same : (a b needed number : ℕ) → (needed ≤ a) ↔ (needed ≤ b) → when (decLt a needed) number ≡ when (decLt b needed) number
+when-same a b needed number e = go (decLt a needed)
+  where
+    go : Dec (a < needed) → when (decLt a needed) number ≡ when (decLt b needed) number
+    go (yes l) = applies (decLt a needed) number l ∙ sym (applies (decLt b needed) number (l′ (decLt b needed)))
+      where
+        l′ : Dec (b < needed) → b < needed
+        l′ (yes m) = m
+        l′ (no m) = absurd (omega (arith, e .1 (omega arith)))
+    go (no l) =
+        when-absent (decLt a needed) number .1 l ∙ sym (when-absent (decLt b needed) number .1 (λ m. omega (arith, e .0 (omega arith))))
+
+-- the words lent in the place of byte slices: no more of them than matter
+pub record Lends (weights lent : List ℕ) (b w : Buffers) : Type 0 where
+  pub count : ℕ
+  pub enough : Room (length weights) 4560 count
+  pub front : lent ≡ take count (words weights)
+  pub inverse : Room (length (b .inverse)) 9216 (length (w .inverse))
+  pub sequence : w .sequence ≡ b .sequence
+  pub witness : Room (length (b .witness)) 96 (length (w .witness))
+  pub work : Room (length (b .work)) 9216 (length (w .work))
+
+module _ {weights lent : List ℕ} {b w : Buffers} (L : Lends weights lent b w) (n : ℕ) (adjacency : List ℕ) where
+  lent-length : length lent ≡ L .count
+  lent-length =
+      ap length (L .front) ∙ length-take-le (L .count) (words weights) (room-enough weights (L .enough) (L .count) (L .enough .capped) .0 (omega arith))
+
+  -- enough weights are the same
+  pub lent-agree : pair-count n ≤ length lent → Every (pair-count n) (λ x. getD lent x 0 ≡ getD (words weights) x 0)
+  lent-agree h x l = ap (λ l. getD l x 0) (L .front) ∙ getD-take (L .count) (words weights) x 0 (omega (arith, lent-length))
+
+  -- the same buffers are too short
+  short-same : n ≤ largest
+      → first-short (lent-to-opening (over n adjacency lent) (w .inverse) (w .sequence) (w .witness) (w .work))
+      ≡ first-short (lent-to-opening (over n adjacency (words weights)) (words (b .inverse)) (b .sequence) (words (b .witness)) (words (b .work)))
+  short-same h =
+      rw (
+        lent-length,
+        L .sequence,
+        when-same (L .count) (length (words weights)) (pair-count n) 2 (room-enough weights (L .enough) (pair-count n) (pairs-small n h)),
+        when-same (length (w .inverse)) (length (words (b .inverse))) (n * n) 3 (room-enough (b .inverse) (L .inverse) (n * n) (square-small n h)),
+        when-same (length (w .witness)) (length (words (b .witness))) n 5 (room-enough (b .witness) (L .witness) n h),
+        when-same (length (w .work)) (length (words (b .work))) (n * n) 6 (room-enough (b .work) (L .work) (n * n) (square-small n h)),
+      )
+
+  -- and opening is refused for the same cause
+  pub ruling-same : (p : ℕ) → ruling p (over n adjacency lent) w ≡ ruling p (over n adjacency (words weights)) (unpacked b)
+  unfolding opening-ruling
+  ruling-same p = go (decLt largest n)
+    where
+      lents : List Lent
+      lents = lent-to-opening (over n adjacency lent) (w .inverse) (w .sequence) (w .witness) (w .work)
+
+      agreed : (f : Finding) → first-short lents ≡ f
+          → unless f 2 (judge (bad-cell (over n adjacency lent) ∷ bad-weight p (over n adjacency lent) ∷ []))
+          ≡ unless f 2 (judge (bad-cell (over n adjacency (words weights)) ∷ bad-weight p (over n adjacency (words weights)) ∷ []))
+      agreed (at x) e = refl
+      agreed absent e =
+          let long = short-absent lents .0 e in
+          rw (cells-same n adjacency lent (words weights), weights-same n adjacency lent (words weights) (lent-agree (long .1 .0)) p)
+
+      go : Dec (largest < n) → ruling p (over n adjacency lent) w ≡ ruling p (over n adjacency (words weights)) (unpacked b)
+      go (yes h) = rw (applies (decLt largest n) 0 h)
+      go (no h) = rw (when-absent (decLt largest n) 0 .1 h) (agreed (first-short lents) refl ∙ rw (short-same (omega arith)))
+
+-- the place of a refusal is small
+abbrev SmallAt : Finding → Type 0
+SmallAt absent = Unit {0}
+SmallAt (at x) = x < 65536
+
+when-small : {A : Type 0} (d : Dec A) (x : ℕ) → x < 65536 → SmallAt (when d x)
+when-small (yes a) x h = h
+when-small (no a) x h = tt
+
+or-small : (e f : Finding) → SmallAt e → SmallAt f → SmallAt (or e f)
+or-small absent f h k = k
+or-small (at x) f h k = h
+
+found-small : {n : ℕ} {P : ℕ → Type 0} (f : First n P) → n ≤ 65536 → SmallAt (found f)
+found-small (nowhere h) l = tt
+found-small (first-at x m e h) l = omega arith
+
+at-small : {r : Refusal} (k x : ℕ) → x < 65536 → refused (because k x) ≡ refused r → r .place < 65536
+at-small {r} k x h e = let q : because k x ≡ r = cc in rw (← q) h
+
+unless-small : {r : Refusal} (f : Finding) (k : ℕ) (v : Ruling) → SmallAt f → (v ≡ refused r → r .place < 65536) → unless f k v ≡ refused r → r .place < 65536
+unless-small absent k v h later e = later e
+unless-small (at x) k v h later e = at-small k x h e
+
+cell-small : (g : Graph) → g .n ≤ largest → SmallAt (bad-cell g .finding)
+unfolding bad-cell
+cell-small g h =
+    found-small (first? (Faulty g) (g .n * g .n) (λ x. not? (ℕ-discrete (fault g (x / g .n) (x % g .n)) 0))) (omega (arith, square-small (g .n) h))
+
+weight-small : (p : ℕ) (g : Graph) → g .n ≤ largest → SmallAt (bad-weight p g .finding)
+weight-small p g h = rw (outside-found p g) (found-small (outside p g) (omega (arith, pairs-small (g .n) h)))
+
+pub place-small : (p : ℕ) (g : Graph) (b : Buffers) {r : Refusal} → ruling p g b ≡ refused r → r .place < 65536
+unfolding opening-ruling
+place-small p g b {r} e = go (decLt largest (g .n))
+  where
+    lents : List Lent
+    lents = lent-to-opening g (b .inverse) (b .sequence) (b .witness) (b .work)
+
+    shorts : SmallAt (first-short lents)
+    shorts =
+        or-small (when (decLt (length (g .adjacency)) (g .n * g .n)) 1) _ (when-small (decLt (length (g .adjacency)) (g .n * g .n)) 1 (omega arith))
+        (or-small (when (decLt (length (g .weights)) (pair-count (g .n))) 2) _ (when-small (decLt (length (g .weights)) (pair-count (g .n))) 2 (omega arith))
+        (or-small (when (decLt (length (b .inverse)) (g .n * g .n)) 3) _ (when-small (decLt (length (b .inverse)) (g .n * g .n)) 3 (omega arith))
+        (or-small (when (decLt (length (b .sequence)) (g .n)) 4) _ (when-small (decLt (length (b .sequence)) (g .n)) 4 (omega arith))
+        (or-small (when (decLt (length (b .witness)) (g .n)) 5) _ (when-small (decLt (length (b .witness)) (g .n)) 5 (omega arith))
+        (or-small (when (decLt (length (b .work)) (g .n * g .n)) 6) absent (when-small (decLt (length (b .work)) (g .n * g .n)) 6 (omega arith)) tt)))))
+
+    go : Dec (largest < g .n) → r .place < 65536
+    go (yes h) = at-small 1 0 (omega arith) (rw (applies (decLt largest (g .n)) 0 h) at e)
+    go (no h) =
+        unless-small (first-short lents) 2 (judge (bad-cell g ∷ bad-weight p g ∷ [])) shorts
+        (unless-small (bad-cell g .finding) 3 (judge (bad-weight p g ∷ [])) (cell-small g (omega arith))
+        (unless-small (bad-weight p g .finding) 4 accepted (weight-small p g (omega arith)) (λ q. absurd (let z : _≡_ {A = ℕ} 0 1 = cc in omega arith))))
+        (rw (when-absent (decLt largest (g .n)) 0 .1 h) at e)
