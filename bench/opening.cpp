@@ -1,0 +1,235 @@
+// Measures opening through the C entry.
+//
+//   opening times            a table of times, beside the plain reading and the peer
+//   opening once N dense     one call on a graph of N vertices that are all linked
+//   opening once N sparse    the same with about four neighbours a vertex
+#include "peer.h"
+#include "saszvigom.h"
+
+#include <algorithm>
+#include <cstdio>
+#include <cstdlib>
+#include <cstring>
+#include <ctime>
+#include <functional>
+#include <string>
+#include <vector>
+
+extern "C" uint64_t reference_open(uint64_t n, const uint8_t *adjacency, size_t adjacency_len, const uint8_t *weights,
+                                   size_t weights_len, uint8_t *inverse, size_t inverse_len, uint8_t *sequence,
+                                   size_t sequence_len, uint8_t *witness, size_t witness_len, uint8_t *work, size_t work_len);
+
+namespace {
+
+// SplitMix64.
+class Random {
+public:
+    explicit Random(uint64_t seed) : state(seed)
+    {
+    }
+
+    size_t below(size_t bound)
+    {
+        state += 0x9E3779B97F4A7C15u;
+        uint64_t mixed = state;
+        mixed = (mixed ^ (mixed >> 30)) * 0xBF58476D1CE4E5B9u;
+        mixed = (mixed ^ (mixed >> 27)) * 0x94D049BB133111EBu;
+        return static_cast<size_t>((mixed ^ (mixed >> 31)) % bound);
+    }
+
+private:
+    uint64_t state;
+};
+
+struct Graph {
+    size_t n;
+    std::vector<uint8_t> adjacency, weights;
+
+    explicit Graph(size_t n)
+        : n(n), adjacency(SASZVIGOM_ADJACENCY_BYTES(n)), weights(SASZVIGOM_WEIGHTS_BYTES(n))
+    {
+        Random random(n);
+        for (size_t k = 0; k < n * (n - 1) / 2; k++)
+            saszvigom_store_word(weights.data(), k, static_cast<uint16_t>(1 + random.below(65520)));
+    }
+
+    bool link(size_t i, size_t j)
+    {
+        if (i == j || adjacency[i * n + j] == 1)
+            return false;
+        adjacency[i * n + j] = adjacency[j * n + i] = 1;
+        return true;
+    }
+
+    // The Tutte matrix, row by row.
+    std::vector<uint16_t> tutte_matrix() const
+    {
+        std::vector<uint16_t> matrix(n * n);
+        for (size_t i = 0; i < n; i++)
+            for (size_t j = i + 1; j < n; j++)
+                if (adjacency[i * n + j] == 1) {
+                    const uint16_t weight = saszvigom_word(weights.data(), saszvigom_weight_index(n, i, j));
+                    matrix[i * n + j] = weight;
+                    matrix[j * n + i] = static_cast<uint16_t>(SASZVIGOM_MODULUS - weight);
+                }
+        return matrix;
+    }
+};
+
+Graph dense(size_t n)
+{
+    Graph graph(n);
+    for (size_t i = 0; i < n; i++)
+        for (size_t j = 0; j < i; j++)
+            graph.link(i, j);
+    return graph;
+}
+
+// A matching of random vertices, with one left over for odd n, and random edges up to 2n in all.
+Graph sparse(size_t n)
+{
+    Graph graph(n);
+    Random random(1000 + n);
+    std::vector<size_t> order(n);
+    for (size_t i = 0; i < n; i++)
+        order[i] = i;
+    for (size_t i = n - 1; i > 0; i--)
+        std::swap(order[i], order[random.below(i + 1)]);
+    size_t edges = 0;
+    for (size_t i = 0; i + 1 < n; i += 2)
+        edges += graph.link(order[i], order[i + 1]);
+    while (edges < 2 * n)
+        edges += graph.link(random.below(n), random.below(n));
+    return graph;
+}
+
+struct Buffers {
+    std::vector<uint8_t> inverse, sequence, witness, work;
+
+    explicit Buffers(size_t n)
+        : inverse(SASZVIGOM_INVERSE_BYTES(n)), sequence(SASZVIGOM_SEQUENCE_BYTES(n)), witness(SASZVIGOM_WITNESS_BYTES(n)),
+          work(SASZVIGOM_WORK_BYTES(n))
+    {
+    }
+
+    bool operator==(const Buffers &other) const
+    {
+        return inverse == other.inverse && sequence == other.sequence && witness == other.witness && work == other.work;
+    }
+};
+
+using Entry = decltype(&saszvigom_open);
+
+uint64_t call(Entry entry, const Graph &graph, Buffers &buffers)
+{
+    return entry(graph.n, graph.adjacency.data(), graph.adjacency.size(), graph.weights.data(), graph.weights.size(),
+                 buffers.inverse.data(), buffers.inverse.size(), buffers.sequence.data(), buffers.sequence.size(),
+                 buffers.witness.data(), buffers.witness.size(), buffers.work.data(), buffers.work.size());
+}
+
+// The processor time of one call, in microseconds.
+double time_of(const std::function<void()> &action)
+{
+    timespec start, end;
+    clock_gettime(CLOCK_THREAD_CPUTIME_ID, &start);
+    action();
+    clock_gettime(CLOCK_THREAD_CPUTIME_ID, &end);
+    return 1e6 * static_cast<double>(end.tv_sec - start.tv_sec) + 1e-3 * static_cast<double>(end.tv_nsec - start.tv_nsec);
+}
+
+double median(std::vector<double> times)
+{
+    const auto middle = times.begin() + static_cast<std::ptrdiff_t>(times.size() / 2);
+    std::nth_element(times.begin(), middle, times.end());
+    return *middle;
+}
+
+[[noreturn]] void differ(size_t n, const char *kind, const char *what)
+{
+    std::printf("n = %zu %s: the entry and the %s differ\n", n, kind, what);
+    std::exit(1);
+}
+
+// The answers are the same before any time is taken.
+void compare(const Graph &graph, const char *kind, Peer &peer)
+{
+    const size_t n = graph.n;
+    Buffers entry(n), reading(n);
+    const uint64_t number = call(saszvigom_open, graph, entry);
+    if (number != call(reference_open, graph, reading) || !(entry == reading))
+        differ(n, kind, "plain reading");
+    if (Peer::name == nullptr)
+        return;
+    if (peer.invert() != (saszvigom_kind(number) == SASZVIGOM_OPENED))
+        differ(n, kind, Peer::name);
+    if (saszvigom_kind(number) == SASZVIGOM_OPENED)
+        for (size_t i = 0; i < n * n; i++)
+            if (saszvigom_word(entry.inverse.data(), i) != peer.entry(i / n, i % n))
+                differ(n, kind, Peer::name);
+}
+
+// The median of the ratios of times of the same round.
+double median_ratio(const std::vector<double> &times, const std::vector<double> &others)
+{
+    std::vector<double> ratios;
+    for (size_t round = 0; round < times.size(); round++)
+        ratios.push_back(times[round] / others[round]);
+    return median(ratios);
+}
+
+// Medians over rounds that call each in turn.
+void measure(const Graph &graph, const char *kind)
+{
+    const size_t n = graph.n;
+    const size_t rounds = 501;
+    Peer peer(n, graph.tutte_matrix());
+    compare(graph, kind, peer);
+    Buffers buffers(n);
+    uint64_t number = 0;
+    std::vector<double> entry, reading, other;
+    for (size_t round = 0; round < rounds; round++) {
+        entry.push_back(time_of([&] { number = call(saszvigom_open, graph, buffers); }));
+        reading.push_back(time_of([&] { call(reference_open, graph, buffers); }));
+        if (Peer::name != nullptr)
+            other.push_back(time_of([&] { peer.invert(); }));
+    }
+    std::printf("%4zu  %-6s  %-8s  %9.1f  %9.1f  %7.2f", n, kind,
+                saszvigom_kind(number) == SASZVIGOM_OPENED ? "opened" : "singular", median(entry), median(reading),
+                median_ratio(entry, reading));
+    if (Peer::name != nullptr)
+        std::printf("  %9.1f  %7.2f", median(other), median_ratio(entry, other));
+    std::printf("\n");
+    std::fflush(stdout);
+}
+
+void print_times()
+{
+    std::printf("%4s  %-6s  %-8s  %9s  %9s  %7s", "n", "graph", "answer", "entry", "reading", "e/r");
+    if (Peer::name != nullptr)
+        std::printf("  %9s  %7s", Peer::name, (std::string("e/") + Peer::name).c_str());
+    std::printf("\n");
+    for (const size_t n : {16, 32, 48, 64, 95, 96}) {
+        measure(dense(n), "dense");
+        measure(sparse(n), "sparse");
+    }
+}
+
+} // namespace
+
+int main(int argc, char **argv)
+{
+    if (argc == 2 && std::strcmp(argv[1], "times") == 0) {
+        print_times();
+        return 0;
+    }
+    if (argc == 4 && std::strcmp(argv[1], "once") == 0) {
+        const size_t n = std::strtoul(argv[2], nullptr, 10);
+        if (n >= 8 && n <= SASZVIGOM_MAX_VERTICES) {
+            const Graph graph = std::string(argv[3]) == "dense" ? dense(n) : sparse(n);
+            Buffers buffers(n);
+            return saszvigom_cause(call(saszvigom_open, graph, buffers)) == SASZVIGOM_NO_CAUSE ? 0 : 1;
+        }
+    }
+    std::fprintf(stderr, "usage: opening times | opening once N dense|sparse\n");
+    return 2;
+}

@@ -1,0 +1,476 @@
+/*
+ * Opens graphs through saszvigom.h and compares the number returned and every
+ * byte of every buffer with what is expected. Each case is run twice: with the
+ * buffers in one block, at odd addresses and between guard bytes, and with each
+ * buffer in a block of its own length. Prints a line for each case and stops
+ * with status 1 at the first difference.
+ */
+#include "saszvigom.h"
+
+#include <stdbool.h>
+#include <stdio.h>
+#include <stdlib.h>
+#include <string.h>
+
+#define BUFFERS 6
+#define GUARD 31
+#define LONGEST (SASZVIGOM_INVERSE_BYTES(SASZVIGOM_MAX_VERTICES) + 64)
+#define BLOCK (BUFFERS * (LONGEST + GUARD) + GUARD)
+
+static const char *const names[BUFFERS] = {
+    "adjacency", "weights", "inverse", "sequence", "witness", "work",
+};
+
+/* A call: the size, and for each buffer its length and the bytes before. */
+struct call {
+    uint64_t n;
+    size_t length[BUFFERS];
+    uint8_t bytes[BUFFERS][LONGEST];
+};
+
+/* What is expected of a call: the number, and the bytes after. */
+struct outcome {
+    uint64_t number;
+    uint8_t bytes[BUFFERS][LONGEST];
+};
+
+enum { ADJACENCY, WEIGHTS, INVERSE, SEQUENCE, WITNESS, WORK };
+
+static struct call call;
+static struct outcome expected;
+static size_t cases;
+
+/* A byte that differs from its neighbours, from 0 and from 255. */
+static uint8_t guard_byte(size_t position)
+{
+    return (uint8_t)(1 + position * 37 % 251);
+}
+
+static _Noreturn void differs(const char *name, const char *where, size_t offset,
+                              unsigned found, unsigned wanted)
+{
+    printf("FAIL %s: %s, byte %zu: %u instead of %u\n", name, where, offset, found, wanted);
+    exit(1);
+}
+
+static uint64_t open_graph(uint8_t *const buffers[BUFFERS])
+{
+    return saszvigom_open(call.n,
+                          buffers[ADJACENCY], call.length[ADJACENCY],
+                          buffers[WEIGHTS], call.length[WEIGHTS],
+                          buffers[INVERSE], call.length[INVERSE],
+                          buffers[SEQUENCE], call.length[SEQUENCE],
+                          buffers[WITNESS], call.length[WITNESS],
+                          buffers[WORK], call.length[WORK]);
+}
+
+static void compare_number(const char *name, uint64_t number)
+{
+    if (number != expected.number) {
+        printf("FAIL %s: number %#llx instead of %#llx\n", name,
+               (unsigned long long)number, (unsigned long long)expected.number);
+        exit(1);
+    }
+}
+
+static void compare(const char *name, const char *where, const uint8_t *found,
+                    const uint8_t *wanted, size_t length)
+{
+    for (size_t i = 0; i < length; i++)
+        if (found[i] != wanted[i])
+            differs(name, where, i, found[i], wanted[i]);
+}
+
+/* The buffers in one block, between guard bytes. */
+static void run_in_one_block(const char *name)
+{
+    static uint8_t block[BLOCK];
+    uint8_t *buffers[BUFFERS];
+    size_t end = 0;
+    for (size_t i = 0; i < BLOCK; i++)
+        block[i] = guard_byte(i);
+    for (size_t b = 0; b < BUFFERS; b++) {
+        end += GUARD;
+        buffers[b] = block + end;
+        memcpy(buffers[b], call.bytes[b], call.length[b]);
+        end += call.length[b];
+    }
+
+    compare_number(name, open_graph(buffers));
+
+    size_t position = 0;
+    for (size_t b = 0; b < BUFFERS; b++) {
+        for (; position < (size_t)(buffers[b] - block); position++)
+            if (block[position] != guard_byte(position))
+                differs(name, "guard", position, block[position], guard_byte(position));
+        compare(name, names[b], buffers[b], expected.bytes[b], call.length[b]);
+        position += call.length[b];
+    }
+    for (; position < BLOCK; position++)
+        if (block[position] != guard_byte(position))
+            differs(name, "guard", position, block[position], guard_byte(position));
+}
+
+/* Each buffer in a block of its own, so that a memory checker sees its ends. */
+static void run_in_own_blocks(const char *name)
+{
+    uint8_t *buffers[BUFFERS];
+    for (size_t b = 0; b < BUFFERS; b++) {
+        buffers[b] = malloc(call.length[b] > 0 ? call.length[b] : 1);
+        if (buffers[b] == NULL) {
+            printf("FAIL %s: no memory\n", name);
+            exit(1);
+        }
+        memcpy(buffers[b], call.bytes[b], call.length[b]);
+    }
+
+    compare_number(name, open_graph(buffers));
+
+    for (size_t b = 0; b < BUFFERS; b++) {
+        compare(name, names[b], buffers[b], expected.bytes[b], call.length[b]);
+        free(buffers[b]);
+    }
+}
+
+static void run(const char *name)
+{
+    run_in_one_block(name);
+    run_in_own_blocks(name);
+    cases++;
+    printf("ok   %s\n", name);
+}
+
+/* Sets up a graph without edges and with weights 1, in buffers that are longer
+   than needed by an odd number of bytes. What they hold else is arbitrary. */
+static void set_graph(size_t n)
+{
+    const size_t needed[BUFFERS] = {
+        SASZVIGOM_ADJACENCY_BYTES(n), SASZVIGOM_WEIGHTS_BYTES(n),
+        SASZVIGOM_INVERSE_BYTES(n),   SASZVIGOM_SEQUENCE_BYTES(n),
+        SASZVIGOM_WITNESS_BYTES(n),   SASZVIGOM_WORK_BYTES(n),
+    };
+    call.n = n;
+    for (size_t b = 0; b < BUFFERS; b++) {
+        call.length[b] = needed[b] + 2 * b + 1;
+        for (size_t i = 0; i < LONGEST; i++)
+            call.bytes[b][i] = guard_byte(i + 7 * b);
+    }
+    memset(call.bytes[ADJACENCY], 0, needed[ADJACENCY]);
+    for (size_t k = 0; k < n * (n - 1) / 2; k++)
+        saszvigom_store_word(call.bytes[WEIGHTS], k, 1);
+}
+
+static void set_lengths_as_needed(void)
+{
+    const size_t n = (size_t)call.n;
+    call.length[ADJACENCY] = SASZVIGOM_ADJACENCY_BYTES(n);
+    call.length[WEIGHTS] = SASZVIGOM_WEIGHTS_BYTES(n);
+    call.length[INVERSE] = SASZVIGOM_INVERSE_BYTES(n);
+    call.length[SEQUENCE] = SASZVIGOM_SEQUENCE_BYTES(n);
+    call.length[WITNESS] = SASZVIGOM_WITNESS_BYTES(n);
+    call.length[WORK] = SASZVIGOM_WORK_BYTES(n);
+}
+
+static void set_cell(size_t i, size_t j, uint8_t value)
+{
+    call.bytes[ADJACENCY][i * (size_t)call.n + j] = value;
+}
+
+static void link_vertices(size_t i, size_t j)
+{
+    set_cell(i, j, 1);
+    set_cell(j, i, 1);
+}
+
+static void link_all(void)
+{
+    for (size_t i = 0; i < call.n; i++)
+        for (size_t j = i + 1; j < call.n; j++)
+            link_vertices(i, j);
+}
+
+static void set_weight(size_t index, uint16_t weight)
+{
+    saszvigom_store_word(call.bytes[WEIGHTS], index, weight);
+}
+
+/* Expects that nothing is written. */
+static void expect_refusal(unsigned cause, unsigned place)
+{
+    expected.number = cause | (uint64_t)place << 16;
+    memcpy(expected.bytes, call.bytes, sizeof expected.bytes);
+}
+
+static void expect_written(uint64_t number)
+{
+    const size_t n = (size_t)call.n;
+    expected.number = number;
+    memcpy(expected.bytes, call.bytes, sizeof expected.bytes);
+    memset(expected.bytes[INVERSE], 0, 2 * n * n);
+    memset(expected.bytes[SEQUENCE], 255, n);
+    memset(expected.bytes[WITNESS], 0, 2 * n);
+    memset(expected.bytes[WORK], 0, 2 * n * n);
+}
+
+static void expect_inverse(const uint16_t *inverse)
+{
+    const size_t n = (size_t)call.n;
+    expect_written(0x100);
+    for (size_t i = 0; i < n * n; i++)
+        saszvigom_store_word(expected.bytes[INVERSE], i, inverse[i]);
+}
+
+static void expect_witness(unsigned column, const uint16_t *witness)
+{
+    expect_written(0x200 | (uint64_t)column << 16);
+    for (size_t i = 0; i < call.n; i++)
+        saszvigom_store_word(expected.bytes[WITNESS], i, witness[i]);
+}
+
+static void smallest_graphs(void)
+{
+    set_graph(0);
+    expect_inverse(NULL);
+    run("no vertices");
+    set_lengths_as_needed();
+    expect_inverse(NULL);
+    run("no vertices, buffers of length 0");
+
+    set_graph(1);
+    expect_witness(0, (const uint16_t[]){1});
+    run("one vertex");
+
+    set_graph(2);
+    expect_witness(0, (const uint16_t[]){1, 0});
+    run("two vertices without an edge");
+
+    set_graph(2);
+    link_vertices(0, 1);
+    set_weight(0, 2);
+    expect_inverse((const uint16_t[]){0, 32760, 32761, 0});
+    run("one edge of weight 2");
+    set_lengths_as_needed();
+    expect_inverse((const uint16_t[]){0, 32760, 32761, 0});
+    run("one edge of weight 2, buffers as long as needed");
+}
+
+static void graphs_of_three_and_four(void)
+{
+    set_graph(3);
+    link_vertices(0, 1);
+    link_vertices(1, 2);
+    expect_witness(2, (const uint16_t[]){1, 0, 1});
+    run("path of three vertices");
+
+    set_graph(4);
+    link_vertices(0, 1);
+    link_vertices(0, 2);
+    link_vertices(1, 3);
+    expect_inverse((const uint16_t[]){
+        0, 0, 65520, 0,
+        0, 0, 0, 65520,
+        1, 0, 0, 1,
+        0, 1, 65520, 0,
+    });
+    run("path of four vertices");
+
+    set_graph(4);
+    link_vertices(0, 1);
+    link_vertices(0, 2);
+    link_vertices(0, 3);
+    expect_witness(2, (const uint16_t[]){0, 65520, 1, 0});
+    run("star of four vertices");
+
+    set_graph(4);
+    link_all();
+    expect_inverse((const uint16_t[]){
+        0, 65520, 1, 65520,
+        1, 0, 65520, 1,
+        65520, 1, 0, 65520,
+        1, 65520, 1, 0,
+    });
+    run("all six edges of four vertices");
+
+    set_graph(4);
+    link_vertices(0, 1);
+    link_vertices(1, 2);
+    link_vertices(2, 3);
+    link_vertices(0, 3);
+    set_weight(saszvigom_weight_index(4, 1, 2), 65520);
+    expect_witness(2, (const uint16_t[]){65520, 0, 1, 0});
+    run("ring of four vertices, weights that cancel");
+}
+
+/* With all weights 1 the inverse has (-1)^(j-i) above the diagonal, for even
+   n; for odd n the witness is 1, -1, 1 and so on. */
+static void largest_graphs(void)
+{
+    static uint16_t inverse[SASZVIGOM_MAX_VERTICES * SASZVIGOM_MAX_VERTICES];
+    static uint16_t witness[SASZVIGOM_MAX_VERTICES];
+
+    set_graph(96);
+    link_all();
+    for (size_t i = 0; i < 96; i++)
+        for (size_t j = 0; j < 96; j++)
+            inverse[96 * i + j] = i == j ? 0 : ((i + j) % 2 == 0) == (i < j) ? 1 : 65520;
+    expect_inverse(inverse);
+    run("96 vertices, all linked");
+    set_lengths_as_needed();
+    expect_inverse(inverse);
+    run("96 vertices, all linked, buffers as long as needed");
+
+    set_graph(95);
+    link_all();
+    for (size_t i = 0; i < 95; i++)
+        witness[i] = i % 2 == 0 ? 1 : 65520;
+    expect_witness(94, witness);
+    run("95 vertices, all linked");
+
+    set_graph(96);
+    for (size_t i = 0; i < 96; i += 2)
+        link_vertices(i, i + 1);
+    set_cell(94, 95, 0);
+    set_cell(95, 94, 0);
+    memset(witness, 0, sizeof witness);
+    witness[94] = 1;
+    expect_witness(94, witness);
+    run("96 vertices, 47 edges");
+}
+
+static void sizes(void)
+{
+    const uint64_t too_large[] = {97, 200, 256, 260, 65536 + 4, 4294967296u,
+                                  4294967296u + 4, UINT64_MAX / 2 + 1, UINT64_MAX};
+    for (size_t i = 0; i < sizeof too_large / sizeof too_large[0]; i++) {
+        char name[64];
+        set_graph(4);
+        link_all();
+        call.n = too_large[i];
+        expect_refusal(SASZVIGOM_SIZE_TOO_LARGE, 0);
+        (void)snprintf(name, sizeof name, "size %llu", (unsigned long long)too_large[i]);
+        run(name);
+    }
+    set_graph(96);
+    call.n = 97;
+    memset(call.length, 0, sizeof call.length);
+    expect_refusal(SASZVIGOM_SIZE_TOO_LARGE, 0);
+    run("size 97, and no room");
+}
+
+static void lengths(void)
+{
+    for (size_t b = 0; b < BUFFERS; b++) {
+        char name[64];
+        set_graph(4);
+        link_all();
+        set_lengths_as_needed();
+        call.length[b]--;
+        expect_refusal(SASZVIGOM_BUFFER_TOO_SHORT, (unsigned)b + 1);
+        (void)snprintf(name, sizeof name, "%s short by a byte", names[b]);
+        run(name);
+
+        for (size_t later = b + 1; later < BUFFERS; later++)
+            call.length[later] = 0;
+        set_cell(0, 0, 9);
+        set_weight(0, 0);
+        expect_refusal(SASZVIGOM_BUFFER_TOO_SHORT, (unsigned)b + 1);
+        (void)snprintf(name, sizeof name, "%s short, and all after it, and faults", names[b]);
+        run(name);
+    }
+}
+
+static void adjacency_faults(void)
+{
+    set_graph(4);
+    link_all();
+    set_cell(1, 3, 2);
+    expect_refusal(SASZVIGOM_ADJACENCY_FAULT, 7);
+    run("a cell of 2");
+
+    set_graph(4);
+    set_cell(1, 0, 2);
+    expect_refusal(SASZVIGOM_ADJACENCY_FAULT, 1);
+    run("a cell of 2 below the diagonal");
+
+    set_graph(4);
+    set_cell(3, 2, 1);
+    expect_refusal(SASZVIGOM_ADJACENCY_FAULT, 11);
+    run("a cell unlike its mirror");
+
+    set_graph(4);
+    set_cell(2, 2, 1);
+    set_cell(2, 3, 255);
+    set_weight(0, 0);
+    expect_refusal(SASZVIGOM_ADJACENCY_FAULT, 10);
+    run("a cell on the diagonal, a later cell and a weight");
+
+    set_graph(96);
+    link_all();
+    set_cell(95, 95, 1);
+    expect_refusal(SASZVIGOM_ADJACENCY_FAULT, 9215);
+    run("the last cell of 96 vertices");
+}
+
+static void weight_faults(void)
+{
+    const uint16_t faulty[] = {0, 65521, 65535};
+    for (size_t i = 0; i < 3; i++) {
+        char name[64];
+        set_graph(4);
+        link_vertices(0, 1);
+        link_vertices(2, 3);
+        set_weight(2, faulty[i]);
+        set_weight(4, 0);
+        expect_refusal(SASZVIGOM_WEIGHT_OUT_OF_RANGE, 2);
+        (void)snprintf(name, sizeof name, "weight %u without an edge", (unsigned)faulty[i]);
+        run(name);
+    }
+
+    set_graph(2);
+    link_vertices(0, 1);
+    set_weight(0, 65520);
+    expect_inverse((const uint16_t[]){0, 1, 65520, 0});
+    run("weight 65520");
+
+    set_graph(96);
+    link_all();
+    set_weight(4559, 65521);
+    expect_refusal(SASZVIGOM_WEIGHT_OUT_OF_RANGE, 4559);
+    run("the last weight of 96 vertices");
+}
+
+/* The accessors, on numbers that a call returns. */
+static void accessors(void)
+{
+    const uint64_t singular = 131584;
+    const uint64_t refused = 3 | (uint64_t)9215 << 16;
+    const bool right = saszvigom_cause(256) == SASZVIGOM_NO_CAUSE
+                       && saszvigom_kind(256) == SASZVIGOM_OPENED
+                       && saszvigom_cause(singular) == SASZVIGOM_NO_CAUSE
+                       && saszvigom_kind(singular) == SASZVIGOM_SINGULAR
+                       && saszvigom_column(singular) == 2
+                       && saszvigom_cause(refused) == SASZVIGOM_ADJACENCY_FAULT
+                       && saszvigom_kind(refused) == SASZVIGOM_REFUSED
+                       && saszvigom_place(refused) == 9215
+                       && saszvigom_weight_index(96, 94, 95) == 4559;
+    if (!right) {
+        printf("FAIL accessors\n");
+        exit(1);
+    }
+    cases++;
+    printf("ok   accessors\n");
+}
+
+int main(void)
+{
+    smallest_graphs();
+    graphs_of_three_and_four();
+    largest_graphs();
+    sizes();
+    lengths();
+    adjacency_faults();
+    weight_faults();
+    accessors();
+    printf("%zu cases\n", cases);
+    return 0;
+}
