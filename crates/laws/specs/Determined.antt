@@ -10,7 +10,7 @@ use Rattle.modular.specs.Prime.{OddPrime, below-equal, remainder}
 use Rattle.modular.specs.Congruence.{Congruent, equals, _⨾_}
 use Rattle.skew.specs.Subset.{Subset, count, count-none, count-suc}
 use Rattle.skew.specs.Matching.{invertible-even}
-use Rattle.skew.specs.Inverse.{Matrix, Inverse, apply-congruent, inverse-unique, same-entries}
+use Rattle.skew.specs.Inverse.{Matrix, Inverse, Invertible, apply-congruent, inverse-unique, same-entries}
 use Rattle.skew.specs.Column.{FirstDependent, Witness, witness-unique}
 use Rattle.skew.specs.Decide.{Outcome, inverse, column, eliminate, witness-singular, first-unique}
 use Rattle.laws.specs.Lists.{length-list-of, getD-list-of}
@@ -129,6 +129,18 @@ module _ {p : ℕ} (P : OddPrime p) (g : Graph) (S : Subset) where
       absurd (witness-singular P (g .n) (tutte g p) (skew P g S) S (s .kernel) (_, h .is-inverse))
   opens-unique {b} (depends f w e l s) (depends f′ w′ e′ l′ s′) =
       let u = singular-unique l l′ s s′ in (ap dependent (u .0), ap (λ words. with-witness (g .n) words b) (u .1))
+
+-- demand 2: a graph that is not refused is opened exactly when its matrix has an inverse
+module _ {p : ℕ} (P : OddPrime p) (g : Graph) (S : Subset) where
+  pub opened-only : {b a : Buffers} {s : Session} → Opens p g S b (opened s) a → Invertible p (g .n) (tutte g p) S
+  opened-only (opens words e l h) = (_, h .is-inverse)
+
+  pub opened-always : {b a : Buffers} {o : Opening} → ruling p g b ≡ accepted → Invertible p (g .n) (tutte g p) S → Opens p g S b o a
+      → o ≡ opened (session (g .n) [])
+  opened-always ok I (refuses-opening r e) = absurd (let z : _≡_ {A = ℕ} 0 1 = cc in omega arith)
+  opened-always ok I (opens words e l h) = refl
+  opened-always ok I (depends f w e l s) =
+      absurd (witness-singular P (g .n) (tutte g p) (skew P g S) S (s .kernel) I)
 
 module _ {p : ℕ} (P : OddPrime p) (g : Graph) where
   -- an odd number of vertices never opens
