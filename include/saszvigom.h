@@ -13,7 +13,7 @@
  * show that no such matching exists: the weights may cancel. For odd n there
  * is always a witness.
  *
- * Link with libhost.a. The library keeps no state, allocates nothing and calls
+ * Link with libhost.a, built for 64-bit x86. It keeps no state, allocates nothing, calls
  * only memcpy, memmove and memset. Threads may call it at once if none writes
  * to a buffer that another one uses. A call takes less than 256 KiB of stack.
  */
@@ -37,7 +37,8 @@ enum {
 /* Every word is a number modulo this prime, stored as 0 to 65520. */
 #define SASZVIGOM_MODULUS 65521u
 
-/* How many bytes a buffer needs for n vertices. A buffer may be longer. */
+/* How many bytes a buffer needs for n vertices, n at most 96. A buffer may be
+   longer. The argument is evaluated twice. */
 #define SASZVIGOM_ADJACENCY_BYTES(n) ((size_t)(n) * (size_t)(n))
 #define SASZVIGOM_WEIGHTS_BYTES(n) ((size_t)(n) * ((size_t)(n) - 1u))
 #define SASZVIGOM_INVERSE_BYTES(n) (2u * (size_t)(n) * (size_t)(n))
@@ -67,12 +68,12 @@ enum saszvigom_cause {
 
 /* The buffers, as the place of SASZVIGOM_BUFFER_TOO_SHORT names them. */
 enum saszvigom_buffer {
-    SASZVIGOM_ADJACENCY = 1,
-    SASZVIGOM_WEIGHTS = 2,
-    SASZVIGOM_INVERSE = 3,
-    SASZVIGOM_SEQUENCE = 4,
-    SASZVIGOM_WITNESS = 5,
-    SASZVIGOM_WORK = 6
+    SASZVIGOM_BUFFER_ADJACENCY = 1,
+    SASZVIGOM_BUFFER_WEIGHTS = 2,
+    SASZVIGOM_BUFFER_INVERSE = 3,
+    SASZVIGOM_BUFFER_SEQUENCE = 4,
+    SASZVIGOM_BUFFER_WITNESS = 5,
+    SASZVIGOM_BUFFER_WORK = 6
 };
 
 /* What a call found: bits 8 to 15 of the number returned. */
@@ -94,9 +95,9 @@ enum saszvigom_kind {
  *   weights    read; n (n - 1) / 2 words, for the vertices (0,1), (0,2) ..
  *              (0,n-1), (1,2) and so on
  *   inverse    written; n n words, row by row
- *   sequence   written; n bytes, for the vertices matched by later calls
+ *   sequence   written; n bytes, all 255: no pair of vertices is matched yet
  *   witness    written; n words
- *   work       written; n n words
+ *   work       written; n n words, all set to 0
  *
  * Each buffer is followed by its length in bytes. A word is two bytes, the low
  * one first; a buffer of words holds half its length, rounded down. Buffers

@@ -148,7 +148,7 @@ fn run(n: usize, w: &mut [u64], r: &mut [u64], witness: &mut [u16], factors: &mu
 }
 
 // Eliminates the matrix w. With every column independent, r is its inverse; else `witness` is the witness of the first dependent column.
-// What is left in w is of no use.
+// Left free: the words of w, and those of r beside a witness.
 pub fn eliminate(n: usize, w: &mut [u64], r: &mut [u64], witness: &mut [u16]) -> Outcome
     requires { ⌜ Given n (now w) (now r) (now witness) ⌝ }
     ensures { λ o. ⌜ Ended n (now (w .entry)) (now (r .exit)) (now (witness .entry)) (now (witness .exit)) o ⌝ }

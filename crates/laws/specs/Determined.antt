@@ -1,4 +1,5 @@
--- Opening and the session calls have exactly one outcome each. Assumes nothing.
+-- One buffer only holds an inverse or a witness; opening has exactly one outcome, and opens exactly when there is an inverse. Assumes
+-- nothing.
 use mathlib.Core.Path.{_≡_, refl, sym, ap, ap₂, _∙_}
 use mathlib.Core.List.{List, []}
 use Prim.Native.Nat.{ℕ, zero, suc, _+_, _*_, _/_, _%_, _<_}

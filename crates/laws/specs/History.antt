@@ -190,3 +190,19 @@ module _ {p : ℕ} (P : OddPrime p) (g : Graph) (S : Subset) where
       no-cons : (e : Pair) (earlier more : Pairs) → [] ≡ more ++ e ∷ earlier → ⊥
       no-cons e earlier [] w = let z : _≡_ {A = ℕ} 0 1 = cc in omega arith
       no-cons e earlier (x ∷ more) w = let z : _≡_ {A = ℕ} 0 1 = cc in omega arith
+
+  -- so a take-back that has a pair to remove is never refused on a run
+  pub undo-accepted : (calls : List Call) (e : Pair) (earlier : Pairs) → Nonsingular P g S [] → run P g S [] calls .pairs ≡ e ∷ earlier
+      → step P g S (e ∷ earlier) undo ≡ record { answer = done e; pairs = earlier }
+  unfolding step
+  undo-accepted calls e earlier I w = go (nonsingular? P g S earlier)
+    where
+      A : Appended calls e earlier
+      A = undo-restores calls e earlier I w
+
+      J : Nonsingular P g S earlier
+      J = rw (A .state) at (run-nonsingular P g S [] (A .before) I)
+
+      go : (d : Dec (Nonsingular P g S earlier)) → remove-last P g S e earlier d ≡ record { answer = done e; pairs = earlier }
+      go (yes _) = refl
+      go (no d) = absurd (d J)

@@ -11,6 +11,8 @@ pub mod Sound
 pub mod Determined
 pub mod Carried
 pub mod Outcomes
+-- A record's number and width.
+pub mod Reads
 -- The bytes of a sequence of pairs, and demand 3.
 pub mod Sequence
 pub mod Runs

@@ -17,14 +17,14 @@ use Rattle.matching.specs.Graph.{Graph, tutte}
 use Rattle.matching.specs.Pairs.{Pair, Pairs, everything, unused, bytes, sequence, unmatched}
 use Rattle.matching.specs.Session.{Session, session, InverseTable, onto}
 use Rattle.matching.specs.Opening.{opened, Buffers, Opens, opens}
-use Rattle.matching.specs.Model.{Call, Answer, Step, done, denied, skew, Nonsingular, step, run, OpenPartner, PicksToCome}
+use Rattle.matching.specs.Model.{Call, undo, Answer, Step, done, denied, skew, Nonsingular, step, run, OpenPartner, PicksToCome}
 use Rattle.matching.specs.Causes.{adjacency-of, weights-of}
 use Rattle.matching.specs.Calls.{State, graph-of, pairs-of, soundness, Handles, unsound, refuses, carries, HandlesAll, none, more}
 use Rattle.laws.specs.Index.{index-below}
 use Rattle.laws.specs.Sound.{InOrder, LongEnough, opening-accepted, session-accepted}
 use Rattle.laws.specs.Determined.{inverse-table-unique, count-everything}
 use Rattle.laws.specs.Facts.{step-nonsingular, open-partner, picks-to-come, unlike}
-use Rattle.laws.specs.History.{Valid, nil, Change, appended, removed, unchanged, change, change-valid, times, perfect}
+use Rattle.laws.specs.History.{Appended, run-append, undo-accepted, Valid, nil, Change, appended, removed, unchanged, change, change-valid, times, perfect}
 use Rattle.laws.specs.Sequence.{length-sequence, well-formed-sequence, pairs-on-sequence}
 
 -- a table with something after it
@@ -223,3 +223,14 @@ module _ {p : ℕ} (P : OddPrime p) (g : Graph) where
       A .state-is
       ∙ ap₂ (λ ps ws. standing (g .n) ps ws (drop (g .n * g .n) (b .inverse)) (drop (g .n) (b .sequence))) q w
       ∙ sym (B .state-is)
+
+  -- an accepted take-back gives back the state from before the pick that appended the pair it removes
+  pub take-back-restores : {b : Buffers} {calls : List Call} {answers answers′ : List Answer} {t t′ : State} {e : Pair} {earlier : Pairs}
+      → Nonsingular P g everything [] → run P g everything [] calls .pairs ≡ e ∷ earlier → (A : Appended P g everything calls e earlier)
+      → Promise P g b (calls ++ undo ∷ []) answers t → Promise P g b (A .before) answers′ t′ → t ≡ t′
+  take-back-restores {calls = calls} {e = e} {earlier = earlier} I w A U W =
+      same-state U W
+      (run-append P g everything [] calls undo
+      ∙ ap (λ ps. step P g everything ps undo .pairs) w
+      ∙ ap (λ s. s .pairs) (undo-accepted P g everything calls e earlier I w)
+      ∙ sym (A .state))

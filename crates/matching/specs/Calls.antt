@@ -36,6 +36,16 @@ with-pairs pairs inverse s = record {
   sequence = onto (sequence (s .session .size) pairs) (s .sequence);
 }
 
+-- 1 where a pick is accepted, else 0
+abbrev pub bit-of : Ruling → ℕ
+bit-of accepted = 1
+bit-of (refused r) = 0
+
+-- the later causes where none of the earlier applies
+abbrev pub then : Ruling → Ruling → Ruling
+then accepted v = v
+then (refused r) v = refused r
+
 module _ {p : ℕ} (P : OddPrime p) (adjacency weights : List ℕ) (S : Subset) where
   -- causes 1 to 6, where a call is lent more buffers than these
   abbrev pub soundness : State → List Lent → Ruling
@@ -63,20 +73,11 @@ module _ {p : ℕ} (P : OddPrime p) (adjacency weights : List ℕ) (S : Subset) 
     more : {s t u : State} {c : Call} {calls : List Call} {a : Answer} {answers : List Answer} → Handles s c a t → HandlesAll t calls answers u
         → HandlesAll s (c ∷ calls) (a ∷ answers) u
 
-  -- 1 where a pick is accepted, else 0
-  abbrev pub bit-of : Ruling → ℕ
-  bit-of accepted = 1
-  bit-of (refused r) = 0
-
   -- for each vertex b, whether a pick of a and b would be accepted
   unfoldable pub open-row : State → ℕ → List ℕ
   unfolding list-of pick-ruling
   open-row s a =
       list-of (s .session .size) (λ b. bit-of (pick-ruling P (graph-of s adjacency weights) S (pairs-of s) a b))
-
-  abbrev pub then : Ruling → Ruling → Ruling
-  then accepted v = v
-  then (refused r) v = refused r
 
   -- open row of a: causes 1 to 6, then 7 and 8 of a itself
   unfoldable pub row-ruling : State → ℕ → List ℕ → Ruling
@@ -85,7 +86,7 @@ module _ {p : ℕ} (P : OddPrime p) (adjacency weights : List ℕ) (S : Subset) 
       then (soundness s (row-of (s .session .size) row ∷ []))
       (judge (needs 7 (decLt a (s .session .size)) ∷ needs 8 (in? (unmatched S (pairs-of s)) a) ∷ []))
 
-  -- whether it was refused, the session handed back, and the row afterwards
+  -- whether it was refused, the session handed back, and the row afterwards; the other buffers are only read
   pub data ShowsRow (s : State) (a : ℕ) (row : List ℕ) : Ruling → Session → List ℕ → Type 0 where
     shows : row-ruling s a row ≡ accepted → ShowsRow s a row accepted (s .session) (onto (open-row s a) row)
     refuses-row : (r : Refusal) → row-ruling s a row ≡ refused r → ShowsRow s a row (refused r) (s .session) row

@@ -22,7 +22,7 @@ adjacency-of g = record { number = 1; length = length (g .adjacency); needed = g
 abbrev pub weights-of : Graph → Lent
 weights-of g = record { number = 2; length = length (g .weights); needed = pair-count (g .n) }
 
--- numbers 3 inverse (held), 4 order (strip), 5 witness, 6 work, 7 row
+-- numbers 3 inverse (held), 4 sequence (strip), 5 witness, 6 work, 7 row
 abbrev pub inverse-of : ℕ → List ℕ → Lent
 inverse-of n inverse = record { number = 3; length = length inverse; needed = n * n }
 

@@ -14,10 +14,10 @@ use Rattle.matching.specs.Decided.{inverse-table?, witness?}
 use Rattle.matching.specs.Opening.{Opening, opened, dependent, not-opened, Buffers, Singular, Opens, opens, refuses-opening, depends, with-inverse, with-witness, ruling}
 use Rattle.matching.specs.Display.{Part, display}
 use Rattle.matching.specs.Model.{Call, automatic, Answer, denied, skew, Nonsingular, nonsingular?, run, PicksToCome}
-use Rattle.matching.specs.Calls.{State, soundness, model-step, Handles, unsound, refuses, row-ruling, open-row, ShowsRow, shows}
-use Rattle.matching.specs.Records.{Reading, sheet, unread, read, cells, graph, Read, Fills}
+use Rattle.matching.specs.Calls.{State, soundness, model-step, Handles, unsound, refuses, row-ruling, open-row, ShowsRow, shows, refuses-row}
+use Rattle.matching.specs.Records.{Reading, sheet, unread, read, cells, graph, Read, graph-read, not-read, room, Fills, lacks-room, fills}
 use Rattle.matching.specs.Listing.{input-limit, first-line, pair-lines, witness-lines, line-full, line-none, refused-line, Lists, refuses-sheet, pairs-up, shows-witness}
-use Rattle.matching.specs.Host.{opening-number, answer-number}
+use Rattle.matching.specs.Host.{opening-number, answer-number, words, bytes-of}
 
 -- n vertices with these edges and weights
 abbrev pub linked : ℕ → List Pair → List ℕ → Graph
@@ -61,10 +61,14 @@ pub data Claim : Type 0 where
   spoiled : State → Graph → Call → Refusal → Claim
   -- the open row of a vertex, and the row buffer before and after
   row : State → Graph → ℕ → List ℕ → List ℕ → Claim
+  -- an open row that is refused
+  row-refused : State → Graph → ℕ → List ℕ → Refusal → Claim
   -- the part that is displayed
   displayed : ℕ → List ℕ → List ℕ → Part → Claim
   -- these bytes are read so
   reads : List ℕ → Reading → Claim
+  -- reading these bytes into an adjacency table and weights gives this answer, and leaves these
+  filling : List ℕ → List ℕ → List ℕ → Read → List ℕ → List ℕ → Claim
   -- this input opens, is paired up in so many picks, and is listed so
   lists : List ℕ → ℕ → List ℕ → Claim
   -- this input has this witness, and is listed so
@@ -74,6 +78,9 @@ pub data Claim : Type 0 where
   -- the host's number of an opening, and of an answer with the session after it
   host-opening : Opening → ℕ → Claim
   host-answer : Answer → Session → ℕ → Claim
+  -- the words of a byte slice, and the bytes of words over a byte slice
+  host-words : List ℕ → List ℕ → Claim
+  host-bytes : List ℕ → List ℕ → List ℕ → Claim
 
 -- buffers of just the length that is needed, full of something else
 abbrev pub before : ℕ → Buffers
@@ -106,13 +113,17 @@ Holds (spoiled s g c r) =
     (soundness modulus-prime (g .adjacency) (g .weights) everything s [] ≡ refused r)
     × Handles modulus-prime (g .adjacency) (g .weights) everything s c (denied r) s
 Holds (row s g a old new) = ShowsRow modulus-prime (g .adjacency) (g .weights) everything s a old accepted (s .session) new
+Holds (row-refused s g a old r) = ShowsRow modulus-prime (g .adjacency) (g .weights) everything s a old (refused r) (s .session) old
 Holds (displayed n inverse words part) = display n inverse words ≡ part
 Holds (reads bytes r) = read bytes ≡ r
+Holds (filling bytes adjacency weights o adjacency′ weights′) = Fills (read bytes) adjacency weights o adjacency′ weights′
 Holds (lists input m text) = Lists input text
 Holds (lists-witness input f words text) = Lists input text
 Holds (lists-refusal input r text) = Lists input text
 Holds (host-opening o k) = opening-number o ≡ k
 Holds (host-answer a s k) = answer-number a s ≡ k
+Holds (host-words bytes ws) = words bytes ≡ ws
+Holds (host-bytes ws old new) = onto (bytes-of ws) old ≡ new
 
 -- every claim of a list
 abbrev pub All : (Claim → Type 0) → List Claim → Type 0
@@ -172,6 +183,25 @@ listed-witness input f words text (sheet n weights edges) q e =
     subst (λ (t : List ℕ). Lists input t) (e .2)
     (shows-witness n weights edges f words q (e .0) (singular (graph n weights edges) f words (e .1)))
 
+unfoldable pub ShownFilling : Reading → List ℕ → List ℕ → Read → List ℕ → List ℕ → Type 0
+ShownFilling (unread r) adjacency weights o adjacency′ weights′ = ⊥
+ShownFilling (sheet n drawn edges) adjacency weights (not-read r) adjacency′ weights′ =
+    (room n adjacency weights ≡ refused r) × (adjacency ≡ adjacency′) × (weights ≡ weights′)
+ShownFilling (sheet n drawn edges) adjacency weights (graph-read m k) adjacency′ weights′ =
+    (room n adjacency weights ≡ accepted)
+    × (graph-read n (length edges) ≡ graph-read m k)
+    × (onto (cells n edges) adjacency ≡ adjacency′)
+    × (onto drawn weights ≡ weights′)
+
+filled : (r : Reading) (adjacency weights : List ℕ) (o : Read) (adjacency′ weights′ : List ℕ) → ShownFilling r adjacency weights o adjacency′ weights′
+    → Fills r adjacency weights o adjacency′ weights′
+unfolding ShownFilling
+filled (unread r) adjacency weights o adjacency′ weights′ e = absurd e
+filled (sheet n drawn edges) adjacency weights (not-read r) adjacency′ weights′ e =
+    rw (← e .1, ← e .2) (lacks-room n drawn edges r refl (e .0))
+filled (sheet n drawn edges) adjacency weights (graph-read m k) adjacency′ weights′ e =
+    rw (← e .1, ← e .2, ← e .3) (fills n drawn edges refl (e .0))
+
 unfoldable pub Shown : Claim → Type 0
 Shown (opening g inverse) =
     (ruling modulus g (before (g .n)) ≡ accepted)
@@ -196,13 +226,17 @@ Shown (spoiled s g c r) = soundness modulus-prime (g .adjacency) (g .weights) ev
 Shown (row s g a old new) =
     (row-ruling modulus-prime (g .adjacency) (g .weights) everything s a old ≡ accepted)
     × (onto (open-row modulus-prime (g .adjacency) (g .weights) everything s a) old ≡ new)
+Shown (row-refused s g a old r) = row-ruling modulus-prime (g .adjacency) (g .weights) everything s a old ≡ refused r
 Shown (displayed n inverse words part) = display n inverse words ≡ part
 Shown (reads bytes r) = read bytes ≡ r
+Shown (filling bytes adjacency weights o adjacency′ weights′) = ShownFilling (read bytes) adjacency weights o adjacency′ weights′
 Shown (lists input m text) = ShownListed (read (take input-limit input)) m text
 Shown (lists-witness input f words text) = ShownWitness (read (take input-limit input)) f words text
 Shown (lists-refusal input r text) = (read (take input-limit input) ≡ unread r) × (refused-line r ≡ text)
 Shown (host-opening o k) = opening-number o ≡ k
 Shown (host-answer a s k) = answer-number a s ≡ k
+Shown (host-words bytes ws) = words bytes ≡ ws
+Shown (host-bytes ws old new) = onto (bytes-of ws) old ≡ new
 
 enough : (c : Claim) → Shown c → Holds c
 unfolding Shown Holds
@@ -224,13 +258,17 @@ enough (row s g a old new) e =
     (λ (after : List ℕ).
     ShowsRow modulus-prime (g .adjacency) (g .weights) everything s a old accepted (s .session) after)
     (e .1) (shows (e .0))
+enough (row-refused s g a old r) e = refuses-row r e
 enough (displayed n inverse words part) e = e
 enough (reads bytes r) e = e
+enough (filling bytes adjacency weights o adjacency′ weights′) e = filled (read bytes) adjacency weights o adjacency′ weights′ e
 enough (lists input m text) e = listed input m text (read (take input-limit input)) refl e
 enough (lists-witness input f words text) e = listed-witness input f words text (read (take input-limit input)) refl e
 enough (lists-refusal input r text) e = subst (λ (t : List ℕ). Lists input t) (e .1) (refuses-sheet r (e .0))
 enough (host-opening o k) e = e
 enough (host-answer a s k) e = e
+enough (host-words bytes ws) e = e
+enough (host-bytes ws old new) e = e
 
 pub all : (claims : List Claim) → All Shown claims → All Holds claims
 all [] _ = tt

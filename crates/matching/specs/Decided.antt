@@ -1,4 +1,4 @@
--- Whether a buffer holds the inverse, and whether a order is well formed, are decided. Assumes nothing.
+-- Whether a buffer holds the inverse, and whether a sequence is well formed, are decided. Assumes nothing.
 use mathlib.Core.Path.{_≡_}
 use mathlib.Core.Logic.{_≢_}
 use mathlib.Core.List.{List}

@@ -54,12 +54,12 @@ unfoldable pub bytes : Pairs → List ℕ
 bytes [] = []
 bytes (e ∷ earlier) = bytes earlier ++ e .smaller ∷ e .larger ∷ []
 
--- the order of matching in n bytes (document 01: strip)
+-- the sequence of pairs in n bytes (document 01: strip)
 unfoldable pub sequence : ℕ → Pairs → List ℕ
 unfolding bytes
 sequence n pairs = bytes pairs ++ replicate (n - (length pairs + length pairs)) unused
 
--- the first so many pairs of an order of matching
+-- the first so many pairs of a sequence
 unfoldable pub pairs-on : List ℕ → ℕ → Pairs
 pairs-on s zero = []
 pairs-on s (suc k) = record { smaller = getD s (k + k) 0; larger = getD s (k + k + 1) 0 } ∷ pairs-on s k

@@ -108,8 +108,8 @@ module _ (len : ℕ) where
   finish n weights edges at [] = sheet n weights edges
   finish n weights edges at (b ∷ rest) = unread (because 12 at)
 
-  -- share records and then the end, from offset `at` on; 14 for what is not two vertices, 15 for two that stood already. There are no
-  -- more records than bytes
+  -- share records and then the end, from offset `at` on; 14 for what is not two vertices, 15 for two that stood already. The bound on
+  -- the records is never below the number of bytes left, so it runs out only where the data does: 13. The last two cases are never met
   unfoldable pub read-edges : ℕ → ℕ → List ℕ → List Pair → ℕ → List ℕ → Reading
   unfolding among pair-of decLt ℕ-discrete
   read-edges zero n weights edges at bytes = unread (because 13 len)

@@ -103,7 +103,7 @@ fn clear_diagonal(adjacency: &mut [u8], n: usize)
     }
 }
 
-// All linked: 96 vertices, and one too many.
+// All linked: 96 vertices, one too many, and the same table read as that of 95, whose second diagonal cell is then 1.
 fn all_linked() {
     let mut adjacency = [1u8; 9409];
     let weights = [1u16; 4656];
