@@ -47,8 +47,8 @@ fn pack(words: &[u16], bytes: &mut [u8])
 fn room(bytes: usize, most: usize) -> usize
     ensures { λ r. ⌜ Room bytes most r ⌝ }
 {
-    let held = bytes / 2;
-    if held < most { held } else { most }
+    let whole = bytes / 2;
+    if whole < most { whole } else { most }
 }
 
 // The number that the host is answered.

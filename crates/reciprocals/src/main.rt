@@ -13,15 +13,15 @@ fn holds(word: u16) -> bool {
 
 // How many of the words from 1 to 65520 that is so of.
 fn count() -> u64 {
-    let mut held: u64 = 0;
+    let mut confirmed: u64 = 0;
     let mut n: u64 = 1;
     while n < Residue::MODULUS {
         if holds(n as u16) {
-            held += 1;
+            confirmed += 1;
         }
         n += 1;
     }
-    held
+    confirmed
 }
 
 // Writes a space and the number.

@@ -9,10 +9,10 @@ use Rattle.reciprocals.proofs.count.Statement.{statement}
 use Rattle.reciprocals.proofs.count.Tie as tie
 
 abbrev Inv-loop : tie.InvT-loop
-Inv-loop held₀ n₀ held n = (n ≤ modulus) × (held < n)
+Inv-loop confirmed₀ n₀ confirmed n = (n ≤ modulus) × (confirmed < n)
 
 abbrev μ-loop : tie.MeasureT-loop
-μ-loop held₀ n₀ held n = modulus - n
+μ-loop confirmed₀ n₀ confirmed n = modulus - n
 
 loop-holds : tie.Need-loop-holds Inv-loop μ-loop
 loop-holds c = search needs
@@ -23,8 +23,8 @@ cast-holds c = search needs
 holds-requires : tie.Need-holds-requires Inv-loop μ-loop
 holds-requires c κs = search needs
 
-add-held : tie.Need-add-held Inv-loop μ-loop
-add-held c = search needs
+add-confirmed : tie.Need-add-confirmed Inv-loop μ-loop
+add-confirmed c = search needs
 
 add-n : tie.Need-add-n Inv-loop μ-loop
 add-n c = search needs
@@ -47,7 +47,7 @@ count-spec =
     loop-holds
     cast-holds
     holds-requires
-    add-held
+    add-confirmed
     add-n
     loop-less
     loop-again
