@@ -10,7 +10,7 @@ ghost use Rattle.matching.specs.Pairs.{everything};
 ghost use Rattle.matching.specs.Opening.{Opens};
 ghost use Rattle.tutte.specs.Table.{over, Lent};
 ghost use Rattle.elimination.specs.Words.{Below};
-ghost use Rattle.opening.specs.Solved.{InRange, Solved, opening-of, buffers};
+ghost use Rattle.opening.specs.Solved.{InRange, Solved, Ready, opening-of, buffers};
 
 // The size and the number of pairs made.
 pub struct Session {
@@ -88,7 +88,7 @@ fn solve_over(
     }
 }
 
-// The same, with working tables of its own.
+// The same, with working tables of its own. A small graph has small ones, which take less time to clear.
 fn solve(
     n: usize,
     adjacency: &[u8],
@@ -100,9 +100,22 @@ fn solve(
     requires { ⌜ (length (now inverse) ≡ n * n) × (length (now witness) ≡ n) ⌝ }
     ensures { λ o. ⌜ Solved (over n (now (adjacency .entry)) (now (weights .entry))) o (now (inverse .exit)) (now (witness .exit)) ⌝ }
 {
+    let size = n * n;
+    if n <= 32 {
+        let mut w = [0u64; 1024];
+        let mut r = [0u64; 1024];
+        return solve_over(
+            n,
+            adjacency,
+            weights,
+            &mut w[..size],
+            &mut r[..size],
+            inverse,
+            witness,
+        );
+    }
     let mut w = [0u64; 9216];
     let mut r = [0u64; 9216];
-    let size = n * n;
     solve_over(
         n,
         adjacency,
@@ -112,6 +125,35 @@ fn solve(
         inverse,
         witness,
     )
+}
+
+// Opening of a graph that is accepted.
+fn begin_accepted(
+    n: usize,
+    adjacency: &[u8],
+    weights: &[u16],
+    inverse: &mut [u16],
+    sequence: &mut [u8],
+    witness: &mut [u16],
+    work: &mut [u16],
+) -> Opening
+    requires { ⌜ Ready n (now adjacency) (now weights) (now inverse) (now sequence) (now witness) (now work) ⌝ }
+    ensures { λ o. ⌜ Opens modulus (over n (now (adjacency .entry)) (now (weights .entry))) everything (buffers (now (inverse .entry)) (now (sequence .entry)) (now (witness .entry)) (now (work .entry))) (opening-of o) (buffers (now (inverse .exit)) (now (sequence .exit)) (now (witness .exit)) (now (work .exit))) ⌝ }
+{
+    let size = n * n;
+    fill_bytes(&mut sequence[..n], 255);
+    fill_words(&mut work[..size], 0);
+    let outcome = solve(
+        n,
+        adjacency,
+        weights,
+        &mut inverse[..size],
+        &mut witness[..n],
+    );
+    match outcome {
+        Outcome::Inverse => Opening::Opened(Session { size: n, made: 0 }),
+        Outcome::Column(f) => Opening::Dependent(f),
+    }
 }
 
 // Opens a session on a graph.
@@ -138,18 +180,5 @@ pub fn begin(
     if let Ruling::Refused(refusal) = ruling {
         return Opening::Refused(refusal);
     }
-    let size = n * n;
-    fill_bytes(&mut sequence[..n], 255);
-    fill_words(&mut work[..size], 0);
-    let outcome = solve(
-        n,
-        adjacency,
-        weights,
-        &mut inverse[..size],
-        &mut witness[..n],
-    );
-    match outcome {
-        Outcome::Inverse => Opening::Opened(Session { size: n, made: 0 }),
-        Outcome::Column(f) => Opening::Dependent(f),
-    }
+    begin_accepted(n, adjacency, weights, inverse, sequence, witness, work)
 }
