@@ -17,10 +17,6 @@ use Rattle.checks.specs.declared.Fault.{Fault}
 use Rattle.checks.specs.declared.Cells.{Cells}
 use Rattle.checks.specs.declared.Cells.the-variants.{Faultless, Faulty}
 
--- the graph of lent tables
-abbrev pub graph-of : ℕ → (adjacency weights : List ℕ) → Graph
-graph-of n adjacency weights = record { n = n; adjacency = adjacency; weights = weights }
-
 abbrev pub finding-of : Finding → decision.Finding
 finding-of Absent = absent
 finding-of (At x) = at x

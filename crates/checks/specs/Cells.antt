@@ -7,13 +7,13 @@ use native.Mathlib.Nat.{div-lt-iff-lt-mul}
 use native.Mathlib.Omega.{arith}
 use native.Mathlib.Decide.{ℕ-discrete, decLt}
 use lib.ListN.{getD}
+use Rattle.lists.specs.Table.{index-positive, row-below, column-below, index-of, index-row, index-column, index-below}
 use Rattle.skew.specs.Choose.{choose-yes, choose-no}
 use Rattle.matching.specs.Decision.{Every, absent, at, not?, First, first?}
-use Rattle.matching.specs.Graph.{Graph, cell, fault, Faulty}
+use Rattle.matching.specs.Graph.{Graph, cell, fault, Faulty, over}
 use Rattle.matching.specs.Causes.{bad-cell}
-use Rattle.laws.specs.Index.{index-positive, row-below, column-below, index-of, index-row, index-column, index-below}
 use Rattle.laws.specs.Sound.{found-at, found-absent}
-use Rattle.checks.specs.Answers.{graph-of, kind-of, FaultInRow, FirstFault, Located}
+use Rattle.checks.specs.Answers.{kind-of, FaultInRow, FirstFault, Located}
 use Rattle.checks.specs.declared.Fault.{Fault}
 use Rattle.checks.specs.declared.Cells.{Cells}
 use Rattle.checks.specs.declared.Cells.the-variants as variants
@@ -128,7 +128,7 @@ module _ (g : Graph) where
       go (no d) = rows k (omega arith) l b c
 
 -- the weights have no part in it
-pub whatever-weights : (n : ℕ) (adjacency : List ℕ) (r : Cells) → Located (graph-of n adjacency []) r → (weights : List ℕ) → Located (graph-of n adjacency weights) r
+pub whatever-weights : (n : ℕ) (adjacency : List ℕ) (r : Cells) → Located (over n adjacency []) r → (weights : List ℕ) → Located (over n adjacency weights) r
 unfolding bad-cell fault
 whatever-weights n adjacency variants.Faultless h weights = h
 whatever-weights n adjacency (variants.Faulty f) h weights = record { row = h .row; column = h .column; kind = h .kind; place = h .place }

@@ -7,17 +7,13 @@ use native.Mathlib.Decide.{decLt}
 use Rattle.matching.specs.Decision.{Finding, absent, at, when, because, Refusal, accepted, refused, Cause, judge, unless}
 use Rattle.matching.specs.Graph.{largest, pair-count}
 use Rattle.matching.specs.Causes.{Lent, or, first-short, too-large, too-short}
-use Rattle.laws.specs.Sound.{when-absent, judge-accepted, LongEnough, short-absent}
+use Rattle.laws.specs.Sound.{when-at, when-absent, judge-accepted, LongEnough, short-absent}
 use Rattle.checks.specs.Answers.{lent-always}
 
 -- the buffers that opening alone is lent, by their lengths
 abbrev pub lent-besides : (n witness work : ℕ) → List Lent
 lent-besides n witness work =
     record { number = 5; length = witness; needed = n } ∷ record { number = 6; length = work; needed = n * n } ∷ []
-
-when-at : {A : Type 0} (d : Dec A) (x : ℕ) → A → when d x ≡ at x
-when-at (yes a) x h = refl
-when-at (no n) x h = absurd (n h)
 
 is-short : (length needed number : ℕ) → length < needed → when (decLt length needed) number ≡ at number
 is-short length needed number l = when-at (decLt length needed) number l

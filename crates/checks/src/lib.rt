@@ -5,9 +5,9 @@ ghost use Prim.Native.Nat.{ℕ, _+_, _*_, _≤_, _<_};
 ghost use lib.ListN.{length};
 ghost use Rattle.residue.specs.Modulus.{modulus};
 ghost use Rattle.matching.specs.Decision.{judge};
-ghost use Rattle.matching.specs.Graph.{largest, pair-count};
+ghost use Rattle.matching.specs.Graph.{largest, pair-count, over};
 ghost use Rattle.matching.specs.Causes.{first-short, too-large, too-short, bad-cell, bad-weight, opening-ruling};
-ghost use Rattle.checks.specs.Answers.{graph-of, finding-of, ruling-of, lent-always, kind-of, InRow, Located};
+ghost use Rattle.checks.specs.Answers.{finding-of, ruling-of, lent-always, kind-of, InRow, Located};
 use residue::Residue;
 
 // The most vertices that a graph may have.
@@ -124,7 +124,7 @@ fn kind_of(cell: u8, mirror: u8, row: usize, column: usize) -> u8
 // The first fault of a row from the diagonal on, whose index is start.
 fn row_fault(n: usize, adjacency: &[u8], row: usize, start: usize) -> Cells
     requires { ⌜ (n ≤ largest) × (n * n ≤ length (now adjacency)) × (row < n) × (start ≡ row * n + row) ⌝ }
-    ensures { λ r. ⌜ InRow (graph-of n (now (adjacency .entry)) []) row r ⌝ }
+    ensures { λ r. ⌜ InRow (over n (now (adjacency .entry)) []) row r ⌝ }
 {
     let mut column = row;
     let mut index = start;
@@ -144,7 +144,7 @@ fn row_fault(n: usize, adjacency: &[u8], row: usize, start: usize) -> Cells
 // The first fault, row by row. A cell left of the diagonal has one only if its mirror, which comes before it, has one.
 pub fn first_fault(n: usize, adjacency: &[u8]) -> Cells
     requires { ⌜ (n ≤ largest) × (n * n ≤ length (now adjacency)) ⌝ }
-    ensures { λ r. ⌜ ((weights : List ℕ) → Located (graph-of n (now (adjacency .entry)) weights) r) ⌝ }
+    ensures { λ r. ⌜ ((weights : List ℕ) → Located (over n (now (adjacency .entry)) weights) r) ⌝ }
 {
     let mut row = 0;
     let mut start = 0;
@@ -161,7 +161,7 @@ pub fn first_fault(n: usize, adjacency: &[u8]) -> Cells
 // The first weight that is 0 or not below the modulus, of one for each pair of vertices.
 pub fn first_outside(n: usize, weights: &[u16]) -> Finding
     requires { ⌜ (n ≤ largest) × (pair-count n ≤ length (now weights)) ⌝ }
-    ensures { λ r. ⌜ ((adjacency : List ℕ) → finding-of r ≡ bad-weight modulus (graph-of n adjacency (now (weights .entry))) .finding) ⌝ }
+    ensures { λ r. ⌜ ((adjacency : List ℕ) → finding-of r ≡ bad-weight modulus (over n adjacency (now (weights .entry))) .finding) ⌝ }
 {
     let count = pair_count(n);
     let mut i = 0;
@@ -181,7 +181,7 @@ pub fn first_outside(n: usize, weights: &[u16]) -> Finding
 // Causes 3 and 4, for tables that are long enough.
 pub fn judge_graph(n: usize, adjacency: &[u8], weights: &[u16]) -> Ruling
     requires { ⌜ (n ≤ largest) × (n * n ≤ length (now adjacency)) × (pair-count n ≤ length (now weights)) ⌝ }
-    ensures { λ r. ⌜ ruling-of r ≡ judge (bad-cell (graph-of n (now (adjacency .entry)) (now (weights .entry))) ∷ bad-weight modulus (graph-of n (now (adjacency .entry)) (now (weights .entry))) ∷ []) ⌝ }
+    ensures { λ r. ⌜ ruling-of r ≡ judge (bad-cell (over n (now (adjacency .entry)) (now (weights .entry))) ∷ bad-weight modulus (over n (now (adjacency .entry)) (now (weights .entry))) ∷ []) ⌝ }
 {
     if let Cells::Faulty(fault) = first_fault(n, adjacency) {
         let place = fault.row * n + fault.column;
@@ -203,7 +203,7 @@ pub fn judge_opening(
     witness: usize,
     work: usize,
 ) -> Ruling
-    ensures { λ r. ⌜ ((I S W K : List ℕ) → length I ≡ inverse → length S ≡ sequence → length W ≡ witness → length K ≡ work → ruling-of r ≡ opening-ruling modulus (graph-of n (now (adjacency .entry)) (now (weights .entry))) I S W K) ⌝ }
+    ensures { λ r. ⌜ ((I S W K : List ℕ) → length I ≡ inverse → length S ≡ sequence → length W ≡ witness → length K ≡ work → ruling-of r ≡ opening-ruling modulus (over n (now (adjacency .entry)) (now (weights .entry))) I S W K) ⌝ }
 {
     if let Ruling::Refused(refusal) = judge_lengths(
         n,

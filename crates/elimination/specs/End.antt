@@ -3,13 +3,14 @@ use mathlib.Core.Path.{_≡_}
 use mathlib.Core.List.{List}
 use Prim.Native.Nat.{ℕ}
 use lib.ListN.{length}
+use Rattle.lists.specs.Table.{vector, table}
 use Rattle.skew.specs.Inverse.{LeftInverse}
 use Rattle.skew.specs.Column.{FirstDependent, Witness}
 use Rattle.residue.specs.Modulus.{modulus}
 use Rattle.elimination.specs.declared.Outcome.{Outcome}
 use Rattle.elimination.specs.declared.Outcome.the-variants.{Inverse, Column}
-use Rattle.elimination.specs.Words.{vector, Below}
-use Rattle.elimination.specs.Table.{table, Square}
+use Rattle.elimination.specs.Words.{Below}
+use Rattle.elimination.specs.Table.{Square}
 use Rattle.elimination.specs.State.{all}
 
 -- the matrix w, whose words are residues, with room for its inverse and for a witness

@@ -8,13 +8,15 @@ use native.Mathlib.Omega.{arith}
 use native.Mathlib.Decide.{ℕ-discrete, decLt}
 use lib.Dec.{lit<}
 use lib.ListN.{length, getD, take, drop}
+use Rattle.lists.specs.Part.{replaced, part-at, part-length}
+use Rattle.lists.specs.Table.{vector, table, row-left, row-inside, row-right, row-other}
 use Rattle.modular.specs.Product.{product-below}
 use Rattle.skew.specs.Choose.{choose-yes, choose-no}
 use Rattle.skew.specs.Inverse.{Matrix, Vector}
 use Rattle.skew.specs.Decide.{exchange}
 use Rattle.residue.specs.Modulus.{modulus}
-use Rattle.elimination.specs.Words.{limit, vector, Words, Below, scaled, plus-times}
-use Rattle.elimination.specs.Table.{table, Square, Within, replaced, part-at, part-length, shifted, shifted-left, shifted-right, shifted-after, row-left, row-inside, row-right, row-other}
+use Rattle.elimination.specs.Words.{limit, Words, Below, scaled, plus-times}
+use Rattle.elimination.specs.Table.{Square, Within, shifted, shifted-left, shifted-right, shifted-after}
 
 -- the words of `from` are those of row i from column lo on, and everything else is as it was
 pub record RowPut (n i lo : ℕ) (from t t' : List ℕ) : Type 0 where

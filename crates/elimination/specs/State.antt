@@ -11,6 +11,7 @@ use native.Mathlib.Decide.{ℕ-discrete, decLt}
 use lib.Dec.{lit<}
 use lib.ListN.{length, getD, set, length-set}
 use lib.Seq.{getD-set-same, getD-set-other}
+use Rattle.lists.specs.Table.{vector, table, row-fits, same-place}
 use Rattle.modular.specs.Congruence.{Congruent, equals, flip, _⨾_, _⊕_, _⊖_, _⊛_, linear}
 use Rattle.modular.specs.Sum.{sum-congruent}
 use Rattle.modular.specs.Prime.{Odd, remainder}
@@ -22,8 +23,8 @@ use Rattle.skew.specs.Elimination.{Reduced, identity, reduced-start, reduced-ex
 use Rattle.skew.specs.Column.{FirstDependent, Witness, ending, ending-before, ending-at, ending-after, dependent-of-witness, before, before-in, before-out, before-with, reduced-independent, reduced-witness}
 use Rattle.skew.specs.Decide.{exchange, exchanged, pivot, pivoted}
 use Rattle.residue.specs.Modulus.{modulus, modulus-prime}
-use Rattle.elimination.specs.Words.{limit, vector, Words, Below}
-use Rattle.elimination.specs.Table.{table, Within, row-end, same-place}
+use Rattle.elimination.specs.Words.{limit, Words, Below}
+use Rattle.elimination.specs.Table.{Within}
 use Rattle.elimination.specs.Rows.{square, advanced-within, exchange-second, exchange-others}
 use Rattle.elimination.specs.Step.{Stepped, Found}
 
@@ -58,7 +59,7 @@ state-start {n} {w} {r} size B U = record {
   right = λ i j hi hj. equals (same i j hi hj (ℕ-discrete i j));
   left-within = record {
     at = λ i j hi hj.
-        let h : getD w (i * n + j) 0 < modulus = B .at (i * n + j) (omega (arith, row-end n i hi)) in omega arith;
+        let h : getD w (i * n + j) 0 < modulus = B .at (i * n + j) (omega (arith, row-fits n i hi)) in omega arith;
   };
   right-within = record { at = λ i j hi hj. small i j hi hj (ℕ-discrete i j) };
   narrow = λ i j hi hj _. U .off i j hi hj;
@@ -218,7 +219,7 @@ pub state-inverse : {n h : ℕ} {A : Matrix} {w r r' : List ℕ} → State n n h
     → LeftInverse modulus n A all (table n r')
 state-inverse {n} {h} {A} {w} {r} {r'} E size D =
     left-same (table n r')
-    (λ i j hi hj. equals (D .at (i * n + j) (omega (arith, row-end n i hi))) ⨾ remainder (table n r i j) ⨾ flip (E .right i j hi hj))
+    (λ i j hi hj. equals (D .at (i * n + j) (omega (arith, row-fits n i hi))) ⨾ remainder (table n r i j) ⨾ flip (E .right i j hi hj))
     (reduced-inverse modulus n A all (E .reduced) (λ i hi l. before-in all n i hi ∙ l))
 
 -- with no pivot in column f, its negatives before f and a 1 at f are the witness
@@ -268,7 +269,7 @@ unit-start {n} {r} size Z = record {
   size = size;
   reached = omega arith;
   one = λ i l. absurd (omega arith);
-  off = λ i j hi hj _. Z .at (i * n + j) (omega (arith, row-end n i hi));
+  off = λ i j hi hj _. Z .at (i * n + j) (omega (arith, row-fits n i hi));
 }
 
 pub unit-next : {n m : ℕ} {r : List ℕ} → UnitTo n m r → m < n → UnitTo n (m + 1) (set r (m * n + m) 1)
@@ -282,7 +283,7 @@ unit-next {n} {m} {r} U hm = record {
 }
   where
     one : (i : ℕ) → i < m + 1 → Dec (i ≡ m) → table n (set r (m * n + m) 1) i i ≡ 1
-    one i l (yes e) = rw e (getD-set-same r (m * n + m) 1 0 (omega (arith, U .size, row-end n m hm)))
+    one i l (yes e) = rw e (getD-set-same r (m * n + m) 1 0 (omega (arith, U .size, row-fits n m hm)))
     one i l (no d) =
         getD-set-other r (m * n + m) (i * n + i) 1 0 (λ e. d (same-place n i i m m (omega arith) hm e .0)) ∙ U .one i (omega arith)
 

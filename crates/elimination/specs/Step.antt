@@ -9,14 +9,15 @@ use native.Mathlib.Decide.{ℕ-discrete}
 use lib.Dec.{lit<}
 use lib.ListN.{length, getD, set, length-set}
 use lib.Seq.{getD-set-same, getD-set-other}
+use Rattle.lists.specs.Table.{vector, table}
 use Rattle.modular.specs.Congruence.{Congruent, _⊕_, _⊖_, _⊛_, linear}
 use Rattle.modular.specs.Operations.{negative, negative-plus}
 use Rattle.modular.specs.Prime.{below-equal}
 use Rattle.modular.specs.Reciprocal.{Reciprocal, reciprocal-unit}
 use Rattle.skew.specs.Decide.{exchange}
 use Rattle.residue.specs.Modulus.{modulus}
-use Rattle.elimination.specs.Words.{limit, vector, Words, Below}
-use Rattle.elimination.specs.Table.{table, Square, Within}
+use Rattle.elimination.specs.Words.{limit, Words, Below}
+use Rattle.elimination.specs.Table.{Square, Within}
 use Rattle.elimination.specs.Rows.{Advanced, exchange-second, exchange-others}
 
 -- r is the first index from f on where a word is not 0, or the length

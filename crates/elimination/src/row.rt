@@ -2,8 +2,9 @@
 ghost use mathlib.Core.Path.{_≡_};
 ghost use Prim.Native.Nat.{_*_, _%_, _<_};
 ghost use lib.ListN.{length, getD};
+ghost use Rattle.lists.specs.Table.{vector};
 ghost use Rattle.residue.specs.Modulus.{modulus};
-ghost use Rattle.elimination.specs.Words.{limit, vector, Words, Below, scaled, plus-times};
+ghost use Rattle.elimination.specs.Words.{limit, Words, Below, scaled, plus-times};
 use residue::Residue;
 
 // The words of `from`, into `to`.

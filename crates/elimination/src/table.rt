@@ -2,9 +2,10 @@
 ghost use mathlib.Core.Path.{_≡_};
 ghost use Prim.Native.Nat.{ℕ, _+_, _*_, _≤_, _<_};
 ghost use lib.ListN.{length};
+ghost use Rattle.lists.specs.Table.{vector, table};
 ghost use Rattle.residue.specs.Modulus.{modulus};
-ghost use Rattle.elimination.specs.Words.{limit, vector, Words, Below, scaled};
-ghost use Rattle.elimination.specs.Table.{table, Square, Within};
+ghost use Rattle.elimination.specs.Words.{limit, Words, Below, scaled};
+ghost use Rattle.elimination.specs.Table.{Square, Within};
 ghost use Rattle.elimination.specs.Rows.{RowPut, RowCopied, RowAdded, RowsAdded, Promoting, Promoted, Advanced};
 use crate::row;
 

@@ -4,17 +4,16 @@ use mathlib.Core.List.{List}
 use Prim.Native.Nat.{ℕ, _*_, _≤_, _<_}
 use native.Mathlib.Omega.{arith}
 use lib.ListN.{length, getD, take, drop, replicate, length-append, length-replicate}
+use Rattle.lists.specs.Table.{square-small}
 use Rattle.skew.specs.Subset.{Subset}
 use Rattle.residue.specs.Modulus.{modulus}
 use Rattle.matching.specs.Decision.{Every, accepted}
 use Rattle.matching.specs.Pairs.{everything, unused}
-use Rattle.matching.specs.Graph.{Graph, pair-count}
+use Rattle.matching.specs.Graph.{Graph, pair-count, over}
 use Rattle.matching.specs.Session.{onto}
 use Rattle.matching.specs.Opening.{Opening, opened, dependent, not-opened, Buffers, ruling, with-inverse, with-witness, Opens, refuses-opening, opens, depends}
 use Rattle.matching.specs.Host.{words, bytes-of, opening-number, unpacked, HostOpens}
-use Rattle.laws.specs.Index.{square-small}
 use Rattle.laws.specs.Sound.{opening-accepted}
-use Rattle.tutte.specs.Table.{over}
 use Rattle.opening.specs.Solved.{buffers}
 use Rattle.host.specs.Words.{Bytes, stored-front, stored-again}
 use Rattle.host.specs.Same.{table-same, singular-same}

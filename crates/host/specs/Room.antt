@@ -1,22 +1,21 @@
 -- The room for words in byte slices, and the causes of opening where only the words that matter are lent. Assumes nothing.
 use mathlib.Core.Path.{_≡_, refl, sym, ap, _∙_}
 use mathlib.Core.Logic.{_↔_}
-use mathlib.Core.List.{List, [], _∷_, _++_}
+use mathlib.Core.List.{List, [], _∷_}
 use Prim.Native.Nat.{ℕ, _+_, _*_, _-_, _/_, _%_, _≤_, _<_}
 use native.Mathlib.Nat.{mul-le-mul}
 use native.Mathlib.Omega.{arith}
 use native.Mathlib.Decide.{ℕ-discrete, decLt}
-use lib.ListN.{length, getD, take, replicate, length-append}
-use lib.Seq.{length-take-le, take-at, getD-take}
+use lib.ListN.{length, getD, take, replicate}
+use lib.Seq.{length-take-le, getD-take}
+use Rattle.lists.specs.Part.{length-part}
+use Rattle.lists.specs.Table.{square-small}
 use Rattle.matching.specs.Decision.{Every, not?, First, first?, nowhere, first-at, Finding, absent, at, when, found, because, Refusal, Ruling, accepted, refused, unless, judge}
-use Rattle.matching.specs.Graph.{Graph, largest, pair-count, fault, Faulty}
+use Rattle.matching.specs.Graph.{Graph, largest, pair-count, fault, Faulty, over}
 use Rattle.matching.specs.Causes.{Lent, lent-to-opening, first-short, or, bad-cell, bad-weight, opening-ruling}
 use Rattle.matching.specs.Opening.{Buffers, ruling}
 use Rattle.matching.specs.Host.{words, unpacked}
-use Rattle.laws.specs.Sound.{when-absent, short-absent}
-use Rattle.laws.specs.Index.{square-small}
-use Rattle.laws.specs.Lists.{length-part}
-use Rattle.tutte.specs.Table.{over}
+use Rattle.laws.specs.Sound.{when-at, when-absent, short-absent}
 use Rattle.host.specs.Words.{words-length}
 use Rattle.host.specs.Same.{outside, outside-found, cells-same, weights-same}
 
@@ -41,10 +40,6 @@ room-enough l {most} {r} R needed h = (to, λ k. from k (decLt r most))
 pub part-room : {bytes most r : ℕ} → Room bytes most r → Room bytes most (length {A = ℕ} (take r (replicate most 0)))
 part-room {bytes} {most} {r} R = rw (length-part r most 0 (R .capped)) R
 
--- the first k of an array that were lent, and came back as l
-pub part-filled : (k : ℕ) (l rest : List ℕ) → length l ≡ k → (k ≤ length (l ++ rest)) × (take k (l ++ rest) ≡ l)
-part-filled k l rest e = (omega (arith, length-append l rest), take-at l rest k e)
-
 -- the first words that are left, where there is room for all
 pub part-fits : (m : ℕ) (left old : List ℕ) {bytes : ℕ} → m ≤ length left → length left ≡ length old → 2 * length old ≤ bytes → 2 * length (take m left) ≤ bytes
 part-fits m left old h e k = rw (length-take-le m left h) (omega arith)
@@ -53,16 +48,12 @@ part-fits m left old h e k = rw (length-take-le m left h) (omega arith)
 pub pairs-small : (n : ℕ) → n ≤ largest → pair-count n ≤ 4560
 pairs-small n h = let k : n * (n - 1) ≤ 9120 = mul-le-mul {n₁ = n} {m₁ = n - 1} {n₂ = 96} {m₂ = 95} h (omega arith) in omega arith
 
-applies : {A : Type 0} (d : Dec A) (x : ℕ) → A → when d x ≡ at x
-applies (yes a) x h = refl
-applies (no n) x h = absurd (n h)
-
 -- two lengths that are enough in the same case
 when-same : (a b needed number : ℕ) → (needed ≤ a) ↔ (needed ≤ b) → when (decLt a needed) number ≡ when (decLt b needed) number
 when-same a b needed number e = go (decLt a needed)
   where
     go : Dec (a < needed) → when (decLt a needed) number ≡ when (decLt b needed) number
-    go (yes l) = applies (decLt a needed) number l ∙ sym (applies (decLt b needed) number (l′ (decLt b needed)))
+    go (yes l) = when-at (decLt a needed) number l ∙ sym (when-at (decLt b needed) number (l′ (decLt b needed)))
       where
         l′ : Dec (b < needed) → b < needed
         l′ (yes m) = m
@@ -120,7 +111,7 @@ module _ {weights lent : List ℕ} {b w : Buffers} (L : Lends weights lent b w) 
           rw (cells-same n adjacency lent (words weights), weights-same n adjacency lent (words weights) (lent-agree (long .1 .0)) p)
 
       go : Dec (largest < n) → ruling p (over n adjacency lent) w ≡ ruling p (over n adjacency (words weights)) (unpacked b)
-      go (yes h) = rw (applies (decLt largest n) 0 h)
+      go (yes h) = rw (when-at (decLt largest n) 0 h)
       go (no h) = rw (when-absent (decLt largest n) 0 .1 h) (agreed (first-short lents) refl ∙ rw (short-same (omega arith)))
 
 -- the place of a refusal is small
@@ -172,7 +163,7 @@ place-small p g b {r} e = go (decLt largest (g .n))
         (or-small (when (decLt (length (b .work)) (g .n * g .n)) 6) absent (when-small (decLt (length (b .work)) (g .n * g .n)) 6 (omega arith)) tt)))))
 
     go : Dec (largest < g .n) → r .place < 65536
-    go (yes h) = at-small 1 0 (omega arith) (rw (applies (decLt largest (g .n)) 0 h) at e)
+    go (yes h) = at-small 1 0 (omega arith) (rw (when-at (decLt largest (g .n)) 0 h) at e)
     go (no h) =
         unless-small (first-short lents) 2 (judge (bad-cell g ∷ bad-weight p g ∷ [])) shorts
         (unless-small (bad-cell g .finding) 3 (judge (bad-weight p g ∷ [])) (cell-small g (omega arith))

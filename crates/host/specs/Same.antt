@@ -12,13 +12,12 @@ use Rattle.skew.specs.Subset.{Subset}
 use Rattle.skew.specs.Inverse.{Matrix, column, Inverse}
 use Rattle.skew.specs.Same.{apply-same, witness-same, first-same}
 use Rattle.matching.specs.Decision.{Every, both?, not?, First, nowhere, first-at, first?, found}
-use Rattle.matching.specs.Graph.{Graph, pair-count, cell, weight-index, weight, upper, tutte, tutte-upper, tutte-lower, tutte-diagonal, fault, Outside}
+use Rattle.matching.specs.Graph.{Graph, pair-count, cell, weight-index, weight, upper, tutte, tutte-upper, tutte-lower, tutte-diagonal, fault, Outside, over}
 use Rattle.matching.specs.Session.{InverseTable}
 use Rattle.matching.specs.Opening.{Singular}
 use Rattle.matching.specs.Causes.{bad-cell, bad-weight}
 use Rattle.laws.specs.Sound.{found-absent, found-at}
 use Rattle.laws.specs.Weights.{index-fits}
-use Rattle.tutte.specs.Table.{over}
 
 -- the first number with a property is that with any other that holds of the same numbers
 found-same : {n : ℕ} {P Q : ℕ → Type 0} (f : First n P) (h : First n Q) → Every n (λ k. P k → Q k) → Every n (λ k. Q k → P k) → found f ≡ found h

@@ -5,7 +5,8 @@ use Prim.Native.Nat.{ℕ, zero, suc, _+_, _*_, _/_, _%_, _≤_, _<_}
 use native.Mathlib.Omega.{arith}
 use lib.ListN.{length, getD, take, drop}
 use lib.Seq.{take-at}
-use Rattle.matching.specs.Session.{list-of, onto}
+use Rattle.lists.specs.Values.{list-of}
+use Rattle.matching.specs.Session.{onto}
 use Rattle.matching.specs.Host.{words, bytes-of}
 
 -- every value is a byte

@@ -7,8 +7,8 @@ use Rattle.modular.specs.Prime.{OddPrime}
 use Rattle.skew.specs.Subset.{Subset}
 use Rattle.matching.specs.Decision.{Ruling, accepted, refused}
 use Rattle.matching.specs.Graph.{Graph}
-use Rattle.matching.specs.Pairs.{everything, sequence}
-use Rattle.matching.specs.Model.{Call, Answer, done, denied, Step, Nonsingular, step}
+use Rattle.matching.specs.Pairs.{sequence}
+use Rattle.matching.specs.Model.{Call, Answer, done, denied, Step, Nonsingular}
 use Rattle.laws.specs.Facts.{step-nonsingular}
 use Rattle.laws.specs.Sound.{session-accepted}
 use Rattle.laws.specs.Determined.{inverse-table-of, inverse-table-unique}

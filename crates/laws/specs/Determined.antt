@@ -7,6 +7,8 @@ use native.Mathlib.Nat.{mod-lt}
 use native.Mathlib.Omega.{arith}
 use lib.ListN.{length, getD}
 use lib.Seq.{ext-getD}
+use Rattle.lists.specs.Values.{length-list-of, getD-list-of, list-of}
+use Rattle.lists.specs.Table.{row-below, column-below, index-of, index-row, index-column, index-below, table, vector}
 use Rattle.modular.specs.Prime.{OddPrime, below-equal, remainder}
 use Rattle.modular.specs.Congruence.{Congruent, equals, _⨾_}
 use Rattle.skew.specs.Subset.{Subset, count, count-none, count-suc}
@@ -14,13 +16,11 @@ use Rattle.skew.specs.Matching.{invertible-even}
 use Rattle.skew.specs.Inverse.{Matrix, Inverse, Invertible, apply-congruent, inverse-unique, same-entries}
 use Rattle.skew.specs.Column.{FirstDependent, Witness, witness-unique}
 use Rattle.skew.specs.Decide.{Outcome, inverse, column, eliminate, witness-singular, first-unique}
-use Rattle.laws.specs.Lists.{length-list-of, getD-list-of}
-use Rattle.laws.specs.Index.{row-below, column-below, index-of, index-row, index-column, index-below}
 use Rattle.matching.specs.Decision.{Every, Ruling, accepted, refused}
 use Rattle.matching.specs.Graph.{Graph, tutte}
 use Rattle.matching.specs.Pairs.{everything}
 use Rattle.matching.specs.Model.{skew}
-use Rattle.matching.specs.Session.{Session, session, InverseTable, table, vector, list-of}
+use Rattle.matching.specs.Session.{Session, session, InverseTable}
 use Rattle.matching.specs.Opening.{Opening, opened, dependent, not-opened, Buffers, Singular, ruling, with-inverse, with-witness, Opens, refuses-opening, opens, depends}
 
 pub count-everything : (n : ℕ) → count n everything ≡ n

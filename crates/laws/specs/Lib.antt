@@ -1,7 +1,4 @@
 -- What is proved of the definitions of document 01, in reading order.
--- Lists of values, and indices into a table, row by row.
-pub mod Lists
-pub mod Index
 -- The plain model: picks, partners, picks to come; then histories of calls.
 pub mod Facts
 pub mod History

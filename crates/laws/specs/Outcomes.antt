@@ -1,5 +1,5 @@
 -- Open row, the reader and the listing have exactly one outcome each. Assumes nothing.
-use mathlib.Core.Path.{_≡_, refl, sym, ap, _∙_}
+use mathlib.Core.Path.{_≡_, refl, sym, _∙_}
 use mathlib.Core.List.{List, [], _++_}
 use Prim.Native.Nat.{ℕ}
 use native.Mathlib.Omega.{arith}

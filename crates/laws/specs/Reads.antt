@@ -5,9 +5,9 @@ use Prim.Native.Nat.{ℕ, _+_}
 use native.Mathlib.Omega.{arith}
 use native.Mathlib.Decide.{ℕ-discrete}
 use lib.ListN.{length}
-use Rattle.skew.specs.Choose.{choose, choose-yes, choose-no}
+use Rattle.skew.specs.Choose.{choose-yes, choose-no}
 use Rattle.matching.specs.Decision.{Refusal, because}
-use Rattle.matching.specs.Records.{Record, size, share, seed, end, kind, width, four, Next, reads, stops, from-body, size-body, share-body, seed-body, next-size, next-seed, next-edge}
+use Rattle.matching.specs.Records.{Record, kind, width, reads, stops, from-body, size-body, share-body, seed-body, next-size, next-seed, next-edge}
 
 pub record Told (k : ℕ) (body : List ℕ) (r : Record) (rest : List ℕ) : Type 0 where
   pub number : k ≡ kind r

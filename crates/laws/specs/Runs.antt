@@ -1,29 +1,28 @@
 -- Demand 3 for the definitions: a list of session calls on a state fresh from opening goes as the plain model goes, which is fed the
 -- graph and the calls alone. Assumes nothing.
 use mathlib.Core.Path.{_≡_, refl, sym, ap, ap₂, _∙_}
-use mathlib.Core.Logic.{_≢_}
 use mathlib.Core.List.{List, [], _∷_, _++_}
-use Prim.Native.Nat.{ℕ, zero, suc, _+_, _*_, _-_, _≤_, _<_}
+use Prim.Native.Nat.{ℕ, _+_, _*_, _-_, _≤_, _<_}
 use native.Mathlib.Omega.{arith}
-use lib.ListN.{length, getD, drop, replicate, length-append, length-replicate, List·getD-append}
+use lib.ListN.{length, getD, drop, length-append, length-replicate, List·getD-append}
 use lib.Seq.{drop-at}
+use Rattle.lists.specs.Table.{index-below}
 use Rattle.modular.specs.Congruence.{Congruent, equals}
 use Rattle.modular.specs.Prime.{OddPrime}
 use Rattle.skew.specs.Subset.{Subset, _∈_, _∉_, count}
 use Rattle.skew.specs.Inverse.{same-entries}
 use Rattle.skew.specs.Matching.{invertible-even}
 use Rattle.matching.specs.Decision.{Refusal, Ruling, accepted, refused}
-use Rattle.matching.specs.Graph.{Graph, tutte}
+use Rattle.matching.specs.Graph.{Graph, over, tutte}
 use Rattle.matching.specs.Pairs.{Pair, Pairs, everything, unused, bytes, sequence, unmatched}
 use Rattle.matching.specs.Session.{Session, session, InverseTable, onto}
 use Rattle.matching.specs.Opening.{opened, Buffers, Opens, opens}
 use Rattle.matching.specs.Model.{Call, undo, Answer, Step, done, denied, skew, Nonsingular, step, run, OpenPartner, PicksToCome}
 use Rattle.matching.specs.Causes.{adjacency-of, weights-of}
-use Rattle.matching.specs.Calls.{State, graph-of, pairs-of, soundness, Handles, unsound, refuses, carries, HandlesAll, none, more}
-use Rattle.laws.specs.Index.{index-below}
+use Rattle.matching.specs.Calls.{State, pairs-of, soundness, Handles, unsound, refuses, carries, HandlesAll, none, more}
 use Rattle.laws.specs.Sound.{InOrder, LongEnough, opening-accepted, session-accepted}
 use Rattle.laws.specs.Determined.{inverse-table-unique, count-everything}
-use Rattle.laws.specs.Facts.{step-nonsingular, open-partner, picks-to-come, unlike}
+use Rattle.laws.specs.Facts.{open-partner, picks-to-come, unlike}
 use Rattle.laws.specs.History.{Appended, run-append, undo-accepted, Valid, nil, Change, appended, removed, unchanged, change, change-valid, times, perfect}
 use Rattle.laws.specs.Sequence.{length-sequence, well-formed-sequence, pairs-on-sequence}
 
@@ -42,10 +41,6 @@ table-before {p} {g} words rest l I = record {
 -- new words over old ones of the same length
 onto-same : (new old rest : List ℕ) → length new ≡ length old → onto new (old ++ rest) ≡ new ++ rest
 onto-same new old rest l = ap (λ r. new ++ r) (drop-at old rest (length new) (sym l))
-
--- a graph of n vertices over lent tables
-abbrev pub over : ℕ → List ℕ → List ℕ → Graph
-over n adjacency weights = record { n = n; adjacency = adjacency; weights = weights }
 
 -- the state with these pairs and this inverse, over buffers with these excesses
 abbrev pub standing : ℕ → Pairs → List ℕ → List ℕ → List ℕ → State

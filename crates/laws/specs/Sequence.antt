@@ -2,19 +2,17 @@
 use mathlib.Core.Path.{_≡_, refl, sym, ap, _∙_}
 use mathlib.Core.Logic.{_≢_}
 use mathlib.Core.List.{List, [], _∷_, _++_, append-assoc}
-use Prim.Native.Nat.{ℕ, zero, suc, _+_, _-_, _≤_, _<_}
-use native.Mathlib.Numerals.{add-one}
+use Prim.Native.Nat.{ℕ, _+_, _-_, _≤_, _<_}
 use native.Mathlib.Omega.{arith}
-use native.Mathlib.Decide.{ℕ-discrete, decLt}
+use native.Mathlib.Decide.{ℕ-discrete}
 use lib.ListN.{length, getD, replicate, length-append, length-replicate, getD-replicate, List·getD-append}
 use lib.Seq.{getD-append-seam, getD-append-add}
 use Rattle.modular.specs.Prime.{OddPrime}
-use Rattle.skew.specs.Subset.{Subset, _∈_, _∉_, clash, Without, without, smaller, remove-same, remove-other, count, count-without}
+use Rattle.skew.specs.Subset.{Subset, _∈_, _∉_, clash, Without, without, smaller, count, count-without}
 use Rattle.matching.specs.Decision.{Every}
 use Rattle.matching.specs.Graph.{Graph, cell}
-use Rattle.matching.specs.Pairs.{Pair, Pairs, everything, unused, bytes, sequence, pairs-on, unmatched}
+use Rattle.matching.specs.Pairs.{Pair, Pairs, unused, bytes, sequence, pairs-on, unmatched}
 use Rattle.matching.specs.Session.{WellFormed}
-use Rattle.laws.specs.Determined.{count-everything}
 use Rattle.laws.specs.History.{Fits, Valid, nil, cons}
 
 pub length-bytes : (pairs : Pairs) → length (bytes pairs) ≡ length pairs + length pairs

@@ -10,7 +10,7 @@ use Rattle.skew.specs.Subset.{Subset}
 use Rattle.matching.specs.Decision.{because, refused, Every, not?, both?, First, nowhere, first-at, first?, Finding, absent, at, when, found, Cause, accepted, judge, unless}
 use Rattle.matching.specs.Graph.{Graph, largest, pair-count, fault, Faulty, Outside}
 use Rattle.matching.specs.Session.{InverseTable, WellFormed}
-use Rattle.matching.specs.Pairs.{Pairs, unmatched, pairs-on}
+use Rattle.matching.specs.Pairs.{unmatched, pairs-on}
 use Rattle.matching.specs.Decided.{inverse-table?, well-formed?}
 use Rattle.matching.specs.Causes.{Lent, lent-to-opening, opening-causes, lent-to-session, session-causes, too-large, or, first-short, bad-cell, bad-weight, ill-formed, not-inverse, opening-ruling, session-ruling}
 
@@ -30,6 +30,10 @@ judge-accepted (c ∷ later) = (λ e. to (c .finding) refl e (judge-accepted lat
         → (c .finding ≡ absent) × NoneApplies later
     to absent q e r = (q, r e)
     to (at x) q e r = absurd (let z : _≡_ {A = ℕ} 0 1 = cc in omega arith)
+
+pub when-at : {A : Type 0} (d : Dec A) (x : ℕ) → A → when d x ≡ at x
+when-at (yes a) x h = refl
+when-at (no n) x h = absurd (n h)
 
 pub when-absent : {A : Type 0} (d : Dec A) (x : ℕ) → (when d x ≡ absent) ↔ (¬ A)
 when-absent (yes a) x = (λ e. clash e, λ n. absurd (n a))

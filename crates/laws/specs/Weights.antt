@@ -1,10 +1,8 @@
 -- Where a weight stands: the closed form of its index, and that it is below n(n - 1)/2. Assumes nothing.
 use mathlib.Core.Path.{_≡_, sym, ap, _∙_}
-use mathlib.Core.List.{List}
 use Prim.Native.Nat.{ℕ, zero, suc, _+_, _*_, _-_, _/_, _≤_, _<_}
 use native.Mathlib.Nat.{add-zero, le-refl, mul-div-cancel}
 use native.Mathlib.Omega.{arith}
-use native.Mathlib.Decide.{ℕ-discrete}
 use Rattle.modular.specs.Sum.{sum, sum-none, sum-suc}
 use Rattle.matching.specs.Graph.{Graph, pair-count, weight-index}
 

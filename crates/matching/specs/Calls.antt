@@ -5,12 +5,13 @@ use mathlib.Core.List.{List, [], _∷_}
 use Prim.Native.Nat.{ℕ, _*_}
 use native.Mathlib.Decide.{decLt}
 use lib.ListN.{length}
+use Rattle.lists.specs.Values.{list-of}
 use Rattle.modular.specs.Prime.{OddPrime}
 use Rattle.skew.specs.Subset.{Subset}
 use Rattle.matching.specs.Decision.{Refusal, Ruling, accepted, refused, judge}
-use Rattle.matching.specs.Graph.{Graph}
+use Rattle.matching.specs.Graph.{Graph, over}
 use Rattle.matching.specs.Pairs.{Pair, Pairs, unmatched, in?, pairs-on, sequence}
-use Rattle.matching.specs.Session.{Session, session, InverseTable, list-of, onto}
+use Rattle.matching.specs.Session.{Session, session, InverseTable, onto}
 use Rattle.matching.specs.Causes.{Lent, session-ruling, row-of}
 use Rattle.matching.specs.Model.{Call, Answer, done, denied, Step, needs, pick-ruling, step}
 
@@ -22,7 +23,7 @@ pub record State : Type 0 where
 
 -- the graph as the session's size reads the two tables
 abbrev pub graph-of : State → List ℕ → List ℕ → Graph
-graph-of s adjacency weights = record { n = s .session .size; adjacency = adjacency; weights = weights }
+graph-of s adjacency weights = over (s .session .size) adjacency weights
 
 -- the pairs made
 abbrev pub pairs-of : State → Pairs

@@ -4,12 +4,13 @@ use mathlib.Core.List.{List, [], _∷_, _++_}
 use Prim.Native.Nat.{ℕ, _*_, _<_}
 use native.Mathlib.Decide.{decLt}
 use lib.ListN.{length, getD, take, replicate}
+use Rattle.lists.specs.Table.{vector}
 use Rattle.residue.specs.Modulus.{modulus, modulus-prime}
 use Rattle.skew.specs.Decide.{first-dependent?}
-use Rattle.matching.specs.Decision.{Refusal, because, every?, accepted, refused}
-use Rattle.matching.specs.Graph.{Graph, pair-count, tutte}
+use Rattle.matching.specs.Decision.{Refusal, every?, accepted, refused}
+use Rattle.matching.specs.Graph.{Graph, over, pair-count, tutte}
 use Rattle.matching.specs.Pairs.{Pair, everything, unmatched}
-use Rattle.matching.specs.Session.{Session, session, InverseTable, vector, onto}
+use Rattle.matching.specs.Session.{Session, session, InverseTable, onto}
 use Rattle.matching.specs.Decided.{inverse-table?, witness?}
 use Rattle.matching.specs.Opening.{Opening, opened, dependent, not-opened, Buffers, Singular, Opens, opens, refuses-opening, depends, with-inverse, with-witness, ruling}
 use Rattle.matching.specs.Display.{Part, display}
@@ -21,7 +22,7 @@ use Rattle.matching.specs.Host.{opening-number, answer-number, words, by
 
 -- n vertices with these edges and weights
 abbrev pub linked : ℕ → List Pair → List ℕ → Graph
-linked n edges weights = record { n = n; adjacency = cells n edges; weights = weights }
+linked n edges weights = over n (cells n edges) weights
 
 abbrev pub edge : ℕ → ℕ → Pair
 edge a b = record { smaller = a; larger = b }

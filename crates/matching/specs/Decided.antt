@@ -5,6 +5,7 @@ use mathlib.Core.List.{List}
 use Prim.Native.Nat.{ℕ, _+_, _*_, _≤_, _<_}
 use native.Mathlib.Decide.{ℕ-discrete, decLe, decLt}
 use lib.ListN.{getD}
+use Rattle.lists.specs.Table.{table}
 use Rattle.modular.specs.Congruence.{Congruent}
 use Rattle.modular.specs.Prime.{congruent?}
 use Rattle.modular.specs.Sum.{sum}
@@ -14,7 +15,7 @@ use Rattle.skew.specs.Column.{Witness}
 use Rattle.matching.specs.Decision.{Every, both?, not?, implies?, map?, every?}
 use Rattle.matching.specs.Graph.{Graph, cell, tutte}
 use Rattle.matching.specs.Pairs.{in?, out?, unused}
-use Rattle.matching.specs.Session.{table, InverseTable, WellFormed}
+use Rattle.matching.specs.Session.{InverseTable, WellFormed}
 
 unfoldable pub inverse? : (p n : ℕ) (A : Matrix) (L : Subset) (T : Matrix) → Dec (Inverse p n A L T)
 unfolding every? congruent? apply sum ℕ-discrete

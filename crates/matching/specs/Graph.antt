@@ -22,6 +22,10 @@ pub record Graph : Type 0 where
   pub adjacency : List ℕ
   pub weights : List ℕ
 
+-- the graph over lent tables
+abbrev pub over : ℕ → (adjacency weights : List ℕ) → Graph
+over n adjacency weights = record { n = n; adjacency = adjacency; weights = weights }
+
 -- how many two vertices there are: n(n - 1)/2
 abbrev pub pair-count : ℕ → ℕ
 pair-count n = n * (n - 1) / 2

@@ -6,7 +6,7 @@ use Prim.Native.Nat.{ℕ, _+_, _*_, _/_, _%_, _^_, _<_}
 use native.Mathlib.Nat.{add-mul-mod-self-left, mod-eq-of-lt}
 use Rattle.skew.specs.Subset.{Subset}
 use Rattle.matching.specs.Decision.{Refusal}
-use Rattle.matching.specs.Graph.{Graph}
+use Rattle.matching.specs.Graph.{over}
 use Rattle.matching.specs.Session.{Session, onto}
 use Rattle.matching.specs.Model.{Answer, done, denied}
 use Rattle.matching.specs.Opening.{Opening, opened, dependent, not-opened, Buffers, Opens}
@@ -62,6 +62,6 @@ packed new old = record {
 pub record HostOpens (p n : ℕ) (adjacency weights : List ℕ) (S : Subset) (b : Buffers) (answer : ℕ) (after : Buffers) : Type 0 where
   pub opening : Opening
   pub buffers : Buffers
-  pub outcome : Opens p (record { n = n; adjacency = adjacency; weights = words weights }) S (unpacked b) opening buffers
+  pub outcome : Opens p (over n adjacency (words weights)) S (unpacked b) opening buffers
   pub numbered : answer ≡ opening-number opening
   pub stored : after ≡ packed buffers b

@@ -1,24 +1,20 @@
 -- The marked sheets to try of document 01, in its order: one list, and one claim over it. Assumes nothing.
 use mathlib.Core.Path.{refl}
 use mathlib.Core.List.{List, [], _∷_}
-use Prim.Native.Nat.{ℕ}
 use native.Mathlib.Decide.{decLt}
-use lib.ListN.{replicate}
-use Rattle.draws.specs.Draws.{draws}
 use Rattle.residue.specs.Modulus.{modulus-prime}
 use Rattle.skew.specs.Decide.{first-dependent?}
 use Rattle.matching.specs.Decision.{because, every?, first?}
-use Rattle.matching.specs.Graph.{Graph, tutte}
+use Rattle.matching.specs.Graph.{tutte}
 use Rattle.matching.specs.Pairs.{unmatched, pairs-on}
 use Rattle.matching.specs.Decided.{inverse-table?, witness?}
 use Rattle.matching.specs.Causes.{opening-ruling, session-ruling}
-use Rattle.matching.specs.Opening.{opened, dependent, not-opened, Buffers}
-use Rattle.matching.specs.Display.{of-inverse, of-witness, display}
-use Rattle.matching.specs.Model.{pick, automatic, undo, done, denied, nonsingular?, step, run, picked, stopped}
-use Rattle.matching.specs.Calls.{State, row-ruling, open-row}
-use Rattle.matching.specs.Records.{sheet, unread, read, cells, graph}
+use Rattle.matching.specs.Display.{display}
+use Rattle.matching.specs.Model.{pick, automatic, undo, done, denied, nonsingular?, step, run}
+use Rattle.matching.specs.Calls.{row-ruling, open-row}
+use Rattle.matching.specs.Records.{read, cells, graph}
 use Rattle.matching.specs.Listing.{digits, pair-lines, witness-lines}
-use Rattle.matching.specs.Claims.{linked, edge, ones, path, complete, ring, Claim, opening, witness, not-opening, model, answers, afterwards, by-hand, spoiled, row, displayed, reads, lists, lists-witness, lists-refusal, host-opening, host-answer, before, Holds, All, ShownSingular, ShownListed, ShownWitness, Shown, all}
+use Rattle.matching.specs.Claims.{linked, edge, ones, path, complete, ring, Claim, opening, witness, answers, afterwards, by-hand, Holds, All, ShownSingular, ShownListed, ShownWitness, Shown, all}
 
 pub marked : List Claim
 marked =

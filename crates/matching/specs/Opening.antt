@@ -3,12 +3,13 @@ use mathlib.Core.Path.{_≡_}
 use mathlib.Core.List.{List, []}
 use Prim.Native.Nat.{ℕ, _*_, _<_}
 use lib.ListN.{length, getD, replicate}
+use Rattle.lists.specs.Table.{vector}
 use Rattle.skew.specs.Subset.{Subset}
 use Rattle.skew.specs.Column.{FirstDependent, Witness}
 use Rattle.matching.specs.Decision.{Every, Refusal, Ruling, accepted, refused}
 use Rattle.matching.specs.Graph.{Graph, tutte}
 use Rattle.matching.specs.Pairs.{unused}
-use Rattle.matching.specs.Session.{Session, session, InverseTable, vector, onto}
+use Rattle.matching.specs.Session.{Session, session, InverseTable, onto}
 use Rattle.matching.specs.Causes.{opening-ruling}
 
 -- "opened" and a session with no pairs; "witness" with the first dependent column f; or a refusal

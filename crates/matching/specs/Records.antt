@@ -5,12 +5,13 @@ use mathlib.Core.List.{List, [], _∷_}
 use Prim.Native.Nat.{ℕ, zero, suc, _+_, _*_, _/_, _%_}
 use native.Mathlib.Decide.{ℕ-discrete, decLt}
 use lib.ListN.{length}
+use Rattle.lists.specs.Values.{list-of}
 use Rattle.draws.specs.Draws.{draws}
 use Rattle.skew.specs.Choose.{choose}
 use Rattle.matching.specs.Decision.{Refusal, because, both?, Ruling, accepted, refused, judge}
-use Rattle.matching.specs.Graph.{Graph, largest, pair-count}
+use Rattle.matching.specs.Graph.{Graph, over, largest, pair-count}
 use Rattle.matching.specs.Pairs.{Pair, pair-of}
-use Rattle.matching.specs.Session.{list-of, onto}
+use Rattle.matching.specs.Session.{onto}
 use Rattle.matching.specs.Model.{named?}
 use Rattle.matching.specs.Causes.{adjacency-of, weights-of, too-short}
 
@@ -161,7 +162,7 @@ cells n edges = list-of (n * n) (λ x. among (pair-of (x / n) (x % n)) edges)
 -- the graph of a sheet
 unfoldable pub graph : ℕ → List ℕ → List Pair → Graph
 unfolding cells
-graph n weights edges = record { n = n; adjacency = cells n edges; weights = weights }
+graph n weights edges = over n (cells n edges) weights
 
 -- what the reader returns: the size and the number of edges, or a refusal
 pub data Read : Type 0 where
@@ -171,7 +172,7 @@ pub data Read : Type 0 where
 -- cause 2 of the two buffers that are lent to it
 abbrev pub room : ℕ → List ℕ → List ℕ → Ruling
 room n adjacency weights =
-    let g : Graph = record { n = n; adjacency = adjacency; weights = weights } in
+    let g : Graph = over n adjacency weights in
     judge (too-short (adjacency-of g ∷ weights-of g ∷ []) ∷ [])
 
 -- the answer, and the adjacency table and the weights afterwards

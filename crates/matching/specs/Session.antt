@@ -1,26 +1,15 @@
 -- Lent buffers and the session over them (document 01, "Sheet, matrix, session"). Assumes nothing.
 use mathlib.Core.Path.{_≡_}
 use mathlib.Core.Logic.{_≢_}
-use mathlib.Core.List.{List, [], _∷_, _++_}
-use Prim.Native.Nat.{ℕ, zero, suc, _+_, _*_, _≤_, _<_}
+use mathlib.Core.List.{List, _++_}
+use Prim.Native.Nat.{ℕ, _+_, _*_, _≤_, _<_}
 use lib.ListN.{length, getD, drop}
+use Rattle.lists.specs.Table.{table}
 use Rattle.skew.specs.Subset.{Subset}
-use Rattle.skew.specs.Inverse.{Matrix, Vector, Inverse}
+use Rattle.skew.specs.Inverse.{Inverse}
 use Rattle.matching.specs.Decision.{Every}
 use Rattle.matching.specs.Graph.{Graph, cell, tutte}
 use Rattle.matching.specs.Pairs.{Pairs, unused}
-
--- n times n words, row by row, as a matrix
-abbrev pub table : ℕ → List ℕ → Matrix
-table n words i j = getD words (i * n + j) 0
-
-abbrev pub vector : List ℕ → Vector
-vector words i = getD words i 0
-
--- f 0, f 1, .. f (k - 1)
-unfoldable pub list-of : ℕ → (ℕ → ℕ) → List ℕ
-list-of zero f = []
-list-of (suc k) f = f 0 ∷ list-of k (λ x. f (suc x))
 
 -- a buffer whose first words are new and whose excess is as it was
 abbrev pub onto : List ℕ → List ℕ → List ℕ

@@ -9,7 +9,7 @@ use Rattle.draws.specs.Draws.{next, draw, draws}
 use Rattle.residue.specs.Modulus.{modulus-prime}
 use Rattle.skew.specs.Decide.{first-dependent?}
 use Rattle.matching.specs.Decision.{because, every?, first?}
-use Rattle.matching.specs.Graph.{Graph, tutte}
+use Rattle.matching.specs.Graph.{Graph, over, tutte}
 use Rattle.matching.specs.Pairs.{unmatched, pairs-on}
 use Rattle.matching.specs.Decided.{inverse-table?, witness?}
 use Rattle.matching.specs.Causes.{opening-ruling, session-ruling}
@@ -20,11 +20,11 @@ use Rattle.matching.specs.Calls.{State, row-ruling, open-row}
 use Rattle.matching.specs.Records.{sheet, unread, read, cells, graph, graph-read, not-read}
 use Rattle.matching.specs.Host.{words, bytes-of}
 use Rattle.matching.specs.Listing.{digits, pair-lines, witness-lines}
-use Rattle.matching.specs.Claims.{linked, edge, ones, path, complete, ring, Claim, opening, witness, not-opening, model, answers, afterwards, by-hand, spoiled, row, displayed, reads, lists, lists-witness, lists-refusal, host-opening, host-answer, before, Holds, All, ShownSingular, ShownListed, ShownWitness, Shown, all, row-refused, filling, host-words, host-bytes, ShownFilling}
+use Rattle.matching.specs.Claims.{linked, edge, ones, path, complete, ring, Claim, witness, not-opening, model, answers, by-hand, spoiled, row, displayed, reads, lists, lists-witness, lists-refusal, host-opening, host-answer, before, Holds, All, ShownSingular, ShownListed, ShownWitness, Shown, all, row-refused, filling, host-words, host-bytes, ShownFilling}
 
 -- two vertices, whose adjacency table and weights are as lent
 abbrev two : List ℕ → List ℕ → Graph
-two adjacency weights = record { n = 2; adjacency = adjacency; weights = weights }
+two adjacency weights = over 2 adjacency weights
 
 abbrev in-order : List ℕ
 in-order = 0 ∷ 1 ∷ 1 ∷ 0 ∷ []
@@ -46,7 +46,7 @@ first-pair = 0 ∷ 1 ∷ 255 ∷ 255 ∷ []
 pub worked : List Claim
 worked =
     -- causes 1 to 4, each with its place, and the lowest first
-    not-opening (record { n = 97; adjacency = []; weights = [] }) (lengths 0 0 0 0) (because 1 0)
+    not-opening (over 97 [] []) (lengths 0 0 0 0) (because 1 0)
     ∷ not-opening (two (0 ∷ 1 ∷ 1 ∷ []) []) (lengths 0 0 0 0) (because 2 1)
     ∷ not-opening (two in-order []) (lengths 3 1 1 3) (because 2 2)
     ∷ not-opening (two (2 ∷ 1 ∷ 0 ∷ 1 ∷ []) []) (lengths 4 2 2 4) (because 2 2)

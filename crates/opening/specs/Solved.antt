@@ -7,15 +7,17 @@ use native.Mathlib.Omega.{arith}
 use native.Mathlib.Decide.{ℕ-discrete, decLt}
 use lib.Dec.{lit<}
 use lib.ListN.{length, getD, drop, replicate, length-replicate}
+use Rattle.lists.specs.Values.{length-list-of, getD-list-of}
+use Rattle.lists.specs.Table.{index-row, index-column, index-below, row-below, column-below, table}
 use Rattle.residue.specs.Modulus.{modulus, modulus-prime}
 use Rattle.skew.specs.Choose.{choose-yes, choose-no}
 use Rattle.skew.specs.Inverse.{inverse-of-left}
 use Rattle.skew.specs.Same.{left-same, witness-same, first-same}
 use Rattle.matching.specs.Decision as decision
 use Rattle.matching.specs.Decision.{Every, because}
-use Rattle.matching.specs.Graph.{Graph, pair-count, weight, upper, tutte, tutte-upper, tutte-lower, tutte-diagonal}
+use Rattle.matching.specs.Graph.{Graph, pair-count, weight, upper, tutte, tutte-upper, tutte-lower, tutte-diagonal, over}
 use Rattle.matching.specs.Pairs.{everything}
-use Rattle.matching.specs.Session.{InverseTable, table, list-of}
+use Rattle.matching.specs.Session.{InverseTable}
 use Rattle.matching.specs.Model.{skew}
 use Rattle.matching.specs.Opening as definition
 use Rattle.matching.specs.Opening.{Singular, Buffers, Opens}
@@ -27,10 +29,8 @@ use Rattle.checks.specs.declared.Ruling as checked
 use Rattle.checks.specs.declared.Ruling.{Ruling}
 use Rattle.checks.specs.declared.Ruling.the-variants.{Accepted}
 use Rattle.checks.specs.declared.Ruling.the-variants as ruled
-use Rattle.laws.specs.Lists.{length-list-of, getD-list-of}
-use Rattle.laws.specs.Index.{index-row, index-column, index-below, row-below, column-below}
 use Rattle.laws.specs.Weights.{index-fits}
-use Rattle.tutte.specs.Table.{over, Lent, filled}
+use Rattle.tutte.specs.Table.{Lent, filled}
 use Rattle.elimination.specs.Words.{Below}
 use Rattle.elimination.specs.End.{Inverted, Stopped}
 use Rattle.elimination.specs.declared.Outcome.{Outcome}

@@ -3,12 +3,13 @@ use checks::Refusal;
 use checks::Ruling;
 use elimination::Outcome;
 ghost use mathlib.Core.Path.{_≡_};
-ghost use Prim.Native.Nat.{ℕ, _*_, _≤_, _<_};
+ghost use Prim.Native.Nat.{_*_, _<_};
 ghost use lib.ListN.{length, replicate};
 ghost use Rattle.residue.specs.Modulus.{modulus};
+ghost use Rattle.matching.specs.Graph.{over};
 ghost use Rattle.matching.specs.Pairs.{everything};
 ghost use Rattle.matching.specs.Opening.{Opens};
-ghost use Rattle.tutte.specs.Table.{over, Lent};
+ghost use Rattle.tutte.specs.Table.{Lent};
 ghost use Rattle.elimination.specs.Words.{Below};
 ghost use Rattle.opening.specs.Solved.{InRange, Solved, Ready, opening-of, buffers};
 

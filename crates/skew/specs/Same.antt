@@ -1,9 +1,9 @@
 -- Matrices with the same entries have the same inverses, dependent columns and witnesses. Assumes nothing.
-use mathlib.Core.Path.{_≡_, sym, ap, _∙_}
+use mathlib.Core.Path.{_≡_, sym, ap}
 use Prim.Native.Nat.{ℕ, _*_, _<_}
 use native.Mathlib.Omega.{arith}
-use Rattle.modular.specs.Congruence.{Congruent, equals, _⨾_}
-use Rattle.modular.specs.Sum.{sum, sum-equal}
+use Rattle.modular.specs.Congruence.{equals, _⨾_}
+use Rattle.modular.specs.Sum.{sum-equal}
 use Rattle.skew.specs.Subset.{Subset}
 use Rattle.skew.specs.Inverse.{Matrix, Vector, column, apply, LeftInverse}
 use Rattle.skew.specs.Column.{Dependent, FirstDependent, Witness}

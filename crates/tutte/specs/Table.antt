@@ -1,18 +1,14 @@
 -- What is lent to the filling of a table, and what the table then holds. Assumes nothing.
-use mathlib.Core.Path.{_≡_}
 use mathlib.Core.List.{List}
 use Prim.Native.Nat.{ℕ, _+_, _*_, _-_, _/_, _%_, _≤_, _<_}
 use native.Mathlib.Nat.{mul-le-mul}
 use native.Mathlib.Omega.{arith}
 use lib.ListN.{length}
+use Rattle.lists.specs.Values.{list-of}
+use Rattle.lists.specs.Table.{index-below}
 use Rattle.residue.specs.Modulus.{modulus}
-use Rattle.matching.specs.Graph.{Graph, largest, pair-count, tutte}
-use Rattle.matching.specs.Session.{list-of}
-use Rattle.laws.specs.Index.{index-below}
+use Rattle.matching.specs.Graph.{Graph, over, largest, pair-count, tutte}
 use Rattle.laws.specs.Weights.{index-closed, index-fits}
-
-abbrev pub over : ℕ → List ℕ → List ℕ → Graph
-over n adjacency weights = record { n = n; adjacency = adjacency; weights = weights }
 
 -- a graph of at most 96 vertices whose tables are long enough
 pub record Lent (n : ℕ) (adjacency weights : List ℕ) : Type 0 where

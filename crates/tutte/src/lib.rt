@@ -1,11 +1,11 @@
 // The Tutte matrix of a graph in order, as a table of numbers below 65521.
 use residue::Residue;
 ghost use mathlib.Core.Path.{_≡_};
-ghost use Prim.Native.Nat.{ℕ, _*_, _≤_, _<_};
-ghost use lib.ListN.{length, getD};
-ghost use Rattle.matching.specs.Graph.{Graph, largest, pair-count, upper, tutte};
+ghost use Prim.Native.Nat.{_*_, _<_};
+ghost use lib.ListN.{length};
+ghost use Rattle.matching.specs.Graph.{upper, tutte, over};
 ghost use Rattle.residue.specs.Modulus.{modulus};
-ghost use Rattle.tutte.specs.Table.{over, Lent, rowOf, filled};
+ghost use Rattle.tutte.specs.Table.{Lent, rowOf, filled};
 
 // The weight of i < j where they are adjacent, else 0.
 fn upper(n: usize, adjacency: &[u8], weights: &[u16], i: usize, j: usize) -> u16

@@ -6,8 +6,7 @@ use Prim.Native.Nat.{ℕ, _+_, _*_, _-_, _≤_}
 use native.Mathlib.Nat.{mul-le-mul}
 use native.Mathlib.Omega.{arith}
 use borrow.Author.Needs.{needs}
-use Rattle.matching.specs.Graph.{Graph}
-use Rattle.checks.specs.Answers.{graph-of}
+use Rattle.matching.specs.Graph.{Graph, over}
 use Rattle.checks.specs.Cells.{RowsPassed, cells-absent, first-in-row, next-row, whatever-weights}
 use Rattle.checks.specs.declared.Cells.the-variants as variants
 use Rattle.checks.proofs.first_fault.Statement.{statement}
@@ -19,7 +18,7 @@ record Scanned (g : Graph) (row start : ℕ) : Type 0 where
   passed : RowsPassed g row
 
 abbrev Inv-loop : tie.InvT-loop
-Inv-loop n adjacency row₀ start₀ row start = Scanned (graph-of n adjacency []) row start
+Inv-loop n adjacency row₀ start₀ row start = Scanned (over n adjacency []) row start
 
 abbrev μ-loop : tie.MeasureT-loop
 μ-loop n adjacency row₀ start₀ row start = n - row

@@ -4,7 +4,7 @@ use native.Mathlib.Nat.{mul-le-mul}
 use native.Mathlib.Omega.{arith}
 use borrow.Author.Needs.{needs}
 use Rattle.residue.specs.Modulus.{modulus}
-use Rattle.checks.specs.Answers.{graph-of}
+use Rattle.matching.specs.Graph.{over}
 use Rattle.checks.specs.Opening.{opening-lengths, opening-witness, opening-work, opening-graph, tables-long}
 use Rattle.checks.proofs.judge_opening.Statement.{statement}
 use Rattle.checks.proofs.judge_opening.Tie as tie
@@ -19,7 +19,7 @@ returns : tie.Need-returns
 returns c =
     let judged = c .before .before .before in
     let a = judged .before .before .before .args in
-    opening-lengths modulus (graph-of (a .n) (a .adjacency .now) (a .weights .now)) (a .inverse) (a .sequence) (a .witness) (a .work) _
+    opening-lengths modulus (over (a .n) (a .adjacency .now) (a .weights .now)) (a .inverse) (a .sequence) (a .witness) (a .work) _
     (rw (c .before .refusal .given .1) at (judged .judge-lengths .ensures))
 
 enum-told : tie.Need-enum-told
@@ -30,7 +30,7 @@ returns-2 c =
     let told = c .before in
     let judged = told .before .before in
     let a = judged .before .before .before .args in
-    opening-witness modulus (graph-of (a .n) (a .adjacency .now) (a .weights .now)) (a .inverse) (a .sequence) (a .witness) (a .work)
+    opening-witness modulus (over (a .n) (a .adjacency .now) (a .weights .now)) (a .inverse) (a .sequence) (a .witness) (a .work)
     (rw (told .enum-told .given .1) at (judged .judge-lengths .ensures)) (c .if1 .taken)
 
 mul-if2 : tie.Need-mul-if2
@@ -39,7 +39,7 @@ mul-if2 c =
     let judged = told .before .before in
     let a = judged .before .before .before .args in
     let long =
-    tables-long modulus (graph-of (a .n) (a .adjacency .now) (a .weights .now)) (a .inverse) (a .sequence) (a .witness) (a .work)
+    tables-long modulus (over (a .n) (a .adjacency .now) (a .weights .now)) (a .inverse) (a .sequence) (a .witness) (a .work)
     (rw (told .enum-told .given .1) at (judged .judge-lengths .ensures)) in
     omega (arith, mul-le-mul (long .0) (long .0))
 
@@ -48,7 +48,7 @@ returns-3 c =
     let told = c .before .before in
     let judged = told .before .before in
     let a = judged .before .before .before .args in
-    opening-work modulus (graph-of (a .n) (a .adjacency .now) (a .weights .now)) (a .inverse) (a .sequence) (a .witness) (a .work)
+    opening-work modulus (over (a .n) (a .adjacency .now) (a .weights .now)) (a .inverse) (a .sequence) (a .witness) (a .work)
     (rw (told .enum-told .given .1) at (judged .judge-lengths .ensures)) (c .before .if1 .left) (c .if2 .taken)
 
 judge-graph-requires : tie.Need-judge-graph-requires
@@ -56,7 +56,7 @@ judge-graph-requires c κs =
     let told = c .before .before in
     let judged = told .before .before in
     let a = judged .before .before .before .args in
-    tables-long modulus (graph-of (a .n) (a .adjacency .now) (a .weights .now)) (a .inverse) (a .sequence) (a .witness) (a .work)
+    tables-long modulus (over (a .n) (a .adjacency .now) (a .weights .now)) (a .inverse) (a .sequence) (a .witness) (a .work)
     (rw (told .enum-told .given .1) at (judged .judge-lengths .ensures))
 
 returns-4 : tie.Need-returns-4
@@ -64,7 +64,7 @@ returns-4 c =
     let told = c .before .before .before in
     let judged = told .before .before in
     let a = judged .before .before .before .args in
-    opening-graph modulus (graph-of (a .n) (a .adjacency .now) (a .weights .now)) (a .inverse) (a .sequence) (a .witness) (a .work)
+    opening-graph modulus (over (a .n) (a .adjacency .now) (a .weights .now)) (a .inverse) (a .sequence) (a .witness) (a .work)
     (rw (told .enum-told .given .1) at (judged .judge-lengths .ensures)) (c .before .before .if1 .left) (c .before .if2 .left)
     _ (c .judge-graph .ensures)
 

@@ -7,9 +7,8 @@ use native.Mathlib.Nat.{mul-le-mul}
 use native.Mathlib.Omega.{arith}
 use native.Mathlib.Decide.{ℕ-discrete}
 use borrow.Author.Needs.{needs}
-use Rattle.matching.specs.Graph.{Graph, fault}
-use Rattle.laws.specs.Index.{index-below}
-use Rattle.checks.specs.Answers.{graph-of}
+use Rattle.lists.specs.Table.{index-below}
+use Rattle.matching.specs.Graph.{Graph, fault, over}
 use Rattle.checks.specs.Cells.{kind-at}
 use Rattle.checks.proofs.row_fault.Statement.{statement}
 use Rattle.checks.proofs.row_fault.Tie as tie
@@ -30,7 +29,7 @@ one-more g row column clean e l a b = go (ℕ-discrete l column)
     go (no d) = clean l a (omega arith)
 
 abbrev Inv-loop : tie.InvT-loop
-Inv-loop n adjacency row start column₀ index₀ mirror₀ column index mirror = Scanned (graph-of n adjacency []) row column index mirror
+Inv-loop n adjacency row start column₀ index₀ mirror₀ column index mirror = Scanned (over n adjacency []) row column index mirror
 
 abbrev μ-loop : tie.MeasureT-loop
 μ-loop n adjacency row start column₀ index₀ mirror₀ column index mirror = n - column

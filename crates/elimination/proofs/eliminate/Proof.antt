@@ -1,7 +1,7 @@
 -- `elimination::eliminate` meets its contract: it lends room for the factors of n rows.
 -- Assumes nothing.
 use mathlib.Core.Path.{sym}
-use Rattle.elimination.specs.Words.{lent}
+use Rattle.lists.specs.Part.{length-part}
 use borrow.Author.Needs.{needs}
 use Rattle.elimination.proofs.eliminate.Statement.{statement}
 use Rattle.elimination.proofs.eliminate.Tie as tie
@@ -10,10 +10,10 @@ array-borrow-prefix-factors : tie.Need-array-borrow-prefix-factors
 array-borrow-prefix-factors c = search needs
 
 slice-aggregate-run : tie.Need-slice-aggregate-run
-slice-aggregate-run c = sym (lent (c .before .before .before .before .before .before .before .args .n) (c .before .before .before .before .before .before .before .pre .w-square .small))
+slice-aggregate-run c = let s = c .before .before .before .before .before .before .before in sym (length-part (s .args .n) 96 0 (s .pre .w-square .small))
 
 run-requires : tie.Need-run-requires
-run-requires c κs = let s = c .before .before .before .before .before .before .before in (s .pre, lent (s .args .n) (s .pre .w-square .small))
+run-requires c κs = let s = c .before .before .before .before .before .before .before in (s .pre, length-part (s .args .n) 96 0 (s .pre .w-square .small))
 
 same-length : tie.Need-same-length
 same-length c = search needs

@@ -4,15 +4,17 @@ use mathlib.Core.Path.{refl}
 use Prim.Native.Nat.{_-_}
 use native.Mathlib.Omega.{arith}
 use borrow.Author.Needs.{needs}
+use Rattle.lists.specs.Written.{Written, written-start, written-more}
+use Rattle.lists.specs.Table.{table}
 use Rattle.modular.specs.Operations.{negative}
 use Rattle.residue.specs.Modulus.{modulus}
-use Rattle.elimination.specs.Words.{Filled, filled-start, filled-next, filled-end}
-use Rattle.elimination.specs.Table.{table, Room, row-room}
+use Rattle.elimination.specs.Words.{words-written}
+use Rattle.elimination.specs.Table.{Room, row-room}
 use Rattle.elimination.proofs.negatives.Statement.{statement}
 use Rattle.elimination.proofs.negatives.Tie as tie
 
 abbrev Inv-loop : tie.InvT-loop
-Inv-loop w n f factors₀ i₀ factors i = Filled (λ k. negative modulus (table n w k f)) i factors₀ factors
+Inv-loop w n f factors₀ i₀ factors i = Written (λ k. negative modulus (table n w k f)) factors₀ factors i
 
 abbrev μ-loop : tie.MeasureT-loop
 μ-loop w n f factors₀ i₀ factors i = n - i
@@ -22,7 +24,7 @@ room : (w : tie.In-loop Inv-loop μ-loop) → Room (w .before .before .args .n) 
 room w = row-room (w .before .before .pre .0) (w .loop-test .taken)
 
 loop-holds : tie.Need-loop-holds Inv-loop μ-loop
-loop-holds c = filled-start _ _
+loop-holds c = written-start _ _
 
 mul-at : tie.Need-mul-at Inv-loop μ-loop
 mul-at c = let h = room c in omega arith
@@ -55,13 +57,13 @@ loop-less : tie.Need-loop-less Inv-loop μ-loop
 loop-less c = search needs
 
 loop-again : tie.Need-loop-again Inv-loop μ-loop
-loop-again c = filled-next (c .before .before .loop .inv) (omega arith) refl
+loop-again c = written-more _ (c .before .before .loop .inv) (omega arith) refl
 
 same-length : tie.Need-same-length Inv-loop μ-loop
 same-length c = c .before .loop .inv .size
 
 returns : tie.Need-returns Inv-loop μ-loop
-returns c = filled-end (c .before .loop .inv) (omega arith)
+returns c = words-written (c .before .loop .inv) (omega arith)
 
 pub negatives-spec : {M : Type 1} → statement M
 negatives-spec =

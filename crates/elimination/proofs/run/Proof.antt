@@ -7,8 +7,8 @@ use native.Mathlib.Nat.{mod-lt}
 use native.Mathlib.Omega.{arith}
 use lib.Dec.{lit<}
 use borrow.Author.Needs.{needs}
+use Rattle.lists.specs.Table.{table}
 use Rattle.elimination.specs.Words.{words-below}
-use Rattle.elimination.specs.Table.{table}
 use Rattle.elimination.specs.State.{Running, state-start, state-step, state-inverse, state-witness, state-first, witness-below, within-limit}
 use Rattle.elimination.proofs.run.Statement.{statement}
 use Rattle.elimination.proofs.run.Tie as tie

@@ -6,13 +6,15 @@ use mathlib.Core.List.{List}
 use native.Mathlib.Omega.{arith}
 use lib.ListN.{length, getD}
 use borrow.Author.Needs.{needs}
+use Rattle.lists.specs.Written.{Written, written-start, written-more}
+use Rattle.lists.specs.Table.{vector}
 use Rattle.skew.specs.Column.{ending}
-use Rattle.elimination.specs.Words.{vector, Filled, filled-start, filled-next, filled-end}
+use Rattle.elimination.specs.Words.{words-written}
 use Rattle.elimination.proofs.write_witness.Statement.{statement}
 use Rattle.elimination.proofs.write_witness.Tie as tie
 
 abbrev Inv-loop : tie.InvT-loop
-Inv-loop factors f witness₀ i₀ witness i = Filled (ending (vector factors) f) i witness₀ witness
+Inv-loop factors f witness₀ i₀ witness i = Written (ending (vector factors) f) witness₀ witness i
 
 abbrev μ-loop : tie.MeasureT-loop
 μ-loop factors f witness₀ i₀ witness i = length witness₀ - i
@@ -22,7 +24,7 @@ unfolding ending
 word-at factors f i = refl
 
 loop-holds : tie.Need-loop-holds Inv-loop μ-loop
-loop-holds c = filled-start _ _
+loop-holds c = written-start _ _
 
 mul-witness-word : tie.Need-mul-witness-word Inv-loop μ-loop
 mul-witness-word c = search needs
@@ -51,13 +53,13 @@ loop-again : tie.Need-loop-again Inv-loop μ-loop
 loop-again c =
     let at = c .before .before .before .loop in
     let s = c .before .before .before .before .before .before in
-    filled-next (at .inv) (omega arith) (c .witness-word .ensures ∙ word-at (s .args .factors .now) (s .args .f) (at .i))
+    written-more _ (at .inv) (omega arith) (c .witness-word .ensures ∙ word-at (s .args .factors .now) (s .args .f) (at .i))
 
 same-length : tie.Need-same-length Inv-loop μ-loop
 same-length c = c .before .loop .inv .size
 
 returns : tie.Need-returns Inv-loop μ-loop
-returns c = filled-end (c .before .loop .inv) (omega arith)
+returns c = words-written (c .before .loop .inv) (omega arith)
 
 pub write-witness-spec : {M : Type 1} → statement M
 write-witness-spec =

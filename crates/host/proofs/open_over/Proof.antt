@@ -4,7 +4,7 @@ use mathlib.Core.Path.{refl, sym}
 use native.Mathlib.Omega.{arith}
 use lib.Seq.{length-take-le}
 use borrow.Author.Needs.{needs}
-use Rattle.laws.specs.Index.{square-small}
+use Rattle.lists.specs.Table.{square-small}
 use Rattle.opening.specs.Solved.{opening-of}
 use Rattle.host.specs.Room.{part-fits}
 use Rattle.host.specs.Opened.{opens-within, opens-small, same-buffers}

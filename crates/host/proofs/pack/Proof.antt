@@ -4,8 +4,9 @@ use Prim.Native.Nat.{_+_, _*_, _/_, _%_, _-_, _≤_}
 use native.Mathlib.Omega.{arith}
 use lib.ListN.{length, getD, length-set}
 use borrow.Author.Needs.{needs}
+use Rattle.lists.specs.Values.{list-of-values}
+use Rattle.lists.specs.Written.{Written, written-start, written-more}
 use Rattle.matching.specs.Host.{bytes-of}
-use Rattle.laws.specs.Lists.{Written, written-start, written-more, list-of-values}
 use Rattle.host.specs.Words.{bytes-length, bytes-low, bytes-high}
 use Rattle.host.proofs.pack.Statement.{statement}
 use Rattle.host.proofs.pack.Tie as tie

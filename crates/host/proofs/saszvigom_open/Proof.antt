@@ -4,9 +4,9 @@ use Prim.Native.Nat.{ℕ}
 use native.Mathlib.Omega.{arith}
 use lib.ListN.{length, take}
 use borrow.Author.Needs.{needs}
+use Rattle.lists.specs.Part.{length-part, part-filled}
 use Rattle.matching.specs.Host.{words}
-use Rattle.laws.specs.Lists.{length-part}
-use Rattle.host.specs.Room.{part-room, part-filled}
+use Rattle.host.specs.Room.{part-room}
 use Rattle.host.specs.Opened.{host-opens}
 use Rattle.host.proofs.saszvigom_open.Statement.{statement}
 use Rattle.host.proofs.saszvigom_open.Tie as tie

@@ -1,10 +1,10 @@
 -- `opening::fill_bytes` meets its contract. Its loop writes one byte after the other. Assumes nothing.
-use mathlib.Core.Path.{_≡_, refl, _∙_}
+use mathlib.Core.Path.{refl, _∙_}
 use Prim.Native.Nat.{_-_}
 use native.Mathlib.Omega.{arith}
 use lib.ListN.{length}
-use borrow.Author.Needs.{needs}
-use Rattle.laws.specs.Lists.{Written, written-start, written-more, written-all, list-of-constant}
+use Rattle.lists.specs.Values.{list-of-constant}
+use Rattle.lists.specs.Written.{Written, written-start, written-more, written-all}
 use Rattle.opening.proofs.fill_bytes.Statement.{statement}
 use Rattle.opening.proofs.fill_bytes.Tie as tie
 

@@ -1,10 +1,11 @@
 -- `opening::fill_words` meets its contract. Its loop writes one word after the other. Assumes nothing.
-use mathlib.Core.Path.{_≡_, refl, _∙_}
+use mathlib.Core.Path.{refl, _∙_}
 use Prim.Native.Nat.{_-_}
 use native.Mathlib.Omega.{arith}
 use lib.ListN.{length}
 use borrow.Author.Needs.{needs}
-use Rattle.laws.specs.Lists.{Written, written-start, written-more, written-all, list-of-constant}
+use Rattle.lists.specs.Values.{list-of-constant}
+use Rattle.lists.specs.Written.{Written, written-start, written-more, written-all}
 use Rattle.opening.proofs.fill_words.Statement.{statement}
 use Rattle.opening.proofs.fill_words.Tie as tie
 

@@ -1,10 +1,11 @@
 -- `opening::narrow` meets its contract: every word is below the modulus and so fits. Assumes nothing.
-use mathlib.Core.Path.{_≡_, refl, _∙_}
+use mathlib.Core.Path.{refl, _∙_}
 use Prim.Native.Nat.{_-_}
 use native.Mathlib.Omega.{arith}
 use lib.ListN.{length, getD}
 use borrow.Author.Needs.{needs}
-use Rattle.laws.specs.Lists.{Written, written-start, written-more, written-all, list-of-values}
+use Rattle.lists.specs.Values.{list-of-values}
+use Rattle.lists.specs.Written.{Written, written-start, written-more, written-all}
 use Rattle.opening.proofs.narrow.Statement.{statement}
 use Rattle.opening.proofs.narrow.Tie as tie
 

@@ -3,8 +3,8 @@ use mathlib.Core.Path.{sym}
 use Prim.Native.Nat.{_*_}
 use native.Mathlib.Nat.{mul-le-mul}
 use borrow.Author.Needs.{needs}
-use Rattle.laws.specs.Index.{square-small}
-use Rattle.laws.specs.Lists.{length-part}
+use Rattle.lists.specs.Part.{length-part}
+use Rattle.lists.specs.Table.{square-small}
 use Rattle.opening.proofs.solve.Statement.{statement}
 use Rattle.opening.proofs.solve.Tie as tie
 

@@ -1,11 +1,10 @@
 -- `opening::solve_over` meets its contract: the filled table is the Tutte matrix, and what elimination leaves is the inverse or the
 -- witness. Assumes nothing.
-use mathlib.Core.Path.{_≡_, sym, ap, _∙_}
+use mathlib.Core.Path.{sym, ap, _∙_}
 use lib.ListN.{length, length-replicate}
 use borrow.Author.Needs.{needs}
-use Rattle.laws.specs.Lists.{length-list-of}
-use Rattle.tutte.specs.Table.{over}
-use Rattle.elimination.specs.End.{Given, Inverted, Stopped}
+use Rattle.lists.specs.Values.{length-list-of}
+use Rattle.matching.specs.Graph.{over}
 use Rattle.opening.specs.Solved.{filled-below, solved-inverse, solved-column}
 use Rattle.opening.proofs.solve_over.Statement.{statement}
 use Rattle.opening.proofs.solve_over.Tie as tie

@@ -1,7 +1,6 @@
 -- `opening_cases::clear_diagonal` ends, and stays within the slice. Assumes nothing.
 use mathlib.Core.Path.{_≡_}
-use Prim.Native.Nat.{_≤_, _-_}
-use native.Mathlib.Omega.{arith}
+use Prim.Native.Nat.{_-_}
 use lib.ListN.{length}
 use borrow.Author.Needs.{needs}
 use Rattle.opening_cases.proofs.clear_diagonal.Statement.{statement}

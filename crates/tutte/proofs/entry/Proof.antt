@@ -4,8 +4,7 @@ use native.Mathlib.Omega.{arith}
 use borrow.Author.Needs.{needs}
 use Rattle.modular.specs.Operations.{negative}
 use Rattle.residue.specs.Modulus.{modulus}
-use Rattle.matching.specs.Graph.{tutte, tutte-upper, tutte-lower, tutte-diagonal}
-use Rattle.tutte.specs.Table.{over}
+use Rattle.matching.specs.Graph.{tutte-upper, tutte-lower, tutte-diagonal, over}
 use Rattle.tutte.proofs.entry.Statement.{statement}
 use Rattle.tutte.proofs.entry.Tie as tie
 

@@ -1,20 +1,19 @@
 -- `tutte::fill` meets its contract. The invariant of its loop: the first i rows are those of the matrix, the others as they came.
 -- Assumes nothing.
-use mathlib.Core.Path.{_≡_, refl, sym, ap, ap₂, _∙_}
+use mathlib.Core.Path.{_≡_, refl, sym, ap₂, _∙_}
 use mathlib.Core.List.{List, _++_, append-nil}
-use Prim.Native.Nat.{ℕ, _+_, _*_, _-_, _/_, _%_, _≤_, _<_}
-use native.Mathlib.Nat.{zero-mul, mul-le-mul}
+use Prim.Native.Nat.{ℕ, _+_, _*_, _-_, _/_, _%_, _≤_}
+use native.Mathlib.Nat.{zero-mul}
 use native.Mathlib.Omega.{arith}
 use lib.ListN.{length, take, drop}
 use lib.ListN.{length-drop}
 use lib.Seq.{length-take-le, drop-length}
 use borrow.Author.Needs.{needs}
+use Rattle.lists.specs.Values.{list-of-same, list-of}
+use Rattle.lists.specs.Written.{part-more}
+use Rattle.lists.specs.Table.{index-row, index-column, row-fits, square-small}
 use Rattle.residue.specs.Modulus.{modulus}
-use Rattle.matching.specs.Graph.{Graph, tutte}
-use Rattle.matching.specs.Session.{list-of}
-use Rattle.laws.specs.Index.{index-row, index-column, row-fits, square-small}
-use Rattle.laws.specs.Lists.{list-of-same, part-more}
-use Rattle.tutte.specs.Table.{over, Lent, row-small}
+use Rattle.matching.specs.Graph.{Graph, tutte, over}
 use Rattle.tutte.proofs.fill.Statement.{statement}
 use Rattle.tutte.proofs.fill.Tie as tie
 

@@ -1,16 +1,12 @@
 -- `tutte::fill_row` meets its contract. The invariant of its loop: the first j words are those of the row, the others as they came.
 -- Assumes nothing.
-use mathlib.Core.Path.{_≡_, refl, sym, ap, _∙_}
-use mathlib.Core.List.{List, _++_}
-use Prim.Native.Nat.{ℕ, _-_, _≤_}
+use mathlib.Core.Path.{_∙_}
+use Prim.Native.Nat.{_-_}
 use native.Mathlib.Omega.{arith}
-use lib.ListN.{length, drop, length-set}
 use borrow.Author.Needs.{needs}
+use Rattle.lists.specs.Written.{Written, written-start, written-more, written-all}
 use Rattle.residue.specs.Modulus.{modulus}
-use Rattle.matching.specs.Graph.{Graph, tutte}
-use Rattle.matching.specs.Session.{list-of}
-use Rattle.laws.specs.Lists.{Written, written-start, written-more, written-all}
-use Rattle.tutte.specs.Table.{over}
+use Rattle.matching.specs.Graph.{tutte, over}
 use Rattle.tutte.proofs.fill_row.Statement.{statement}
 use Rattle.tutte.proofs.fill_row.Tie as tie
 

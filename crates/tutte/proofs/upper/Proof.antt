@@ -1,14 +1,14 @@
 -- `tutte::upper` meets its contract: the cell and the weight are within what is lent, and the index is that of the definition.
 -- Assumes nothing.
-use mathlib.Core.Path.{_≡_, sym, ap, _∙_}
+use mathlib.Core.Path.{sym, ap, _∙_}
 use lib.ListN.{getD}
 use native.Mathlib.Decide.{ℕ-discrete}
 use native.Mathlib.Omega.{arith}
 use borrow.Author.Needs.{needs}
 use Rattle.skew.specs.Choose.{choose-yes, choose-no}
-use Rattle.matching.specs.Graph.{upper, weight}
+use Rattle.matching.specs.Graph.{upper, weight, over}
 use Rattle.laws.specs.Weights.{index-closed}
-use Rattle.tutte.specs.Table.{over, row-small, numerator-small, cell-within, weight-within}
+use Rattle.tutte.specs.Table.{row-small, numerator-small, cell-within, weight-within}
 use Rattle.tutte.proofs.upper.Statement.{statement}
 use Rattle.tutte.proofs.upper.Tie as tie
 use Rattle.tutte.proofs.upper.Reads as reads

@@ -5,14 +5,16 @@ use native.Mathlib.Nat.{le-refl}
 use native.Mathlib.Omega.{arith}
 use lib.ListN.{length, getD}
 use borrow.Author.Needs.{needs}
+use Rattle.lists.specs.Written.{Written, written-start, written-more, written-rest}
+use Rattle.lists.specs.Table.{vector}
 use Rattle.modular.specs.Product.{product-below}
 use Rattle.residue.specs.Modulus.{modulus}
-use Rattle.elimination.specs.Words.{limit, vector, plus-times, Filled, filled-start, filled-next, filled-end}
+use Rattle.elimination.specs.Words.{limit, plus-times, words-written}
 use Rattle.elimination.proofs.row.add.Statement.{statement}
 use Rattle.elimination.proofs.row.add.Tie as tie
 
 abbrev Inv-loop : tie.InvT-loop
-Inv-loop row₀ pivot k j₀ row j = Filled (plus-times (vector row₀) k (vector pivot)) j row₀ row
+Inv-loop row₀ pivot k j₀ row j = Written (plus-times (vector row₀) k (vector pivot)) row₀ row j
 
 abbrev μ-loop : tie.MeasureT-loop
 μ-loop row₀ pivot k j₀ row j = length row₀ - j
@@ -29,10 +31,10 @@ row-below : (w : tie.In-loop Inv-loop μ-loop) → getD (w .before .loop .row) (
 row-below w =
     let at = w .before .loop in
     let h : getD (w .before .before .args .row .now) (at .j) 0 < limit = w .before .before .pre .1 .at (at .j) (omega arith) in
-    omega (arith, at .inv .rest (at .j) (le-refl _))
+    omega (arith, written-rest (at .inv) (at .j) (le-refl _))
 
 loop-holds : tie.Need-loop-holds Inv-loop μ-loop
-loop-holds c = filled-start _ _
+loop-holds c = written-start _ _
 
 mul-x : tie.Need-mul-x Inv-loop μ-loop
 mul-x c = search needs
@@ -70,13 +72,13 @@ loop-less c = search needs
 loop-again : tie.Need-loop-again Inv-loop μ-loop
 loop-again c =
     let at = c .before .before .before .loop in
-    filled-next (at .inv) (omega arith) (omega (arith, at .inv .rest (at .j) (le-refl _)))
+    written-more _ (at .inv) (omega arith) (omega (arith, written-rest (at .inv) (at .j) (le-refl _)))
 
 same-length : tie.Need-same-length Inv-loop μ-loop
 same-length c = c .before .loop .inv .size
 
 returns : tie.Need-returns Inv-loop μ-loop
-returns c = filled-end (c .before .loop .inv) (omega arith)
+returns c = words-written (c .before .loop .inv) (omega arith)
 
 pub add-spec : {M : Type 1} → statement M
 add-spec =

@@ -5,18 +5,19 @@ use Prim.Native.Nat.{_-_}
 use native.Mathlib.Omega.{arith}
 use lib.ListN.{length}
 use borrow.Author.Needs.{needs}
-use Rattle.elimination.specs.Words.{Filled, filled-start, filled-next, filled-end}
+use Rattle.lists.specs.Written.{Written, written-start, written-more}
+use Rattle.elimination.specs.Words.{words-written}
 use Rattle.elimination.proofs.row.clear.Statement.{statement}
 use Rattle.elimination.proofs.row.clear.Tie as tie
 
 abbrev Inv-loop : tie.InvT-loop
-Inv-loop row₀ j₀ row j = Filled (λ _. 0) j row₀ row
+Inv-loop row₀ j₀ row j = Written (λ _. 0) row₀ row j
 
 abbrev μ-loop : tie.MeasureT-loop
 μ-loop row₀ j₀ row j = length row₀ - j
 
 loop-holds : tie.Need-loop-holds Inv-loop μ-loop
-loop-holds c = filled-start _ _
+loop-holds c = written-start _ _
 
 mul-row : tie.Need-mul-row Inv-loop μ-loop
 mul-row c = search needs
@@ -31,13 +32,13 @@ loop-less : tie.Need-loop-less Inv-loop μ-loop
 loop-less c = search needs
 
 loop-again : tie.Need-loop-again Inv-loop μ-loop
-loop-again c = filled-next (c .before .loop .inv) (omega arith) refl
+loop-again c = written-more _ (c .before .loop .inv) (omega arith) refl
 
 same-length : tie.Need-same-length Inv-loop μ-loop
 same-length c = c .before .loop .inv .size
 
 returns : tie.Need-returns Inv-loop μ-loop
-returns c = filled-end (c .before .loop .inv) (omega arith)
+returns c = words-written (c .before .loop .inv) (omega arith)
 
 pub clear-spec : {M : Type 1} → statement M
 clear-spec =

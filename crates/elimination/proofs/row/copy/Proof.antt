@@ -5,18 +5,20 @@ use Prim.Native.Nat.{_-_}
 use native.Mathlib.Omega.{arith}
 use lib.ListN.{length}
 use borrow.Author.Needs.{needs}
-use Rattle.elimination.specs.Words.{vector, Filled, filled-start, filled-next, filled-end}
+use Rattle.lists.specs.Written.{Written, written-start, written-more}
+use Rattle.lists.specs.Table.{vector}
+use Rattle.elimination.specs.Words.{words-written}
 use Rattle.elimination.proofs.row.copy.Statement.{statement}
 use Rattle.elimination.proofs.row.copy.Tie as tie
 
 abbrev Inv-loop : tie.InvT-loop
-Inv-loop to₀ from j₀ to j = Filled (vector from) j to₀ to
+Inv-loop to₀ from j₀ to j = Written (vector from) to₀ to j
 
 abbrev μ-loop : tie.MeasureT-loop
 μ-loop to₀ from j₀ to j = length to₀ - j
 
 loop-holds : tie.Need-loop-holds Inv-loop μ-loop
-loop-holds c = filled-start _ _
+loop-holds c = written-start _ _
 
 mul-to : tie.Need-mul-to Inv-loop μ-loop
 mul-to c = search needs
@@ -37,13 +39,13 @@ loop-less : tie.Need-loop-less Inv-loop μ-loop
 loop-less c = search needs
 
 loop-again : tie.Need-loop-again Inv-loop μ-loop
-loop-again c = filled-next (c .before .before .loop .inv) (omega arith) refl
+loop-again c = written-more _ (c .before .before .loop .inv) (omega arith) refl
 
 same-length : tie.Need-same-length Inv-loop μ-loop
 same-length c = c .before .loop .inv .size
 
 returns : tie.Need-returns Inv-loop μ-loop
-returns c = filled-end (c .before .loop .inv) (omega arith)
+returns c = words-written (c .before .loop .inv) (omega arith)
 
 pub copy-spec : {M : Type 1} → statement M
 copy-spec =

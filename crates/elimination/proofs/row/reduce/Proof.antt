@@ -6,19 +6,20 @@ use native.Mathlib.Nat.{le-refl}
 use native.Mathlib.Omega.{arith}
 use lib.ListN.{length, getD}
 use borrow.Author.Needs.{needs}
+use Rattle.lists.specs.Written.{Written, written-start, written-more, written-rest}
 use Rattle.residue.specs.Modulus.{modulus}
-use Rattle.elimination.specs.Words.{Filled, filled-start, filled-next, filled-end}
+use Rattle.elimination.specs.Words.{words-written}
 use Rattle.elimination.proofs.row.reduce.Statement.{statement}
 use Rattle.elimination.proofs.row.reduce.Tie as tie
 
 abbrev Inv-loop : tie.InvT-loop
-Inv-loop row₀ j₀ row j = Filled (λ m. getD row₀ m 0 % modulus) j row₀ row
+Inv-loop row₀ j₀ row j = Written (λ m. getD row₀ m 0 % modulus) row₀ row j
 
 abbrev μ-loop : tie.MeasureT-loop
 μ-loop row₀ j₀ row j = length row₀ - j
 
 loop-holds : tie.Need-loop-holds Inv-loop μ-loop
-loop-holds c = filled-start _ _
+loop-holds c = written-start _ _
 
 mul-row : tie.Need-mul-row Inv-loop μ-loop
 mul-row c = search needs
@@ -38,13 +39,13 @@ loop-less c = search needs
 loop-again : tie.Need-loop-again Inv-loop μ-loop
 loop-again c =
     let at = c .before .before .loop in
-    filled-next (at .inv) (omega arith) (ap (λ x. x % modulus) (at .inv .rest (at .j) (le-refl _)))
+    written-more _ (at .inv) (omega arith) (ap (λ x. x % modulus) (written-rest (at .inv) (at .j) (le-refl _)))
 
 same-length : tie.Need-same-length Inv-loop μ-loop
 same-length c = c .before .loop .inv .size
 
 returns : tie.Need-returns Inv-loop μ-loop
-returns c = filled-end (c .before .loop .inv) (omega arith)
+returns c = words-written (c .before .loop .inv) (omega arith)
 
 pub reduce-spec : {M : Type 1} → statement M
 reduce-spec =

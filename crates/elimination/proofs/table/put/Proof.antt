@@ -4,7 +4,8 @@ use mathlib.Core.Path.{_∙_}
 use Prim.Native.Nat.{_+_, _*_, _-_}
 use native.Mathlib.Omega.{arith}
 use lib.ListN.{length}
-use Rattle.elimination.specs.Table.{Room, row-room, part-length}
+use Rattle.lists.specs.Part.{part-length}
+use Rattle.elimination.specs.Table.{Room, row-room}
 use Rattle.elimination.specs.Rows.{row-put}
 use borrow.Author.Needs.{needs}
 use Rattle.elimination.proofs.table.put.Statement.{statement}

@@ -3,8 +3,9 @@
 use Prim.Native.Nat.{_+_, _*_, _-_, _%_}
 use native.Mathlib.Omega.{arith}
 use lib.ListN.{length}
+use Rattle.lists.specs.Part.{part-length}
 use Rattle.residue.specs.Modulus.{modulus}
-use Rattle.elimination.specs.Table.{Room, row-room, part-length}
+use Rattle.elimination.specs.Table.{Room, row-room}
 use Rattle.elimination.specs.Rows.{row-words, part-below}
 use borrow.Author.Needs.{needs}
 use Rattle.elimination.proofs.table.read_scaled.Statement.{statement}
