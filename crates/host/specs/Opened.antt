@@ -17,7 +17,7 @@ use Rattle.laws.specs.Sound.{opening-accepted}
 use Rattle.opening.specs.Solved.{buffers}
 use Rattle.host.specs.Words.{Bytes, stored-front, stored-again}
 use Rattle.host.specs.Same.{table-same, singular-same}
-use Rattle.host.specs.Room.{Lends, room-enough, lent-agree, ruling-same, place-small}
+use Rattle.host.specs.Room.{Front, Lends, room-enough, lent-agree, ruling-same, place-small}
 
 -- the parts of an answer fit their bits
 abbrev pub Small : Opening → Type 0
@@ -47,6 +47,12 @@ pub record OpensOver (n : ℕ) (adjacency weights : List ℕ) (w b : Buffers) (a
   pub outcome : Opens modulus (over n adjacency weights) everything w opening left
   pub numbered : answer ≡ opening-number opening
   pub stored : after ≡ store (extent n opening) left b
+
+-- the same over weights that are stored as bytes
+pub record OpensBytes (n : ℕ) (adjacency weights : List ℕ) (w b : Buffers) (answer : ℕ) (after : Buffers) : Type 0 where
+  pub lent : List ℕ
+  pub front : Front n weights lent
+  pub opened-over : OpensOver n adjacency lent w b answer after
 
 -- what is stored is there
 pub record Within (m : ℕ) (left : Buffers) : Type 0 where
@@ -90,14 +96,14 @@ record Enough (n : ℕ) (weights lent : List ℕ) (b : Buffers) : Type 0 where
   work : n * n ≤ length (words (b .work))
 
 -- opening over the words that matter is opening through the host
-module _ (n : ℕ) (adjacency : List ℕ) {weights lent : List ℕ} {w b : Buffers} (L : Lends weights lent b w)
+module _ (n : ℕ) (adjacency : List ℕ) {weights lent : List ℕ} (F : Front n weights lent) {w b : Buffers} (L : Lends b w)
     (inverse-bytes : Bytes (b .inverse)) (witness-bytes : Bytes (b .witness)) (work-bytes : Bytes (b .work)) where
   enough : ruling modulus (over n adjacency lent) w ≡ accepted → Enough n weights lent b
   enough e =
       let k = opening-accepted modulus (over n adjacency lent) (w .inverse) (w .sequence) (w .witness) (w .work) .0 e in
       let h = k .1 .size in
       record {
-        agree = lent-agree L n adjacency (k .0 .1 .0);
+        agree = lent-agree F L adjacency (k .0 .1 .0);
         inverse = room-enough (b .inverse) (L .inverse) (n * n) (square-small n h) .0 (k .0 .1 .1 .0);
         witness = room-enough (b .witness) (L .witness) n h .0 (k .0 .1 .1 .1 .1 .0);
         work = room-enough (b .work) (L .work) (n * n) (square-small n h) .0 (k .0 .1 .1 .1 .1 .1 .0);
@@ -109,7 +115,7 @@ module _ (n : ℕ) (adjacency : List ℕ) {weights lent : List ℕ} {w b : Buffe
   through (refuses-opening r e) = record {
     opening = not-opened r;
     buffers = unpacked b;
-    outcome = refuses-opening r (sym (ruling-same L n adjacency modulus) ∙ e);
+    outcome = refuses-opening r (sym (ruling-same F L adjacency modulus) ∙ e);
     numbered = refl;
     stored =
         same-buffers (sym (stored-again (b .inverse) inverse-bytes)) (L .sequence) (sym (stored-again (b .witness) witness-bytes))
@@ -120,7 +126,7 @@ module _ (n : ℕ) (adjacency : List ℕ) {weights lent : List ℕ} {w b : Buffe
       record {
         opening = opened _;
         buffers = with-inverse n inverse (unpacked b);
-        outcome = opens inverse (sym (ruling-same L n adjacency modulus) ∙ e) l (table-same n adjacency lent (words weights) (E .agree) I);
+        outcome = opens inverse (sym (ruling-same F L adjacency modulus) ∙ e) l (table-same n adjacency lent (words weights) (E .agree) I);
         numbered = refl;
         stored =
             same-buffers (stored-front inverse (w .inverse) (b .inverse) (n * n) inverse-bytes l (E .inverse))
@@ -133,7 +139,7 @@ module _ (n : ℕ) (adjacency : List ℕ) {weights lent : List ℕ} {w b : Buffe
       record {
         opening = dependent f;
         buffers = with-witness n witness (unpacked b);
-        outcome = depends f witness (sym (ruling-same L n adjacency modulus) ∙ e) l (singular-same n adjacency lent (words weights) (E .agree) s);
+        outcome = depends f witness (sym (ruling-same F L adjacency modulus) ∙ e) l (singular-same n adjacency lent (words weights) (E .agree) s);
         numbered = refl;
         stored =
             same-buffers (stored-front (replicate (n * n) 0) (w .inverse) (b .inverse) (n * n) inverse-bytes (length-replicate _ _) (E .inverse))
@@ -142,7 +148,8 @@ module _ (n : ℕ) (adjacency : List ℕ) {weights lent : List ℕ} {w b : Buffe
             (stored-front (replicate (n * n) 0) (w .work) (b .work) (n * n) work-bytes (length-replicate _ _) (E .work));
       }
 
-pub host-opens : {n answer : ℕ} {adjacency weights lent : List ℕ} {w b after : Buffers} → OpensOver n adjacency lent w b answer after → Lends weights lent b w
-    → Bytes (b .inverse) → Bytes (b .witness) → Bytes (b .work) → HostOpens modulus n adjacency weights everything b answer after
+pub host-opens : {n answer : ℕ} {adjacency weights : List ℕ} {w b after : Buffers} → OpensBytes n adjacency weights w b answer after
+    → Lends b w → Bytes (b .inverse) → Bytes (b .witness) → Bytes (b .work) → HostOpens modulus n adjacency weights everything b answer after
 host-opens {n} {adjacency = adjacency} O L inverse-bytes witness-bytes work-bytes =
-    rw (O .numbered, O .stored) (through n adjacency L inverse-bytes witness-bytes work-bytes (O .outcome))
+    rw (O .opened-over .numbered, O .opened-over .stored)
+    (through n adjacency (O .front) L inverse-bytes witness-bytes work-bytes (O .opened-over .outcome))

@@ -10,6 +10,7 @@ use lib.ListN.{length, getD, take, replicate}
 use lib.Seq.{length-take-le, getD-take}
 use Rattle.lists.specs.Part.{length-part}
 use Rattle.lists.specs.Table.{square-small}
+use Rattle.skew.specs.Choose.{choose, choose-yes, choose-no}
 use Rattle.matching.specs.Decision.{Every, not?, First, first?, nowhere, first-at, Finding, absent, at, when, found, because, Refusal, Ruling, accepted, refused, unless, judge}
 use Rattle.matching.specs.Graph.{Graph, largest, pair-count, fault, Faulty, over}
 use Rattle.matching.specs.Causes.{Lent, lent-to-opening, first-short, or, bad-cell, bad-weight, opening-ruling}
@@ -61,24 +62,44 @@ when-same a b needed number e = go (decLt a needed)
     go (no l) =
         when-absent (decLt a needed) number .1 l ∙ sym (when-absent (decLt b needed) number .1 (λ m. omega (arith, e .0 (omega arith))))
 
--- the words lent in the place of byte slices: no more of them than matter
-pub record Lends (weights lent : List ℕ) (b w : Buffers) : Type 0 where
+-- how many weights matter
+abbrev pub needed : ℕ → ℕ
+needed n = choose (decLt largest n) 0 (pair-count n)
+
+pub needed-none : (n : ℕ) → largest < n → needed n ≡ 0
+needed-none n h = choose-yes (decLt largest n) 0 (pair-count n) h
+
+pub needed-all : (n : ℕ) → n ≤ largest → needed n ≡ pair-count n
+needed-all n h = choose-no (decLt largest n) 0 (pair-count n) (λ l. omega arith)
+
+pub needed-small : (n : ℕ) → needed n ≤ 4560
+needed-small n = go (decLt largest n)
+  where
+    go : Dec (largest < n) → needed n ≤ 4560
+    go (yes l) = omega (arith, needed-none n l)
+    go (no l) = let h : n ≤ largest = omega arith in omega (arith, needed-all n h, pairs-small n h)
+
+-- the weights lent in the place of bytes: no more of them than matter
+pub record Front (n : ℕ) (weights lent : List ℕ) : Type 0 where
   pub count : ℕ
-  pub enough : Room (length weights) 4560 count
-  pub front : lent ≡ take count (words weights)
+  pub enough : Room (length weights) (needed n) count
+  pub first : lent ≡ take count (words weights)
+
+-- and the words lent in the place of the other byte slices
+pub record Lends (b w : Buffers) : Type 0 where
   pub inverse : Room (length (b .inverse)) 9216 (length (w .inverse))
   pub sequence : w .sequence ≡ b .sequence
   pub witness : Room (length (b .witness)) 96 (length (w .witness))
   pub work : Room (length (b .work)) 9216 (length (w .work))
 
-module _ {weights lent : List ℕ} {b w : Buffers} (L : Lends weights lent b w) (n : ℕ) (adjacency : List ℕ) where
-  lent-length : length lent ≡ L .count
+module _ {n : ℕ} {weights lent : List ℕ} (F : Front n weights lent) {b w : Buffers} (L : Lends b w) (adjacency : List ℕ) where
+  lent-length : length lent ≡ F .count
   lent-length =
-      ap length (L .front) ∙ length-take-le (L .count) (words weights) (room-enough weights (L .enough) (L .count) (L .enough .capped) .0 (omega arith))
+      ap length (F .first) ∙ length-take-le (F .count) (words weights) (room-enough weights (F .enough) (F .count) (F .enough .capped) .0 (omega arith))
 
   -- enough weights are the same
   pub lent-agree : pair-count n ≤ length lent → Every (pair-count n) (λ x. getD lent x 0 ≡ getD (words weights) x 0)
-  lent-agree h x l = ap (λ l. getD l x 0) (L .front) ∙ getD-take (L .count) (words weights) x 0 (omega (arith, lent-length))
+  lent-agree h x l = ap (λ l. getD l x 0) (F .first) ∙ getD-take (F .count) (words weights) x 0 (omega (arith, lent-length))
 
   -- the same buffers are too short
   short-same : n ≤ largest
@@ -88,7 +109,7 @@ module _ {weights lent : List ℕ} {b w : Buffers} (L : Lends weights lent b w) 
       rw (
         lent-length,
         L .sequence,
-        when-same (L .count) (length (words weights)) (pair-count n) 2 (room-enough weights (L .enough) (pair-count n) (pairs-small n h)),
+        when-same (F .count) (length (words weights)) (pair-count n) 2 (room-enough weights (F .enough) (pair-count n) (omega (arith, needed-all n h))),
         when-same (length (w .inverse)) (length (words (b .inverse))) (n * n) 3 (room-enough (b .inverse) (L .inverse) (n * n) (square-small n h)),
         when-same (length (w .witness)) (length (words (b .witness))) n 5 (room-enough (b .witness) (L .witness) n h),
         when-same (length (w .work)) (length (words (b .work))) (n * n) 6 (room-enough (b .work) (L .work) (n * n) (square-small n h)),

@@ -8,8 +8,8 @@ ghost use Rattle.matching.specs.Pairs.{everything};
 ghost use Rattle.matching.specs.Session.{onto};
 ghost use Rattle.matching.specs.Host.{words, bytes-of, opening-number, HostOpens};
 ghost use Rattle.opening.specs.Solved.{opening-of, buffers};
-ghost use Rattle.host.specs.Room.{Room};
-ghost use Rattle.host.specs.Opened.{Small, extent, OpensOver};
+ghost use Rattle.host.specs.Room.{Room, needed};
+ghost use Rattle.host.specs.Opened.{Small, extent, OpensOver, OpensBytes};
 
 // The word of two bytes.
 fn word(low: u8, high: u8) -> u16
@@ -49,6 +49,16 @@ fn room(bytes: usize, most: usize) -> usize
 {
     let whole = bytes / 2;
     if whole < most { whole } else { most }
+}
+
+// How many weights matter: one for each pair of vertices, and none where there are too many vertices.
+fn weights_needed(n: usize) -> usize
+    ensures { λ r. ⌜ r ≡ needed n ⌝ }
+{
+    if checks::LARGEST < n {
+        return 0;
+    }
+    checks::pair_count(n)
 }
 
 // The number that the host is answered.
@@ -99,6 +109,40 @@ fn open_over(
     number(o)
 }
 
+// The same over weights that are stored as bytes, of which those that matter are read.
+fn open_bytes(
+    n: usize,
+    adjacency: &[u8],
+    weights: &[u8],
+    table: &mut [u16],
+    vector: &mut [u16],
+    scratch: &mut [u16],
+    inverse: &mut [u8],
+    sequence: &mut [u8],
+    witness: &mut [u8],
+    work: &mut [u8],
+) -> u64
+    requires { ⌜ (2 * length (now table) ≤ length (now inverse)) × (2 * length (now vector) ≤ length (now witness)) × (2 * length (now scratch) ≤ length (now work)) ⌝ }
+    ensures { λ r. ⌜ OpensBytes n (now (adjacency .entry)) (now (weights .entry)) (buffers (now (table .entry)) (now (sequence .entry)) (now (vector .entry)) (now (scratch .entry))) (buffers (now (inverse .entry)) (now (sequence .entry)) (now (witness .entry)) (now (work .entry))) r (buffers (now (inverse .exit)) (now (sequence .exit)) (now (witness .exit)) (now (work .exit))) ⌝ }
+{
+    let mut values = [0u16; 4560];
+    let most = weights_needed(n);
+    let count = room(weights.len(), most);
+    unpack(weights, &mut values[..count]);
+    open_over(
+        n,
+        adjacency,
+        &values[..count],
+        table,
+        vector,
+        scratch,
+        inverse,
+        sequence,
+        witness,
+        work,
+    )
+}
+
 // Opens a session: document 01, "Opening", through the host.
 #[no_mangle]
 pub extern "C" fn saszvigom_open(
@@ -112,19 +156,16 @@ pub extern "C" fn saszvigom_open(
 ) -> u64
     ensures { λ r. ⌜ HostOpens modulus n (now (adjacency .entry)) (now (weights .entry)) everything (buffers (now (inverse .entry)) (now (sequence .entry)) (now (witness .entry)) (now (work .entry))) r (buffers (now (inverse .exit)) (now (sequence .exit)) (now (witness .exit)) (now (work .exit))) ⌝ }
 {
-    let mut values = [0u16; 4560];
     let mut table = [0u16; 9216];
     let mut vector = [0u16; 96];
     let mut scratch = [0u16; 9216];
-    let weight_count = room(weights.len(), 4560);
     let inverse_count = room(inverse.len(), 9216);
     let witness_count = room(witness.len(), 96);
     let work_count = room(work.len(), 9216);
-    unpack(weights, &mut values[..weight_count]);
-    open_over(
+    open_bytes(
         n as usize,
         adjacency,
-        &values[..weight_count],
+        weights,
         &mut table[..inverse_count],
         &mut vector[..witness_count],
         &mut scratch[..work_count],
