@@ -15,9 +15,14 @@
 #include <string>
 #include <vector>
 
-extern "C" uint64_t reference_open(uint64_t n, const uint8_t *adjacency, size_t adjacency_len, const uint8_t *weights,
-                                   size_t weights_len, uint8_t *inverse, size_t inverse_len, uint8_t *sequence,
-                                   size_t sequence_len, uint8_t *witness, size_t witness_len, uint8_t *work, size_t work_len);
+// A buffer as the plain reading takes it.
+struct Buffer {
+    uint8_t *bytes;
+    size_t length;
+};
+
+// Opens a graph by the plain reading: the six buffers of saszvigom_open, in its order; the first two are only read.
+extern "C" uint64_t reference_open(uint64_t n, const Buffer *buffers);
 
 namespace {
 
@@ -118,13 +123,23 @@ struct Buffers {
     }
 };
 
-using Entry = decltype(&saszvigom_open);
-
-uint64_t call(Entry entry, const Graph &graph, Buffers &buffers)
+uint64_t open_by_entry(const Graph &graph, Buffers &buffers)
 {
-    return entry(graph.n, graph.adjacency.data(), graph.adjacency.size(), graph.weights.data(), graph.weights.size(),
-                 buffers.inverse.data(), buffers.inverse.size(), buffers.sequence.data(), buffers.sequence.size(),
-                 buffers.witness.data(), buffers.witness.size(), buffers.work.data(), buffers.work.size());
+    return saszvigom_open(graph.n, graph.adjacency.data(), graph.adjacency.size(), graph.weights.data(), graph.weights.size(),
+                          buffers.inverse.data(), buffers.inverse.size(), buffers.sequence.data(), buffers.sequence.size(),
+                          buffers.witness.data(), buffers.witness.size(), buffers.work.data(), buffers.work.size());
+}
+
+Buffer buffer_of(const std::vector<uint8_t> &bytes)
+{
+    return {const_cast<uint8_t *>(bytes.data()), bytes.size()};
+}
+
+uint64_t open_by_reading(const Graph &graph, Buffers &buffers)
+{
+    const Buffer six[] = {buffer_of(graph.adjacency),  buffer_of(graph.weights),   buffer_of(buffers.inverse),
+                          buffer_of(buffers.sequence), buffer_of(buffers.witness), buffer_of(buffers.work)};
+    return reference_open(graph.n, six);
 }
 
 // The processor time of one call, in microseconds.
@@ -155,14 +170,14 @@ void compare(const Graph &graph, const char *kind, Peer &peer)
 {
     const size_t n = graph.n;
     Buffers entry(n), reading(n);
-    const uint64_t number = call(saszvigom_open, graph, entry);
-    if (number != call(reference_open, graph, reading) || !(entry == reading))
+    const uint64_t number = open_by_entry(graph, entry);
+    if (number != open_by_reading(graph, reading) || !(entry == reading))
         differ(n, kind, "plain reading");
     if (Peer::name == nullptr)
         return;
-    if (peer.invert() != (saszvigom_kind(number) == SASZVIGOM_OPENED))
+    if (peer.invert() != (saszvigom_kind_of(number) == SASZVIGOM_OPENED))
         differ(n, kind, Peer::name);
-    if (saszvigom_kind(number) == SASZVIGOM_OPENED)
+    if (saszvigom_kind_of(number) == SASZVIGOM_OPENED)
         for (size_t i = 0; i < n * n; i++)
             if (saszvigom_word(entry.inverse.data(), i) != peer.entry(i / n, i % n))
                 differ(n, kind, Peer::name);
@@ -188,13 +203,13 @@ void measure(const Graph &graph, const char *kind)
     uint64_t number = 0;
     std::vector<double> entry, reading, other;
     for (size_t round = 0; round < rounds; round++) {
-        entry.push_back(time_of([&] { number = call(saszvigom_open, graph, buffers); }));
-        reading.push_back(time_of([&] { call(reference_open, graph, buffers); }));
+        entry.push_back(time_of([&] { number = open_by_entry(graph, buffers); }));
+        reading.push_back(time_of([&] { open_by_reading(graph, buffers); }));
         if (Peer::name != nullptr)
             other.push_back(time_of([&] { peer.invert(); }));
     }
     std::printf("%4zu  %-6s  %-8s  %9.1f  %9.1f  %7.2f", n, kind,
-                saszvigom_kind(number) == SASZVIGOM_OPENED ? "opened" : "singular", median(entry), median(reading),
+                saszvigom_kind_of(number) == SASZVIGOM_OPENED ? "opened" : "singular", median(entry), median(reading),
                 median_ratio(entry, reading));
     if (Peer::name != nullptr)
         std::printf("  %9.1f  %7.2f", median(other), median_ratio(entry, other));
@@ -227,7 +242,7 @@ int main(int argc, char **argv)
         if (n >= 8 && n <= SASZVIGOM_MAX_VERTICES) {
             const Graph graph = std::string(argv[3]) == "dense" ? dense(n) : sparse(n);
             Buffers buffers(n);
-            return saszvigom_cause(call(saszvigom_open, graph, buffers)) == SASZVIGOM_NO_CAUSE ? 0 : 1;
+            return saszvigom_cause_of(open_by_entry(graph, buffers)) == SASZVIGOM_NO_CAUSE ? 0 : 1;
         }
     }
     std::fprintf(stderr, "usage: opening times | opening once N dense|sparse\n");

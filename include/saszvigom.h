@@ -2,20 +2,22 @@
  * saszvigom: the Tutte matrix of a graph modulo 65521, and its inverse.
  *
  * A graph has n vertices, numbered 0 to n - 1, with n at most 96, and a weight
- * from 1 to 65520 for every two vertices. Its Tutte matrix A is n times n,
- * modulo 65521: where i < j are adjacent with weight d,
+ * from 1 to 65520 for every two vertices, adjacent or not. Its Tutte matrix A is
+ * n times n, modulo 65521, with rows and columns numbered from 0: where i < j
+ * are adjacent with weight d,
  *
  *     A(i,j) = d  and  A(j,i) = 65521 - d,
  *
- * and every other entry is 0. If A has an inverse, the vertices can be matched
- * in pairs of adjacent vertices, with none left over. If it has none, there is
- * a vector w other than 0 with A w = 0, the witness. A witness alone does not
- * show that no such matching exists: the weights may cancel. For odd n there
- * is always a witness.
+ * and every other entry is 0. If A has an inverse, as it always has for n = 0,
+ * the vertices can be matched in pairs of adjacent vertices, with none left
+ * over. If it has none, as always for odd n, there is a vector w other than 0
+ * with A w = 0, the witness. A witness alone does not show that no such matching
+ * exists: the weights may cancel.
  *
- * Link with libhost.a, built for 64-bit x86. It keeps no state, allocates nothing, calls
- * only memcpy, memmove and memset. Threads may call it at once if none writes
- * to a buffer that another one uses. A call takes less than 256 KiB of stack.
+ * For C99 or C++11 and later. Link with libhost.a, which is for 64-bit x86 and
+ * the System V ABI. It keeps no state, allocates nothing, and calls only memcpy,
+ * memmove and memset. Threads may call it at once if none writes to a buffer
+ * that another one uses. A call takes less than 256 KiB of stack.
  */
 #ifndef SASZVIGOM_H
 #define SASZVIGOM_H
@@ -27,18 +29,18 @@
 extern "C" {
 #endif
 
-enum {
-    /* The largest number of vertices. */
-    SASZVIGOM_MAX_VERTICES = 96,
-    /* A byte of the sequence that holds no vertex. */
-    SASZVIGOM_UNUSED = 255
-};
+/* The largest number of vertices. */
+#define SASZVIGOM_MAX_VERTICES 96u
 
-/* Every word is a number modulo this prime, stored as 0 to 65520. */
+/* Every word that is written is a number modulo this prime, 0 to 65520. A word
+   is two bytes, the low one first. */
 #define SASZVIGOM_MODULUS 65521u
 
+/* A byte of the sequence of matched pairs that holds no vertex. */
+#define SASZVIGOM_UNUSED 255u
+
 /* How many bytes a buffer needs for n vertices, n at most 96. A buffer may be
-   longer. The argument is evaluated twice. */
+   longer. The argument may be evaluated twice. */
 #define SASZVIGOM_ADJACENCY_BYTES(n) ((size_t)(n) * (size_t)(n))
 #define SASZVIGOM_WEIGHTS_BYTES(n) ((size_t)(n) * ((size_t)(n) - 1u))
 #define SASZVIGOM_INVERSE_BYTES(n) (2u * (size_t)(n) * (size_t)(n))
@@ -46,7 +48,8 @@ enum {
 #define SASZVIGOM_WITNESS_BYTES(n) (2u * (size_t)(n))
 #define SASZVIGOM_WORK_BYTES(n) (2u * (size_t)(n) * (size_t)(n))
 
-/* Why a call was refused: bits 0 to 7 of the number returned. */
+/* Why a call was refused: bits 0 to 7 of the number returned. The place, in bits
+   16 to 31, says where. */
 enum saszvigom_cause {
     /* The call was carried out. */
     SASZVIGOM_NO_CAUSE = 0,
@@ -55,14 +58,14 @@ enum saszvigom_cause {
     /* A buffer is too short. The place is the number of the first such buffer,
        one of enum saszvigom_buffer. */
     SASZVIGOM_BUFFER_TOO_SHORT = 2,
-    /* An adjacency byte is not 0 or 1, is not 0 on the diagonal, or differs from
-       its mirror. The place is the index of the first such byte, row by row.
-       Where two mirror bytes differ both are at fault, so the place is on or
-       above the diagonal. */
+    /* The adjacency byte of row i and column j is not 0 or 1, or is not 0 though
+       i = j, or differs from that of row j and column i. The place is i * n + j
+       for the first such byte, row by row. Where two bytes differ both are at
+       fault, so j is never below i. */
     SASZVIGOM_ADJACENCY_FAULT = 3,
-    /* A weight is 0 or above 65520. The place is the index of the first such
-       weight, counted in words. Weights of vertices that are not adjacent count
-       too. */
+    /* A weight is 0 or above 65520, of adjacent vertices or of others. The place
+       is the index of the first such weight: 0 for the first word, 1 for the
+       second. */
     SASZVIGOM_WEIGHT_OUT_OF_RANGE = 4
 };
 
@@ -78,7 +81,7 @@ enum saszvigom_buffer {
 
 /* What a call found: bits 8 to 15 of the number returned. */
 enum saszvigom_kind {
-    /* The call was refused. */
+    /* Nothing: the call was refused. */
     SASZVIGOM_REFUSED = 0,
     /* A has an inverse. */
     SASZVIGOM_OPENED = 1,
@@ -87,38 +90,41 @@ enum saszvigom_kind {
 };
 
 /*
- * Opens a graph: finds the inverse of its Tutte matrix A, or a witness.
+ * Opens a graph: finds the inverse of its Tutte matrix A, or a witness. There is
+ * nothing to close.
  *
  *   n          the number of vertices, 0 to 96
- *   adjacency  read; n n bytes, row by row: 1 where two vertices are adjacent,
+ *   adjacency  read; n * n bytes, row by row: 1 where two vertices are adjacent,
  *              else 0
- *   weights    read; n (n - 1) / 2 words, for the vertices (0,1), (0,2) ..
- *              (0,n-1), (1,2) and so on
- *   inverse    written; n n words, row by row
- *   sequence   written; n bytes, all 255: no pair of vertices is matched yet
+ *   weights    read; n * (n - 1) / 2 words, for the vertices (0,1), (0,2) ..
+ *              (0,n-1), (1,2) and so on, each from 1 to 65520
+ *   inverse    written; n * n words, row by row
+ *   sequence   written; n bytes, all SASZVIGOM_UNUSED: no vertex is matched
  *   witness    written; n words
- *   work       written; n n words, all set to 0
+ *   work       written; n * n words, all 0
  *
- * Each buffer is followed by its length in bytes. A word is two bytes, the low
- * one first; a buffer of words holds half its length, rounded down. Buffers
- * need no alignment and may hold anything before the call. No two of the six
- * may overlap, and none may be null, not even with length 0.
+ * Each buffer is followed by its length in bytes, all of which must be there to
+ * read, and to write where the buffer is written. A buffer of words holds half
+ * as many words as bytes, rounded down. Buffers need no alignment, and those
+ * written may hold anything before the call. No two of the six may overlap, and
+ * none may be null, not even with length 0, as data() of an empty std::vector
+ * may be: such a call is not refused, and what it does is undefined.
  *
  * The number returned, and what is written:
  *
- *   A has an inverse: kind SASZVIGOM_OPENED. inverse holds it, the words of
- *       witness and work are 0, the bytes of sequence 255.
- *   A has none: kind SASZVIGOM_SINGULAR, with a column f, the first one that is
- *       a combination of the columns before it. witness holds the one vector w
- *       with A w = 0, w(f) = 1 and zeros after f. The words of inverse and work
- *       are 0, the bytes of sequence 255.
+ *   A has an inverse: kind SASZVIGOM_OPENED. inverse holds it, and the words of
+ *       witness and work are 0.
+ *   A has none: kind SASZVIGOM_SINGULAR, with a column f, the first one from the
+ *       left that is a combination of the columns before it; column 0 is one if
+ *       it is all 0. witness holds the one vector w with A w = 0, w(f) = 1 and
+ *       zeros after f. The words of inverse and work are 0.
  *   The call is refused: a cause from 1 to 4 and a place. Nothing is written.
  *       Where several causes apply, the lowest is returned.
  *
- * Bytes past those needed for n vertices, an odd last byte among them, do not
- * matter and are not written.
+ * What stands past the bytes needed for n vertices, an odd last byte included,
+ * makes no difference and is not written.
  *
- * The number, by its bits; those not named are 0:
+ * The number, by its bits; all others are 0:
  *
  *                 0 to 7   8 to 15   16 to 31
  *     opened      0        1         0
@@ -134,25 +140,26 @@ uint64_t saszvigom_open(uint64_t n,
                         uint8_t *work, size_t work_len);
 
 /* The cause in a number returned: one of enum saszvigom_cause. */
-static inline unsigned saszvigom_cause(uint64_t number)
+static inline unsigned saszvigom_cause_of(uint64_t number)
 {
     return (unsigned)(number & 0xFFu);
 }
 
 /* What the call found: one of enum saszvigom_kind. */
-static inline unsigned saszvigom_kind(uint64_t number)
+static inline unsigned saszvigom_kind_of(uint64_t number)
 {
     return (unsigned)(number >> 8 & 0xFFu);
 }
 
-/* The place of the cause, for a refused call. */
-static inline unsigned saszvigom_place(uint64_t number)
+/* The place of the cause. It means nothing where the call was not refused. */
+static inline unsigned saszvigom_place_of(uint64_t number)
 {
     return (unsigned)(number >> 16 & 0xFFFFu);
 }
 
-/* The first dependent column f, for kind SASZVIGOM_SINGULAR. */
-static inline unsigned saszvigom_column(uint64_t number)
+/* The first dependent column f. It means nothing for a kind other than
+   SASZVIGOM_SINGULAR. */
+static inline unsigned saszvigom_column_of(uint64_t number)
 {
     return (unsigned)(number >> 16 & 0xFFu);
 }

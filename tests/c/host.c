@@ -1,174 +1,56 @@
 /*
  * Opens graphs through saszvigom.h and compares the number returned and every
- * byte of every buffer with what is expected. Each case is run twice: with the
- * buffers in one block, at odd addresses and between guard bytes, and with each
- * buffer in a block of its own length. Prints a line for each case and stops
- * with status 1 at the first difference.
+ * byte of every buffer with what is expected. Prints a line for each case and
+ * stops with status 1 at the first difference.
  */
-#include "saszvigom.h"
+#include "compare.h"
 
 #include <stdbool.h>
 #include <stdio.h>
 #include <stdlib.h>
 #include <string.h>
 
-#define BUFFERS 6
-#define GUARD 31
-#define LONGEST (SASZVIGOM_INVERSE_BYTES(SASZVIGOM_MAX_VERTICES) + 64)
-#define BLOCK (BUFFERS * (LONGEST + GUARD) + GUARD)
-
-static const char *const names[BUFFERS] = {
-    "adjacency", "weights", "inverse", "sequence", "witness", "work",
-};
-
-/* A call: the size, and for each buffer its length and the bytes before. */
-struct call {
-    uint64_t n;
-    size_t length[BUFFERS];
-    uint8_t bytes[BUFFERS][LONGEST];
-};
-
-/* What is expected of a call: the number, and the bytes after. */
-struct outcome {
-    uint64_t number;
-    uint8_t bytes[BUFFERS][LONGEST];
-};
-
-enum { ADJACENCY, WEIGHTS, INVERSE, SEQUENCE, WITNESS, WORK };
-
 static struct call call;
 static struct outcome expected;
 static size_t cases;
 
-/* A byte that differs from its neighbours, from 0 and from 255. */
-static uint8_t guard_byte(size_t position)
-{
-    return (uint8_t)(1 + position * 37 % 251);
-}
-
-static _Noreturn void differs(const char *name, const char *where, size_t offset,
-                              unsigned found, unsigned wanted)
-{
-    printf("FAIL %s: %s, byte %zu: %u instead of %u\n", name, where, offset, found, wanted);
-    exit(1);
-}
-
-static uint64_t open_graph(uint8_t *const buffers[BUFFERS])
-{
-    return saszvigom_open(call.n,
-                          buffers[ADJACENCY], call.length[ADJACENCY],
-                          buffers[WEIGHTS], call.length[WEIGHTS],
-                          buffers[INVERSE], call.length[INVERSE],
-                          buffers[SEQUENCE], call.length[SEQUENCE],
-                          buffers[WITNESS], call.length[WITNESS],
-                          buffers[WORK], call.length[WORK]);
-}
-
-static void compare_number(const char *name, uint64_t number)
-{
-    if (number != expected.number) {
-        printf("FAIL %s: number %#llx instead of %#llx\n", name,
-               (unsigned long long)number, (unsigned long long)expected.number);
-        exit(1);
-    }
-}
-
-static void compare(const char *name, const char *where, const uint8_t *found,
-                    const uint8_t *wanted, size_t length)
-{
-    for (size_t i = 0; i < length; i++)
-        if (found[i] != wanted[i])
-            differs(name, where, i, found[i], wanted[i]);
-}
-
-/* The buffers in one block, between guard bytes. */
-static void run_in_one_block(const char *name)
-{
-    static uint8_t block[BLOCK];
-    uint8_t *buffers[BUFFERS];
-    size_t end = 0;
-    for (size_t i = 0; i < BLOCK; i++)
-        block[i] = guard_byte(i);
-    for (size_t b = 0; b < BUFFERS; b++) {
-        end += GUARD;
-        buffers[b] = block + end;
-        memcpy(buffers[b], call.bytes[b], call.length[b]);
-        end += call.length[b];
-    }
-
-    compare_number(name, open_graph(buffers));
-
-    size_t position = 0;
-    for (size_t b = 0; b < BUFFERS; b++) {
-        for (; position < (size_t)(buffers[b] - block); position++)
-            if (block[position] != guard_byte(position))
-                differs(name, "guard", position, block[position], guard_byte(position));
-        compare(name, names[b], buffers[b], expected.bytes[b], call.length[b]);
-        position += call.length[b];
-    }
-    for (; position < BLOCK; position++)
-        if (block[position] != guard_byte(position))
-            differs(name, "guard", position, block[position], guard_byte(position));
-}
-
-/* Each buffer in a block of its own, so that a memory checker sees its ends. */
-static void run_in_own_blocks(const char *name)
-{
-    uint8_t *buffers[BUFFERS];
-    for (size_t b = 0; b < BUFFERS; b++) {
-        buffers[b] = malloc(call.length[b] > 0 ? call.length[b] : 1);
-        if (buffers[b] == NULL) {
-            printf("FAIL %s: no memory\n", name);
-            exit(1);
-        }
-        memcpy(buffers[b], call.bytes[b], call.length[b]);
-    }
-
-    compare_number(name, open_graph(buffers));
-
-    for (size_t b = 0; b < BUFFERS; b++) {
-        compare(name, names[b], buffers[b], expected.bytes[b], call.length[b]);
-        free(buffers[b]);
-    }
-}
-
 static void run(const char *name)
 {
-    run_in_one_block(name);
-    run_in_own_blocks(name);
+    check_call(name, &call, &expected);
     cases++;
     printf("ok   %s\n", name);
 }
 
-/* Sets up a graph without edges and with weights 1, in buffers that are longer
-   than needed by an odd number of bytes. What they hold else is arbitrary. */
-static void set_graph(size_t n)
+/* Makes the buffers as long as n vertices need. */
+static void set_lengths(size_t n)
 {
-    const size_t needed[BUFFERS] = {
-        SASZVIGOM_ADJACENCY_BYTES(n), SASZVIGOM_WEIGHTS_BYTES(n),
-        SASZVIGOM_INVERSE_BYTES(n),   SASZVIGOM_SEQUENCE_BYTES(n),
-        SASZVIGOM_WITNESS_BYTES(n),   SASZVIGOM_WORK_BYTES(n),
-    };
-    call.n = n;
-    for (size_t b = 0; b < BUFFERS; b++) {
-        call.length[b] = needed[b] + 2 * b + 1;
-        for (size_t i = 0; i < LONGEST; i++)
-            call.bytes[b][i] = guard_byte(i + 7 * b);
-    }
-    memset(call.bytes[ADJACENCY], 0, needed[ADJACENCY]);
-    for (size_t k = 0; k < n * (n - 1) / 2; k++)
-        saszvigom_store_word(call.bytes[WEIGHTS], k, 1);
-}
-
-static void set_lengths_as_needed(void)
-{
-    const size_t n = (size_t)call.n;
     call.length[ADJACENCY] = SASZVIGOM_ADJACENCY_BYTES(n);
     call.length[WEIGHTS] = SASZVIGOM_WEIGHTS_BYTES(n);
     call.length[INVERSE] = SASZVIGOM_INVERSE_BYTES(n);
     call.length[SEQUENCE] = SASZVIGOM_SEQUENCE_BYTES(n);
     call.length[WITNESS] = SASZVIGOM_WITNESS_BYTES(n);
     call.length[WORK] = SASZVIGOM_WORK_BYTES(n);
+}
+
+static void set_lengths_as_needed(void)
+{
+    set_lengths((size_t)call.n);
+}
+
+/* Sets up a graph without edges and with weights 1, in buffers that are longer
+   than needed by an odd number of bytes. What they hold else is arbitrary. */
+static void set_graph(size_t n)
+{
+    call.n = n;
+    set_lengths(n);
+    for (size_t b = 0; b < BUFFERS; b++) {
+        call.length[b] += 2 * b + 1;
+        for (size_t i = 0; i < LONGEST; i++)
+            call.bytes[b][i] = guard_byte(i + 7 * b);
+    }
+    memset(call.bytes[ADJACENCY], 0, SASZVIGOM_ADJACENCY_BYTES(n));
+    for (size_t k = 0; k < n * (n - 1) / 2; k++)
+        saszvigom_store_word(call.bytes[WEIGHTS], k, 1);
 }
 
 static void set_cell(size_t i, size_t j, uint8_t value)
@@ -187,6 +69,14 @@ static void link_all(void)
     for (size_t i = 0; i < call.n; i++)
         for (size_t j = i + 1; j < call.n; j++)
             link_vertices(i, j);
+}
+
+/* Sets up a graph with weights 1 and the edges given as in "01 12". */
+static void set_edges(size_t n, const char *edges)
+{
+    set_graph(n);
+    for (const char *edge = edges; edge[0] != '\0'; edge += edge[2] == ' ' ? 3 : 2)
+        link_vertices((size_t)(edge[0] - '0'), (size_t)(edge[1] - '0'));
 }
 
 static void set_weight(size_t index, uint16_t weight)
@@ -244,8 +134,7 @@ static void smallest_graphs(void)
     expect_witness(0, (const uint16_t[]){1, 0});
     run("two vertices without an edge");
 
-    set_graph(2);
-    link_vertices(0, 1);
+    set_edges(2, "01");
     set_weight(0, 2);
     expect_inverse((const uint16_t[]){0, 32760, 32761, 0});
     run("one edge of weight 2");
@@ -256,16 +145,11 @@ static void smallest_graphs(void)
 
 static void graphs_of_three_and_four(void)
 {
-    set_graph(3);
-    link_vertices(0, 1);
-    link_vertices(1, 2);
+    set_edges(3, "01 12");
     expect_witness(2, (const uint16_t[]){1, 0, 1});
     run("path of three vertices");
 
-    set_graph(4);
-    link_vertices(0, 1);
-    link_vertices(0, 2);
-    link_vertices(1, 3);
+    set_edges(4, "01 02 13");
     expect_inverse((const uint16_t[]){
         0, 0, 65520, 0,
         0, 0, 0, 65520,
@@ -274,12 +158,14 @@ static void graphs_of_three_and_four(void)
     });
     run("path of four vertices");
 
-    set_graph(4);
-    link_vertices(0, 1);
-    link_vertices(0, 2);
-    link_vertices(0, 3);
+    set_edges(4, "01 02 03");
     expect_witness(2, (const uint16_t[]){0, 65520, 1, 0});
     run("star of four vertices");
+
+    set_edges(4, "01 12 23 03");
+    set_weight(saszvigom_weight_index(4, 1, 2), 65520);
+    expect_witness(2, (const uint16_t[]){65520, 0, 1, 0});
+    run("ring of four vertices, weights that cancel");
 
     set_graph(4);
     link_all();
@@ -290,15 +176,6 @@ static void graphs_of_three_and_four(void)
         1, 65520, 1, 0,
     });
     run("all six edges of four vertices");
-
-    set_graph(4);
-    link_vertices(0, 1);
-    link_vertices(1, 2);
-    link_vertices(2, 3);
-    link_vertices(0, 3);
-    set_weight(saszvigom_weight_index(4, 1, 2), 65520);
-    expect_witness(2, (const uint16_t[]){65520, 0, 1, 0});
-    run("ring of four vertices, weights that cancel");
 }
 
 /* With all weights 1 the inverse has (-1)^(j-i) above the diagonal, for even
@@ -366,7 +243,7 @@ static void lengths(void)
         set_lengths_as_needed();
         call.length[b]--;
         expect_refusal(SASZVIGOM_BUFFER_TOO_SHORT, (unsigned)b + 1);
-        (void)snprintf(name, sizeof name, "%s short by a byte", names[b]);
+        (void)snprintf(name, sizeof name, "%s short by a byte", buffer_names[b]);
         run(name);
 
         for (size_t later = b + 1; later < BUFFERS; later++)
@@ -374,7 +251,8 @@ static void lengths(void)
         set_cell(0, 0, 9);
         set_weight(0, 0);
         expect_refusal(SASZVIGOM_BUFFER_TOO_SHORT, (unsigned)b + 1);
-        (void)snprintf(name, sizeof name, "%s short, and all after it, and faults", names[b]);
+        (void)snprintf(name, sizeof name, "%s short, and all after it, and faults",
+                       buffer_names[b]);
         run(name);
     }
 }
@@ -416,9 +294,7 @@ static void weight_faults(void)
     const uint16_t faulty[] = {0, 65521, 65535};
     for (size_t i = 0; i < 3; i++) {
         char name[64];
-        set_graph(4);
-        link_vertices(0, 1);
-        link_vertices(2, 3);
+        set_edges(4, "01 23");
         set_weight(2, faulty[i]);
         set_weight(4, 0);
         expect_refusal(SASZVIGOM_WEIGHT_OUT_OF_RANGE, 2);
@@ -426,8 +302,7 @@ static void weight_faults(void)
         run(name);
     }
 
-    set_graph(2);
-    link_vertices(0, 1);
+    set_edges(2, "01");
     set_weight(0, 65520);
     expect_inverse((const uint16_t[]){0, 1, 65520, 0});
     run("weight 65520");
@@ -444,14 +319,14 @@ static void accessors(void)
 {
     const uint64_t singular = 131584;
     const uint64_t refused = 3 | (uint64_t)9215 << 16;
-    const bool right = saszvigom_cause(256) == SASZVIGOM_NO_CAUSE
-                       && saszvigom_kind(256) == SASZVIGOM_OPENED
-                       && saszvigom_cause(singular) == SASZVIGOM_NO_CAUSE
-                       && saszvigom_kind(singular) == SASZVIGOM_SINGULAR
-                       && saszvigom_column(singular) == 2
-                       && saszvigom_cause(refused) == SASZVIGOM_ADJACENCY_FAULT
-                       && saszvigom_kind(refused) == SASZVIGOM_REFUSED
-                       && saszvigom_place(refused) == 9215
+    const bool right = saszvigom_cause_of(256) == SASZVIGOM_NO_CAUSE
+                       && saszvigom_kind_of(256) == SASZVIGOM_OPENED
+                       && saszvigom_cause_of(singular) == SASZVIGOM_NO_CAUSE
+                       && saszvigom_kind_of(singular) == SASZVIGOM_SINGULAR
+                       && saszvigom_column_of(singular) == 2
+                       && saszvigom_cause_of(refused) == SASZVIGOM_ADJACENCY_FAULT
+                       && saszvigom_kind_of(refused) == SASZVIGOM_REFUSED
+                       && saszvigom_place_of(refused) == 9215
                        && saszvigom_weight_index(96, 94, 95) == 4559;
     if (!right) {
         printf("FAIL accessors\n");

@@ -1,9 +1,10 @@
 //! Random graphs of many shapes.
 
-use super::random::Random;
+use crate::random::Random;
 use reference::opening::{self, Opening};
 
-const P: u64 = 65521;
+/// The modulus.
+pub const P: u64 = 65521;
 
 /// A graph: adjacency row by row, and a weight for each two vertices.
 #[derive(Clone)]
@@ -71,6 +72,9 @@ impl Graph {
 
 /// A graph of n vertices of a random shape with random weights.
 pub fn any(random: &mut Random, n: usize) -> Graph {
+    if n == 0 {
+        return Graph::empty(0);
+    }
     match random.below(14) {
         0 => dense(random, n),
         1 => with_density(random, n, 100),
@@ -238,8 +242,8 @@ pub fn low_rank(random: &mut Random, n: usize) -> Graph {
     let terms = random.between(1, (n / 2).max(1));
     let mut entries = vec![0; n * n];
     for _ in 0..terms {
-        let x: Vec<u64> = (0..n).map(|_| random.next() % P).collect();
-        let y: Vec<u64> = (0..n).map(|_| random.next() % P).collect();
+        let x: Vec<u64> = (0..n).map(|_| random.number() % P).collect();
+        let y: Vec<u64> = (0..n).map(|_| random.number() % P).collect();
         for i in 0..n {
             for j in i + 1..n {
                 let form = x[i] * y[j] % P + P - x[j] * y[i] % P;

@@ -1,0 +1,75 @@
+/*
+ * Opens three graphs and prints what is found.
+ *
+ *     cc -Iinclude samples/open.c target/staticlib/libhost.a -o open
+ */
+#include "saszvigom.h"
+
+#include <stdio.h>
+#include <string.h>
+
+#define MOST 4 /* vertices */
+
+struct edge {
+    size_t i, j; /* i < j */
+    uint16_t weight;
+};
+
+static void print_words(const uint8_t *words, size_t rows, size_t columns)
+{
+    for (size_t i = 0; i < rows; i++) {
+        for (size_t j = 0; j < columns; j++)
+            printf(" %6u", (unsigned)saszvigom_word(words, i * columns + j));
+        printf("\n");
+    }
+}
+
+/* Opens the graph of n vertices with these edges. */
+static void open_graph(const char *name, size_t n, const struct edge *edges, size_t count)
+{
+    uint8_t adjacency[SASZVIGOM_ADJACENCY_BYTES(MOST)];
+    uint8_t weights[SASZVIGOM_WEIGHTS_BYTES(MOST)];
+    uint8_t inverse[SASZVIGOM_INVERSE_BYTES(MOST)];
+    uint8_t sequence[SASZVIGOM_SEQUENCE_BYTES(MOST)];
+    uint8_t witness[SASZVIGOM_WITNESS_BYTES(MOST)];
+    uint8_t work[SASZVIGOM_WORK_BYTES(MOST)];
+
+    /* No edges. Every two vertices have a weight, adjacent or not. */
+    memset(adjacency, 0, sizeof adjacency);
+    for (size_t index = 0; index < n * (n - 1) / 2; index++)
+        saszvigom_store_word(weights, index, 1);
+    for (const struct edge *edge = edges; edge < edges + count; edge++) {
+        adjacency[edge->i * n + edge->j] = 1;
+        adjacency[edge->j * n + edge->i] = 1;
+        saszvigom_store_word(weights, saszvigom_weight_index(n, edge->i, edge->j), edge->weight);
+    }
+
+    const uint64_t number = saszvigom_open(n, adjacency, sizeof adjacency, weights, sizeof weights,
+                                           inverse, sizeof inverse, sequence, sizeof sequence,
+                                           witness, sizeof witness, work, sizeof work);
+
+    printf("%s: ", name);
+    switch (saszvigom_kind_of(number)) {
+    case SASZVIGOM_OPENED:
+        printf("opened, with inverse\n");
+        print_words(inverse, n, n);
+        break;
+    case SASZVIGOM_SINGULAR:
+        printf("singular, first dependent column %u, with witness\n", saszvigom_column_of(number));
+        print_words(witness, 1, n);
+        break;
+    default:
+        printf("refused, cause %u at place %u\n", saszvigom_cause_of(number), saszvigom_place_of(number));
+    }
+}
+
+int main(void)
+{
+    const struct edge path[] = {{0, 1, 2}, {1, 2, 3}, {2, 3, 5}};
+    const struct edge no_weight[] = {{0, 1, 2}, {1, 2, 0}, {2, 3, 5}};
+
+    open_graph("path of four vertices", 4, path, 3);
+    open_graph("path of three vertices", 3, path, 2);
+    open_graph("path with a weight of 0", 4, no_weight, 3);
+    return 0;
+}

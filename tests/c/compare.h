@@ -1,0 +1,38 @@
+/*
+ * Runs a call of saszvigom.h and compares the number returned and every byte of
+ * every buffer with what is expected.
+ */
+#ifndef COMPARE_H
+#define COMPARE_H
+
+#include "saszvigom.h"
+
+enum { ADJACENCY, WEIGHTS, INVERSE, SEQUENCE, WITNESS, WORK, BUFFERS };
+
+/* The length of the longest buffer: what 96 vertices need, and 64 bytes more. */
+#define LONGEST (SASZVIGOM_INVERSE_BYTES(SASZVIGOM_MAX_VERTICES) + 64)
+
+extern const char *const buffer_names[BUFFERS];
+
+/* A call: the size, and for each buffer its length and the bytes before. */
+struct call {
+    uint64_t n;
+    size_t length[BUFFERS];
+    uint8_t bytes[BUFFERS][LONGEST];
+};
+
+/* What is expected of a call: the number, and the bytes after. */
+struct outcome {
+    uint64_t number;
+    uint8_t bytes[BUFFERS][LONGEST];
+};
+
+/* A byte that differs from its neighbours, from 0 and from 255. */
+uint8_t guard_byte(size_t position);
+
+/* Runs a call twice: with the buffers in one block, at odd addresses and between
+   guard bytes, and with each buffer in a block of its own length. Prints the
+   first difference and exits with status 1. */
+void check_call(const char *name, const struct call *call, const struct outcome *expected);
+
+#endif

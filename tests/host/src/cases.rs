@@ -1,0 +1,297 @@
+//! The families of cases. Each hands out its cases one after the other, the
+//! same ones every time.
+
+use crate::call::{Call, Outcome};
+use crate::damage::{any_large_size, damage, KINDS};
+use crate::graphs::{self, Graph};
+use crate::random::Random;
+
+/// A call with its name.
+pub struct Case {
+    pub name: String,
+    pub call: Call,
+    /// The outcome where the family settles it.
+    pub known: Option<Outcome>,
+}
+
+impl Case {
+    fn new(name: String, call: Call) -> Case {
+        Case {
+            name,
+            call,
+            known: None,
+        }
+    }
+
+    fn with_known(self, outcome: Outcome) -> Case {
+        Case {
+            known: Some(outcome),
+            ..self
+        }
+    }
+}
+
+/// All families.
+pub fn all() -> impl Iterator<Item = Case> {
+    small_graphs()
+        .chain(middle_graphs())
+        .chain(large_graphs())
+        .chain(largest_graphs())
+        .chain(every_size())
+        .chain(all_graphs_of_four())
+        .chain(every_first_dependent_column())
+        .chain(damaged_calls())
+        .chain(every_single_fault())
+        .chain(every_length())
+        .chain(sizes_above_96())
+        .chain(repeated_calls())
+}
+
+pub fn small_graphs() -> impl Iterator<Item = Case> {
+    any_graphs("small graphs", 1, 6000, 0, 12)
+}
+
+pub fn middle_graphs() -> impl Iterator<Item = Case> {
+    any_graphs("middle graphs", 2, 3000, 13, 40)
+}
+
+pub fn large_graphs() -> impl Iterator<Item = Case> {
+    any_graphs("large graphs", 3, 1000, 41, 96)
+}
+
+/// Graphs of random shapes, of sizes from the first to the last.
+fn any_graphs(
+    family: &'static str,
+    seed: u64,
+    count: usize,
+    first: usize,
+    last: usize,
+) -> impl Iterator<Item = Case> {
+    let mut random = Random::new(seed);
+    (0..count).map(move |round| {
+        let n = random.between(first, last);
+        let graph = graphs::any(&mut random, n);
+        let most_excess = random.choose(&[0, 1, 2, 40]);
+        let call = Call::new(&mut random, &graph, most_excess);
+        Case::new(format!("{family}, round {round}, n = {n}"), call)
+    })
+}
+
+pub fn largest_graphs() -> impl Iterator<Item = Case> {
+    let mut random = Random::new(4);
+    with_each(0..24, [95, 96]).map(move |(round, n)| {
+        let graph = match round % 4 {
+            0 => graphs::with_density(&mut random, n, 100),
+            1 => graphs::matched(&mut random, n),
+            2 => graphs::cancelling(&mut random, n),
+            _ => graphs::low_rank(&mut random, n),
+        };
+        let call = Call::new(&mut random, &graph, 3);
+        Case::new(format!("largest graphs, round {round}, n = {n}"), call)
+    })
+}
+
+/// Every size, all linked and without an edge.
+pub fn every_size() -> impl Iterator<Item = Case> {
+    let mut random = Random::new(5);
+    with_each(0..=96, [0, 100]).map(move |(n, percent)| {
+        let graph = graphs::with_density(&mut random, n, percent);
+        let call = Call::new(&mut random, &graph, 1);
+        Case::new(format!("every size, n = {n}, {percent} %"), call)
+    })
+}
+
+/// All graphs of four vertices with all weights from 1 and 65520.
+pub fn all_graphs_of_four() -> impl Iterator<Item = Case> {
+    let mut random = Random::new(6);
+    (0..64 * 64).map(move |number| {
+        let (edges, signs) = (number / 64, number % 64);
+        let call = Call::new(&mut random, &graph_of_four(edges, signs), 2);
+        Case::new(
+            format!("four vertices, edges {edges:#x}, signs {signs:#x}"),
+            call,
+        )
+    })
+}
+
+/// A bit for each two vertices: whether they are adjacent, and whether the
+/// weight is 65520.
+fn graph_of_four(edges: usize, signs: usize) -> Graph {
+    let pairs = [(0, 1), (0, 2), (0, 3), (1, 2), (1, 3), (2, 3)];
+    let mut graph = Graph::empty(4);
+    for (bit, &(i, j)) in pairs.iter().enumerate() {
+        if edges >> bit & 1 == 1 {
+            graph.link(i, j);
+        }
+        graph.weights[bit] = if signs >> bit & 1 == 1 { 65520 } else { 1 };
+    }
+    graph
+}
+
+/// Every first dependent column: all below n but n - 1 for even n, where the
+/// columns before it cannot be independent.
+pub fn every_first_dependent_column() -> impl Iterator<Item = Case> {
+    let mut random = Random::new(7);
+    let columns = |n| (0..n).filter(move |f| f % 2 == 0 || f + 1 < n);
+    [1, 2, 5, 8, 33, 96]
+        .into_iter()
+        .flat_map(move |n| columns(n).map(move |f| (n, f)))
+        .map(move |(n, f)| {
+            let graph = with_first_isolated(&mut random, n, f);
+            let call = Call::new(&mut random, &graph, 2);
+            let name = format!("first dependent column {f}, n = {n}");
+            Case::new(name, call).with_known(Outcome::Singular(f as u64))
+        })
+}
+
+/// A graph in which vertex f has no edge. Those before it are matched among
+/// themselves; for odd f the last of them is linked to the vertex after f.
+fn with_first_isolated(random: &mut Random, n: usize, f: usize) -> Graph {
+    let mut graph = Graph::empty(n);
+    for i in 0..f {
+        for j in i + 1..f {
+            if i % 2 == 0 && j == i + 1 || random.percent(30) {
+                graph.link(i, j);
+            }
+        }
+    }
+    if f % 2 == 1 {
+        graph.link(f - 1, f + 1);
+    }
+    for weight in &mut graph.weights {
+        *weight = random.between(1, 65520) as u16;
+    }
+    graph
+}
+
+pub fn damaged_calls() -> impl Iterator<Item = Case> {
+    let mut random = Random::new(8);
+    (0..6000).map(move |round| {
+        let kind = round % KINDS;
+        let n = if round % 50 < 10 {
+            random.between(13, 96)
+        } else {
+            random.between(0, 12)
+        };
+        let graph = graphs::any(&mut random, n);
+        let most_excess = random.choose(&[0, 1, 40]);
+        let mut call = Call::new(&mut random, &graph, most_excess);
+        damage(&mut random, &mut call, kind);
+        Case::new(
+            format!("damaged calls, round {round}, n = {n}, kind {kind}"),
+            call,
+        )
+    })
+}
+
+/// Every single fault of a small graph, at every place.
+pub fn every_single_fault() -> impl Iterator<Item = Case> {
+    let mut random = Random::new(9);
+    (1..=6).flat_map(move |n| {
+        let graph = graphs::matched(&mut random, n);
+        let call = Call::new(&mut random, &graph, 1);
+        every_cell(call.clone(), n).chain(every_weight(call, n))
+    })
+}
+
+fn every_cell(call: Call, n: usize) -> impl Iterator<Item = Case> {
+    with_each(0..n * n, [0, 1, 2, 128, 255]).map(move |(cell, value)| {
+        let mut call = call.clone();
+        call.adjacency[cell] = value;
+        Case::new(format!("n = {n}, cell {cell} is {value}"), call)
+    })
+}
+
+fn every_weight(call: Call, n: usize) -> impl Iterator<Item = Case> {
+    let weights = [0, 1, 255, 256, 65280, 65519, 65520, 65521, 65522, 65535];
+    with_each(0..n * (n - 1) / 2, weights).map(move |(index, weight)| {
+        let mut call = call.clone();
+        call.set_weight(index, weight);
+        Case::new(format!("n = {n}, weight {index} is {weight}"), call)
+    })
+}
+
+/// Every length of every buffer, from 0 to a few bytes more than needed. Known
+/// is the refusal of a short one.
+pub fn every_length() -> impl Iterator<Item = Case> {
+    let mut random = Random::new(10);
+    (0..=5).flat_map(move |n| {
+        let graph = graphs::matched(&mut random, n);
+        let whole = Call::new(&mut random, &graph, 0);
+        let excess = random.bytes(5);
+        (0..6).flat_map(move |buffer| lengths_of(&whole, buffer, &excess))
+    })
+}
+
+/// All lengths of one buffer.
+fn lengths_of(whole: &Call, buffer: usize, excess: &[u8]) -> Vec<Case> {
+    let needed = whole.buffers()[buffer].len();
+    let bytes = [whole.buffers()[buffer], excess].concat();
+    let with_length = |length: usize| {
+        let mut call = whole.clone();
+        *call.buffers_mut()[buffer] = bytes[..length].to_vec();
+        let number = buffer as u64 + 1;
+        let name = format!("n = {}, buffer {number} of {length} bytes", whole.n);
+        let case = Case::new(name, call);
+        if length < needed {
+            case.with_known(Outcome::Refused(2, number))
+        } else {
+            case
+        }
+    };
+    (0..=bytes.len()).map(with_length).collect()
+}
+
+/// Sizes above 96 over buffers that would do for a small graph.
+pub fn sizes_above_96() -> impl Iterator<Item = Case> {
+    let mut random = Random::new(11);
+    let fixed = [
+        97,
+        98,
+        127,
+        128,
+        192,
+        200,
+        255,
+        256,
+        65536,
+        1 << 32,
+        1 << 63,
+        u64::MAX,
+    ];
+    (0..400).map(move |round| {
+        let n = random.between(0, 6);
+        let graph = graphs::any(&mut random, n);
+        let mut call = Call::new(&mut random, &graph, 5);
+        call.n = match fixed.get(round) {
+            Some(&size) => size,
+            None => any_large_size(&mut random),
+        };
+        let name = format!("size {}, round {round}", call.n);
+        Case::new(name, call).with_known(Outcome::Refused(1, 0))
+    })
+}
+
+/// Some calls over and over, in random order.
+pub fn repeated_calls() -> impl Iterator<Item = Case> {
+    let mut random = Random::new(12);
+    let mut any_call = || {
+        let n = random.between(0, 20);
+        let graph = graphs::any(&mut random, n);
+        Call::new(&mut random, &graph, 3)
+    };
+    let calls: Vec<Call> = (0..200).map(|_| any_call()).collect();
+    (0..600).map(move |round| {
+        let number = random.below(calls.len());
+        let name = format!("repeated calls, round {round}, call {number}");
+        Case::new(name, calls[number].clone())
+    })
+}
+
+/// Each of the first with each of the second.
+fn with_each<A: Copy, B: Copy, const N: usize>(
+    first: impl Iterator<Item = A>,
+    second: [B; N],
+) -> impl Iterator<Item = (A, B)> {
+    first.flat_map(move |a| second.map(|b| (a, b)))
+}
