@@ -6,7 +6,7 @@ ghost use lib.ListN.{length, take};
 ghost use Rattle.residue.specs.Modulus.{modulus};
 ghost use Rattle.matching.specs.Pairs.{everything};
 ghost use Rattle.matching.specs.Session.{onto};
-ghost use Rattle.matching.specs.Host.{words, bytes-of, opening-number, HostOpens};
+ghost use Rattle.matching.specs.Host.{words, bytes-of, opening-number, HostOpens, HostOpenedExactly};
 ghost use Rattle.opening.specs.Solved.{opening-of, buffers};
 ghost use Rattle.host.specs.Room.{Room, needed};
 ghost use Rattle.host.specs.Opened.{Small, extent, OpensOver, OpensBytes};
@@ -41,6 +41,14 @@ fn pack(words: &[u16], bytes: &mut [u8])
         bytes[2 * i + 1] = (words[i] / 256) as u8;
         i += 1;
     }
+}
+
+// The bytes of the first words, so many of them.
+fn store(words: &[u16], count: usize, bytes: &mut [u8])
+    requires { ⌜ (count ≤ length (now words)) × (2 * count ≤ length (now bytes)) ⌝ }
+    ensures { λ _. ⌜ now (bytes .exit) ≡ onto (bytes-of (take count (now (words .entry)))) (now (bytes .entry)) ⌝ }
+{
+    pack(&words[..count], bytes);
 }
 
 // How many words this many bytes hold, counted up to the most that matter.
@@ -103,9 +111,9 @@ fn open_over(
     let o = opening::begin(n, adjacency, weights, table, sequence, vector, scratch);
     let m = stored(n, o);
     let size = m * m;
-    pack(&table[..size], inverse);
-    pack(&vector[..m], witness);
-    pack(&scratch[..size], work);
+    store(table, size, inverse);
+    store(vector, m, witness);
+    store(scratch, size, work);
     number(o)
 }
 
@@ -155,6 +163,7 @@ pub extern "C" fn saszvigom_open(
     work: &mut [u8],
 ) -> u64
     ensures { λ r. ⌜ HostOpens modulus n (now (adjacency .entry)) (now (weights .entry)) everything (buffers (now (inverse .entry)) (now (sequence .entry)) (now (witness .entry)) (now (work .entry))) r (buffers (now (inverse .exit)) (now (sequence .exit)) (now (witness .exit)) (now (work .exit))) ⌝ }
+    ensures { λ r. ⌜ HostOpenedExactly modulus n (now (adjacency .entry)) (now (weights .entry)) everything (buffers (now (inverse .entry)) (now (sequence .entry)) (now (witness .entry)) (now (work .entry))) r ⌝ }
 {
     let mut table = [0u16; 9216];
     let mut vector = [0u16; 96];

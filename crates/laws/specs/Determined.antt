@@ -1,6 +1,7 @@
 -- One buffer only holds an inverse or a witness; opening has exactly one outcome, and opens exactly when there is an inverse. Assumes
 -- nothing.
 use mathlib.Core.Path.{_≡_, refl, sym, ap, ap₂, _∙_}
+use mathlib.Core.Logic.{_↔_}
 use mathlib.Core.List.{List, []}
 use Prim.Native.Nat.{ℕ, zero, suc, _+_, _*_, _/_, _%_, _<_}
 use native.Mathlib.Nat.{mod-lt}
@@ -17,11 +18,12 @@ use Rattle.skew.specs.Inverse.{Matrix, Inverse, Invertible, apply-congruent, in
 use Rattle.skew.specs.Column.{FirstDependent, Witness, witness-unique}
 use Rattle.skew.specs.Decide.{Outcome, inverse, column, eliminate, witness-singular, first-unique}
 use Rattle.matching.specs.Decision.{Every, Ruling, accepted, refused}
-use Rattle.matching.specs.Graph.{Graph, tutte}
+use Rattle.matching.specs.Graph.{Graph, over, tutte}
 use Rattle.matching.specs.Pairs.{everything}
 use Rattle.matching.specs.Model.{skew}
 use Rattle.matching.specs.Session.{Session, session, InverseTable}
-use Rattle.matching.specs.Opening.{Opening, opened, dependent, not-opened, Buffers, Singular, ruling, with-inverse, with-witness, Opens, refuses-opening, opens, depends}
+use Rattle.matching.specs.Opening.{Opening, opened, dependent, not-opened, Buffers, Singular, ruling, with-inverse, with-witness, Opens, refuses-opening, opens, depends, OpenedExactly}
+use Rattle.matching.specs.Host.{words, opening-number, unpacked, HostOpens, HostOpenedExactly}
 
 pub count-everything : (n : ℕ) → count n everything ≡ n
 count-everything zero = count-none everything
@@ -133,15 +135,27 @@ module _ {p : ℕ} (P : OddPrime p) (g : Graph) (S : Subset) where
 
 -- demand 2: a graph that is not refused is opened exactly when its matrix has an inverse
 module _ {p : ℕ} (P : OddPrime p) (g : Graph) (S : Subset) where
-  pub opened-only : {b a : Buffers} {s : Session} → Opens p g S b (opened s) a → Invertible p (g .n) (tutte g p) S
-  opened-only (opens words e l h) = (_, h .is-inverse)
+  pub opened-exactly : {b a : Buffers} {o : Opening} → Opens p g S b o a → OpenedExactly p g S b o
+  opened-exactly (refuses-opening r e) ok = absurd (let z : _≡_ {A = ℕ} 0 1 = cc in omega arith)
+  opened-exactly (opens entries e l h) ok = (λ _. (_, h .is-inverse), λ _. refl)
+  opened-exactly (depends f w e l s) ok = (
+    λ q. absurd (let z : _≡_ {A = ℕ} 0 1 = cc in omega arith),
+    λ I. absurd (witness-singular P (g .n) (tutte g p) (skew P g S) S (s .kernel) I),
+  )
 
-  pub opened-always : {b a : Buffers} {o : Opening} → ruling p g b ≡ accepted → Invertible p (g .n) (tutte g p) S → Opens p g S b o a
-      → o ≡ opened (session (g .n) [])
-  opened-always ok I (refuses-opening r e) = absurd (let z : _≡_ {A = ℕ} 0 1 = cc in omega arith)
-  opened-always ok I (opens words e l h) = refl
-  opened-always ok I (depends f w e l s) =
-      absurd (witness-singular P (g .n) (tutte g p) (skew P g S) S (s .kernel) I)
+pub host-opened-exactly : {p : ℕ} (P : OddPrime p) (S : Subset) {n answer : ℕ} {adjacency weights : List ℕ} {b after : Buffers}
+    → HostOpens p n adjacency weights S b answer after → HostOpenedExactly p n adjacency weights S b answer
+host-opened-exactly {p} P S {n} {answer} {adjacency} {weights} {b} H ok = rw (H .numbered) (go (H .outcome))
+  where
+    g : Graph
+    g = over n adjacency (words weights)
+
+    go : {o : Opening} {a : Buffers} → Opens p g S (unpacked b) o a
+        → (opening-number o ≡ opening-number (opened (session n []))) ↔ Invertible p n (tutte g p) S
+    go (refuses-opening r e) = absurd (let z : _≡_ {A = ℕ} 0 1 = cc in omega arith)
+    go (opens entries e l h) = (λ _. (_, h .is-inverse), λ _. refl)
+    go (depends f w e l s) =
+        (λ q. absurd (omega arith), λ I. absurd (witness-singular P n (tutte g p) (skew P g S) S (s .kernel) I))
 
 module _ {p : ℕ} (P : OddPrime p) (g : Graph) where
   -- an odd number of vertices never opens

@@ -1,15 +1,17 @@
 -- What crosses to the host: words as bytes, and the one 64-bit number that each call returns (document 01, "For the host";
 -- docs/HOST.md says it in words). Assumes nothing.
 use mathlib.Core.Path.{_≡_, _∙_}
+use mathlib.Core.Logic.{_↔_}
 use mathlib.Core.List.{List, [], _∷_}
 use Prim.Native.Nat.{ℕ, _+_, _*_, _/_, _%_, _^_, _<_}
 use native.Mathlib.Nat.{add-mul-mod-self-left, mod-eq-of-lt}
 use Rattle.skew.specs.Subset.{Subset}
-use Rattle.matching.specs.Decision.{Refusal}
-use Rattle.matching.specs.Graph.{over}
-use Rattle.matching.specs.Session.{Session, onto}
+use Rattle.skew.specs.Inverse.{Invertible}
+use Rattle.matching.specs.Decision.{Refusal, accepted}
+use Rattle.matching.specs.Graph.{over, tutte}
+use Rattle.matching.specs.Session.{Session, session, onto}
 use Rattle.matching.specs.Model.{Answer, done, denied}
-use Rattle.matching.specs.Opening.{Opening, opened, dependent, not-opened, Buffers, Opens}
+use Rattle.matching.specs.Opening.{Opening, opened, dependent, not-opened, Buffers, ruling, Opens}
 
 -- the words of a byte slice, low byte first; an odd last byte is none
 unfoldable pub words : List ℕ → List ℕ
@@ -65,3 +67,9 @@ pub record HostOpens (p n : ℕ) (adjacency weights : List ℕ) (S : Subset) (b 
   pub outcome : Opens p (over n adjacency (words weights)) S (unpacked b) opening buffers
   pub numbered : answer ≡ opening-number opening
   pub stored : after ≡ packed buffers b
+
+-- demand 2 through the host
+abbrev pub HostOpenedExactly : ℕ → ℕ → (adjacency weights : List ℕ) → Subset → Buffers → ℕ → Type 0
+HostOpenedExactly p n adjacency weights S b answer =
+    ruling p (over n adjacency (words weights)) (unpacked b) ≡ accepted
+    → ((answer ≡ opening-number (opened (session n []))) ↔ Invertible p n (tutte (over n adjacency (words weights)) p) S)

@@ -1,10 +1,12 @@
 -- Opening: the inverse, or the first dependent column with its witness, or a refusal; and every buffer afterwards. Assumes nothing.
 use mathlib.Core.Path.{_≡_}
+use mathlib.Core.Logic.{_↔_}
 use mathlib.Core.List.{List, []}
 use Prim.Native.Nat.{ℕ, _*_, _<_}
 use lib.ListN.{length, getD, replicate}
 use Rattle.lists.specs.Table.{vector}
 use Rattle.skew.specs.Subset.{Subset}
+use Rattle.skew.specs.Inverse.{Invertible}
 use Rattle.skew.specs.Column.{FirstDependent, Witness}
 use Rattle.matching.specs.Decision.{Every, Refusal, Ruling, accepted, refused}
 use Rattle.matching.specs.Graph.{Graph, tutte}
@@ -59,3 +61,7 @@ pub data Opens (p : ℕ) (g : Graph) (S : Subset) (b : Buffers) : Opening → Bu
       → Opens p g S b (opened (session (g .n) [])) (with-inverse (g .n) inverse b)
   depends : (f : ℕ) (witness : List ℕ) → ruling p g b ≡ accepted → length witness ≡ g .n → Singular p g S f witness
       → Opens p g S b (dependent f) (with-witness (g .n) witness b)
+
+-- demand 2: a graph that is not refused is opened exactly when its matrix has an inverse
+abbrev pub OpenedExactly : ℕ → Graph → Subset → Buffers → Opening → Type 0
+OpenedExactly p g S b o = ruling p g b ≡ accepted → ((o ≡ opened (session (g .n) [])) ↔ Invertible p (g .n) (tutte g p) S)

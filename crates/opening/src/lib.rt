@@ -8,7 +8,7 @@ ghost use lib.ListN.{length, replicate};
 ghost use Rattle.residue.specs.Modulus.{modulus};
 ghost use Rattle.matching.specs.Graph.{over};
 ghost use Rattle.matching.specs.Pairs.{everything};
-ghost use Rattle.matching.specs.Opening.{Opens};
+ghost use Rattle.matching.specs.Opening.{Opens, OpenedExactly};
 ghost use Rattle.tutte.specs.Table.{Lent};
 ghost use Rattle.elimination.specs.Words.{Below};
 ghost use Rattle.opening.specs.Solved.{InRange, Solved, Ready, opening-of, buffers};
@@ -168,6 +168,7 @@ pub fn begin(
     work: &mut [u16],
 ) -> Opening
     ensures { λ o. ⌜ Opens modulus (over n (now (adjacency .entry)) (now (weights .entry))) everything (buffers (now (inverse .entry)) (now (sequence .entry)) (now (witness .entry)) (now (work .entry))) (opening-of o) (buffers (now (inverse .exit)) (now (sequence .exit)) (now (witness .exit)) (now (work .exit))) ⌝ }
+    ensures { λ o. ⌜ OpenedExactly modulus (over n (now (adjacency .entry)) (now (weights .entry))) everything (buffers (now (inverse .entry)) (now (sequence .entry)) (now (witness .entry)) (now (work .entry))) (opening-of o) ⌝ }
 {
     let ruling = checks::judge_opening(
         n,

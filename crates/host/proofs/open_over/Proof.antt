@@ -1,15 +1,23 @@
 -- `host::open_over` meets its contract: the words that opening leaves are within the lent ones and are stored as bytes.
 -- Assumes nothing.
-use mathlib.Core.Path.{refl, sym}
+use mathlib.Core.Path.{refl}
 use native.Mathlib.Omega.{arith}
-use lib.Seq.{length-take-le}
 use borrow.Author.Needs.{needs}
 use Rattle.lists.specs.Table.{square-small}
-use Rattle.opening.specs.Solved.{opening-of}
-use Rattle.host.specs.Room.{part-fits}
-use Rattle.host.specs.Opened.{opens-within, opens-small, same-buffers}
+use Rattle.matching.specs.Opening.{Buffers}
+use Rattle.opening.specs.Solved.{opening-of, buffers}
+use Rattle.host.specs.Opened.{Within, opens-within, opens-small, same-buffers}
 use Rattle.host.proofs.open_over.Statement.{statement}
 use Rattle.host.proofs.open_over.Tie as tie
+
+-- what opening leaves in the lent words
+abbrev left : tie.After-begin → Buffers
+left at = let l = at .begin .last .1 .1 .1 in buffers (l .0) (l .1 .0) (l .1 .1 .0) (l .1 .1 .1 .0)
+
+-- and that what is stored of it is there
+within : (at : tie.After-stored) → Within (at .stored .result) (left (at .before .before .before .before .before .before .before .before .before))
+within at =
+    rw (← at .stored .ensures) at (opens-within (at .before .before .before .before .before .before .before .before .before .begin .ensures .0))
 
 begin-requires : tie.Need-begin-requires
 begin-requires c κs = search needs
@@ -18,57 +26,33 @@ stored-requires : tie.Need-stored-requires
 stored-requires c κs = search needs
 
 mul-size : tie.Need-mul-size
-mul-size c =
-    let W = rw (← c .stored .ensures) at (opens-within (c .before .before .before .before .before .before .before .before .before .begin .ensures)) in
-    record { fits = omega (arith, square-small _ (W .size)) }
+mul-size c = record { fits = omega (arith, square-small _ (within c .size)) }
 
-slice-reshare-prefix-pack : tie.Need-slice-reshare-prefix-pack
-slice-reshare-prefix-pack c =
-    let W = rw (← c .stored .ensures) at (opens-within (c .before .before .before .before .before .before .before .before .before .begin .ensures)) in
-    W .inverse
+store-requires : tie.Need-store-requires
+store-requires c κs =
+    let told = c .before .before in
+    let begun = told .before .before .before .before .before .before .before .before .before in
+    let s = begun .before .before .before .before .before .before .before .before .before .before .before .before .before .before in
+    (within told .inverse, omega (arith, within told .inverse, begun .begin .kept .1 .1 .1 .0, s .pre .0))
 
-slice-aggregate-pack : tie.Need-slice-aggregate-pack
-slice-aggregate-pack c =
-    let W = rw (← c .before .stored .ensures) at (opens-within (c .before .before .before .before .before .before .before .before .before .before .begin .ensures)) in
-    sym (length-take-le _ _ (W .inverse))
+store-requires-2 : tie.Need-store-requires-2
+store-requires-2 c κs =
+    let told = c .before .before .before .before .before .before .before in
+    let begun = told .before .before .before .before .before .before .before .before .before in
+    let s = begun .before .before .before .before .before .before .before .before .before .before .before .before .before .before in
+    (within told .witness, omega (arith, within told .witness, begun .begin .kept .1 .1 .1 .1 .1 .0, s .pre .1))
 
-pack-requires : tie.Need-pack-requires
-pack-requires c κs =
-    let W = rw (← c .before .before .stored .ensures) at (opens-within (c .before .before .before .before .before .before .before .before .before .before .before .begin .ensures)) in
-    part-fits _ _ (c .before .before .before .before .before .before .before .before .before .before .before .before .before .before .before .before .before .before .before .before .before .before .before .before .before .args .table .now) (W .inverse) (c .before .before .before .before .before .before .before .before .before .before .table .given) (c .before .before .before .before .before .before .before .before .before .before .before .before .before .before .before .before .before .before .before .before .before .before .before .before .before .pre .0)
-
-slice-reshare-prefix-pack-2 : tie.Need-slice-reshare-prefix-pack-2
-slice-reshare-prefix-pack-2 c =
-    let W = rw (← c .before .before .before .before .before .stored .ensures) at (opens-within (c .before .before .before .before .before .before .before .before .before .before .before .before .before .before .begin .ensures)) in
-    W .witness
-
-slice-aggregate-pack-2 : tie.Need-slice-aggregate-pack-2
-slice-aggregate-pack-2 c =
-    let W = rw (← c .before .before .before .before .before .before .stored .ensures) at (opens-within (c .before .before .before .before .before .before .before .before .before .before .before .before .before .before .before .begin .ensures)) in
-    sym (length-take-le _ _ (W .witness))
-
-pack-requires-2 : tie.Need-pack-requires-2
-pack-requires-2 c κs =
-    let W = rw (← c .before .before .before .before .before .before .before .stored .ensures) at (opens-within (c .before .before .before .before .before .before .before .before .before .before .before .before .before .before .before .before .begin .ensures)) in
-    part-fits _ _ (c .before .before .before .before .before .before .before .before .before .before .before .before .before .before .before .before .before .before .before .before .before .before .before .before .before .before .before .before .before .before .args .vector .now) (W .witness) (c .before .before .before .before .before .before .before .before .before .before .before .vector .given) (c .before .before .before .before .before .before .before .before .before .before .before .before .before .before .before .before .before .before .before .before .before .before .before .before .before .before .before .before .before .before .pre .1)
-
-slice-reshare-prefix-pack-3 : tie.Need-slice-reshare-prefix-pack-3
-slice-reshare-prefix-pack-3 c =
-    let W = rw (← c .before .before .before .before .before .before .before .before .before .before .stored .ensures) at (opens-within (c .before .before .before .before .before .before .before .before .before .before .before .before .before .before .before .before .before .before .before .begin .ensures)) in
-    W .work
-
-slice-aggregate-pack-3 : tie.Need-slice-aggregate-pack-3
-slice-aggregate-pack-3 c =
-    let W = rw (← c .before .before .before .before .before .before .before .before .before .before .before .stored .ensures) at (opens-within (c .before .before .before .before .before .before .before .before .before .before .before .before .before .before .before .before .before .before .before .before .begin .ensures)) in
-    sym (length-take-le _ _ (W .work))
-
-pack-requires-3 : tie.Need-pack-requires-3
-pack-requires-3 c κs =
-    let W = rw (← c .before .before .before .before .before .before .before .before .before .before .before .before .stored .ensures) at (opens-within (c .before .before .before .before .before .before .before .before .before .before .before .before .before .before .before .before .before .before .before .before .before .begin .ensures)) in
-    part-fits _ _ (c .before .before .before .before .before .before .before .before .before .before .before .before .before .before .before .before .before .before .before .before .before .before .before .before .before .before .before .before .before .before .before .before .before .before .before .args .scratch .now) (W .work) (c .before .before .before .before .before .before .before .before .before .before .before .before .before .before .scratch .given) (c .before .before .before .before .before .before .before .before .before .before .before .before .before .before .before .before .before .before .before .before .before .before .before .before .before .before .before .before .before .before .before .before .before .before .before .pre .2)
+store-requires-3 : tie.Need-store-requires-3
+store-requires-3 c κs =
+    let told = c .before .before .before .before .before .before .before .before .before .before .before .before in
+    let begun = told .before .before .before .before .before .before .before .before .before in
+    let s = begun .before .before .before .before .before .before .before .before .before .before .before .before .before .before in
+    (within told .work, omega (arith, within told .work, begun .begin .kept .1 .1 .1 .1 .1 .1 .0, s .pre .2))
 
 number-requires : tie.Need-number-requires
-number-requires c κs = opens-small (c .before .before .before .before .before .before .before .before .before .before .before .before .before .before .before .before .before .before .before .before .before .before .before .before .begin .ensures)
+number-requires c κs =
+    let told = c .before .before .before .before .before .before .before .before .before .before .before .before .before .before .before in
+    opens-small (told .before .before .before .before .before .before .before .before .before .begin .ensures .0)
 
 same-length : tie.Need-same-length
 same-length c = search needs
@@ -93,12 +77,17 @@ same-length-7 c = search needs
 
 returns : tie.Need-returns
 returns c =
+    let third = c .before .before .before in
+    let second = third .before .before .before .before .before in
+    let first = second .before .before .before .before .before in
+    let told = first .before .before .before in
+    let begun = told .before .before .before .before .before .before .before .before .before in
     record {
-      opening = opening-of (c .before .before .before .before .before .before .before .before .before .before .before .before .before .before .before .before .before .before .before .before .before .before .before .before .before .begin .result);
-      left = _;
-      outcome = c .before .before .before .before .before .before .before .before .before .before .before .before .before .before .before .before .before .before .before .before .before .before .before .before .before .begin .ensures;
+      opening = opening-of (begun .begin .result);
+      left = left begun;
+      outcome = begun .begin .ensures .0;
       numbered = c .number .ensures;
-      stored = rw (← c .before .before .before .before .before .before .before .before .before .before .before .before .before .before .before .before .stored .ensures) (same-buffers (c .before .before .before .before .before .before .before .before .before .before .before .before .before .pack .ensures) refl (c .before .before .before .before .before .before .before .before .pack2 .ensures) (c .before .before .before .pack3 .ensures));
+      stored = rw (← told .stored .ensures) (same-buffers (first .store .ensures) refl (second .store2 .ensures) (third .store3 .ensures));
     }
 
 pub open-over-spec : {M : Type 1} → statement M
@@ -108,15 +97,9 @@ open-over-spec =
     begin-requires
     stored-requires
     mul-size
-    slice-reshare-prefix-pack
-    slice-aggregate-pack
-    pack-requires
-    slice-reshare-prefix-pack-2
-    slice-aggregate-pack-2
-    pack-requires-2
-    slice-reshare-prefix-pack-3
-    slice-aggregate-pack-3
-    pack-requires-3
+    store-requires
+    store-requires-2
+    store-requires-3
     number-requires
     same-length
     same-length-2

@@ -3,6 +3,8 @@ use mathlib.Core.Path.{refl, sym}
 use native.Mathlib.Omega.{arith}
 use borrow.Author.Needs.{needs}
 use Rattle.lists.specs.Part.{length-part}
+use Rattle.residue.specs.Modulus.{modulus-prime}
+use Rattle.laws.specs.Determined.{host-opened-exactly}
 use Rattle.host.specs.Room.{part-room}
 use Rattle.host.specs.Opened.{host-opens}
 use Rattle.host.proofs.saszvigom_open.Statement.{statement}
@@ -57,6 +59,7 @@ returns c =
     let opened = c .before .before .before .before .before .before .before .before .before .before .before in
     let counted = opened .before .before .before .before .before .before .before .before in
     let known = counted .before .before .before in
+    let o =
     host-opens (opened .open-bytes .ensures)
     (record {
       inverse = part-room (counted .before .before .room .ensures);
@@ -64,7 +67,8 @@ returns c =
       witness = part-room (counted .before .room2 .ensures);
       work = part-room (counted .room3 .ensures);
     })
-    (λ x. omega (arith, known .before .before .before .slice-known .given x)) (λ x. omega (arith, known .before .slice-known3 .given x)) (λ x. omega (arith, known .slice-known4 .given x))
+    (λ x. omega (arith, known .before .before .before .slice-known .given x)) (λ x. omega (arith, known .before .slice-known3 .given x)) (λ x. omega (arith, known .slice-known4 .given x)) in
+    (o, host-opened-exactly modulus-prime _ o)
 
 pub saszvigom-open-spec : {M : Type 1} → statement M
 saszvigom-open-spec =
