@@ -6,6 +6,7 @@ use Prim.Native.Nat.{ℕ, _+_, _-_, _≤_, _<_, zero-le}
 use native.Mathlib.Nat.{mod-lt}
 use native.Mathlib.Omega.{arith}
 use lib.Dec.{lit<}
+use lib.ListN.{length}
 use borrow.Author.Needs.{needs}
 use Rattle.lists.specs.Table.{table}
 use Rattle.elimination.specs.Words.{words-below}
@@ -32,6 +33,33 @@ at-end f n l h = omega arith
 next : (f n : ℕ) → f < n → f + 1 ≤ n
 next f n l = omega arith
 
+-- the places before a place: where the negatives are taken, where the turn begins, and where the function starts
+abbrev negating : tie.After-first-nonzero Inv-loop μ-loop → tie.After-negatives Inv-loop μ-loop
+negating at = at .before .before .before .before
+
+abbrev turning : tie.After-negatives Inv-loop μ-loop → tie.In-loop Inv-loop μ-loop
+turning at = at .before .before .before
+
+abbrev start : tie.At-loop Inv-loop μ-loop → tie.Start Inv-loop μ-loop
+start at = at .before .before .before .before .before .before .before .before .before
+
+-- the lengths at the head of a turn are those at the start
+sizes : (at : tie.At-loop Inv-loop μ-loop)
+    → (length (at .loop .w) ≡ length (start at .args .w .now)) × (length (at .loop .r) ≡ length (start at .args .r .now))
+    × (length (at .loop .witness) ≡ length (start at .args .witness .now)) × (length (at .loop .factors) ≡ length (start at .args .factors .now))
+sizes at =
+    let k = at .loop .inv .0 in
+    let given = start at .pre in (
+      k .w-size ∙ sym (given .0 .w-square .size),
+      k .r-size ∙ sym (given .0 .r-square .size),
+      k .witness-size ∙ sym (given .0 .witness-size),
+      k .factors-size ∙ sym (given .1),
+    )
+
+-- as many negatives as rows
+count : (at : tie.After-negatives Inv-loop μ-loop) → length (at .negatives .last .1 .1 .1 .0) ≡ start (turning at .before) .args .n
+count at = at .negatives .kept .1 .1 .1 .0 ∙ turning at .before .loop .inv .0 .factors-size
+
 write-unit-requires : tie.Need-write-unit-requires Inv-loop μ-loop
 write-unit-requires c κs = search needs
 
@@ -53,128 +81,142 @@ loop-holds c =
 
 negatives-requires : tie.Need-negatives-requires Inv-loop μ-loop
 negatives-requires c κs =
-    let at = c .before .before .before .loop .inv .0 in
-    let s = c .before .before .before .before .before .before .before .before .before .before .before .before in
-    (record { small = s .pre .0 .w-square .small; size = at .w-size }, c .before .before .loop-test .taken, at .factors-size)
+    let turn = c .before .before in
+    let k = turn .before .loop .inv .0 in
+    (record { small = start (turn .before) .pre .0 .w-square .small; size = k .w-size }, turn .loop-test .taken, k .factors-size)
 
 first-nonzero-requires : tie.Need-first-nonzero-requires Inv-loop μ-loop
 first-nonzero-requires c κs =
-    let at = c .before .before .before .before .before .before .before .loop .inv .0 in
-    let l = at .reached in
-    let e = c .before .before .before .negatives .kept .1 .1 .1 .0 ∙ at .factors-size in
+    let negated = c .before .before .before in
+    let l = turning negated .before .loop .inv .0 .reached in
+    let e = count negated in
     omega arith
 
 write-witness-requires : tie.Need-write-witness-requires Inv-loop μ-loop
 write-witness-requires c κs =
-    let at = c .before .before .before .before .before .before .before .before .before .before .before .loop .inv .0 in
-    let k = c .before .before .before .before .before .before .before .negatives in
-    (at .witness-size ∙ sym (k .kept .1 .1 .1 .0 ∙ at .factors-size), words-below (k .ensures) (λ m. mod-lt _ (lit< tt)))
+    let negated = c .before .before .before .before .before .before .before in
+    (turning negated .before .loop .inv .0 .witness-size ∙ sym (count negated), words-below (negated .negatives .ensures) (λ m. mod-lt _ (lit< tt)))
 
 same-length : tie.Need-same-length Inv-loop μ-loop
-same-length c = c .before .before .before .before .before .before .before .before .before .before .before .before .before .before .loop .inv .0 .w-size ∙ sym (c .before .before .before .before .before .before .before .before .before .before .before .before .before .before .before .before .before .before .before .before .before .before .before .pre .0 .w-square .size)
+same-length c = sizes (turning (c .before .before .before .before .before .before .before .before .before .before) .before) .0
 
 same-length-2 : tie.Need-same-length-2 Inv-loop μ-loop
-same-length-2 c = c .before .before .before .before .before .before .before .before .before .before .before .before .before .before .loop .inv .0 .r-size ∙ sym (c .before .before .before .before .before .before .before .before .before .before .before .before .before .before .before .before .before .before .before .before .before .before .before .pre .0 .r-square .size)
+same-length-2 c = sizes (turning (c .before .before .before .before .before .before .before .before .before .before) .before) .1
 
 same-length-3 : tie.Need-same-length-3 Inv-loop μ-loop
-same-length-3 c = c .before .before .write-witness .kept .1 .1 .0 ∙ c .before .before .before .before .before .before .before .before .before .before .before .before .before .before .loop .inv .0 .witness-size ∙ sym (c .before .before .before .before .before .before .before .before .before .before .before .before .before .before .before .before .before .before .before .before .before .before .before .pre .0 .witness-size)
+same-length-3 c = c .before .before .write-witness .kept .1 .1 .0 ∙ sizes (turning (c .before .before .before .before .before .before .before .before .before .before) .before) .2
 
 same-length-4 : tie.Need-same-length-4 Inv-loop μ-loop
-same-length-4 c = c .before .before .before .before .before .before .before .before .before .before .negatives .kept .1 .1 .1 .0 ∙ c .before .before .before .before .before .before .before .before .before .before .before .before .before .before .loop .inv .0 .factors-size ∙ sym (c .before .before .before .before .before .before .before .before .before .before .before .before .before .before .before .before .before .before .before .before .before .before .before .pre .1)
+same-length-4 c = c .before .before .before .before .before .before .before .before .before .before .negatives .kept .1 .1 .1 .0 ∙ sizes (turning (c .before .before .before .before .before .before .before .before .before .before) .before) .3
 
 returns : tie.Need-returns Inv-loop μ-loop
 returns c =
-    let at = c .before .before .before .before .before .before .before .before .before .before .before .before .before .before .loop .inv .0 in
-    let k = c .before .before .before .before .before .before .before .before .before .before .negatives in
-    let v = c .before .before .write-witness in
-    let factors-size = k .kept .1 .1 .1 .0 ∙ at .factors-size in
-    let witness-size = v .kept .1 .1 .0 ∙ at .witness-size in
-    let found = rw (c .before .before .before .before .before .if1 .taken) at (c .before .before .before .before .before .before .first-nonzero .ensures) in
-    let witness = state-witness (at .state) (c .before .before .before .before .before .before .before .before .before .before .before .before .before .loop-test .taken) factors-size witness-size (k .ensures) found (v .ensures) in
+    let written = c .before .before in
+    let tested = written .before .before .before in
+    let sought = tested .before in
+    let negated = negating sought in
+    let turn = turning negated in
+    let k = turn .before .loop .inv .0 in
+    let witness-size = written .write-witness .kept .1 .1 .0 ∙ k .witness-size in
+    let found = rw (tested .if1 .taken) at (sought .first-nonzero .ensures) in
+    let witness =
+    state-witness (k .state) (turn .loop-test .taken) (count negated) witness-size (negated .negatives .ensures) found (written .write-witness .ensures) in
     record {
-      first = state-first (at .state) witness;
+      first = state-first (k .state) witness;
       kernel = witness;
-      below = witness-below _ (witness-size ∙ sym factors-size) (words-below (k .ensures) (λ m. mod-lt _ (lit< tt))) (v .ensures);
+      below = witness-below _ (witness-size ∙ sym (count negated)) (words-below (negated .negatives .ensures) (λ m. mod-lt _ (lit< tt))) (written .write-witness .ensures);
     }
 
 wider-requires : tie.Need-wider-requires Inv-loop μ-loop
 wider-requires c κs =
-    let at = c .before .before .before .before .before .before .before .before .before .loop .inv .0 in
-    (at .width, below _ _ _ (c .before .first-nonzero .ensures .to) (c .before .before .before .before .before .negatives .kept .1 .1 .1 .0 ∙ at .factors-size) (c .if1 .left))
+    let negated = negating (c .before) in
+    (turning negated .before .loop .inv .0 .width, below _ _ _ (c .before .first-nonzero .ensures .to) (count negated) (c .if1 .left))
 
 step-requires : tie.Need-step-requires Inv-loop μ-loop
 step-requires c κs =
-    let at = c .before .before .before .before .before .before .before .before .before .before .before .before .before .loop .inv .0 in
-    let s = c .before .before .before .before .before .before .before .before .before .before .before .before .before .before .before .before .before .before .before .before .before .before in
-    let k = c .before .before .before .before .before .before .before .before .before .negatives in
-    let found = c .before .before .before .before .before .first-nonzero .ensures in
-    let e = k .kept .1 .1 .1 .0 ∙ at .factors-size in
-    let l = below _ _ _ (found .to) e (c .before .before .before .before .if1 .left) in
-    let room = small _ _ (at .reached) (s .pre .0 .w-square .small) in
+    let widened = c .before .before .before in
+    let tested = widened .before in
+    let sought = tested .before in
+    let negated = negating sought in
+    let turn = turning negated in
+    let k = turn .before .loop .inv .0 in
+    let given = start (turn .before) .pre .0 in
+    let found = sought .first-nonzero .ensures in
+    let l = below _ _ _ (found .to) (count negated) (tested .if1 .left) in
+    let room = small _ _ (k .reached) (given .w-square .small) in
     record {
-      w-square = record { small = s .pre .0 .w-square .small; size = at .w-size };
-      r-square = record { small = s .pre .0 .w-square .small; size = at .r-size };
-      w-within = within-limit room (at .state .left-within);
-      r-within = within-limit room (at .state .right-within);
-      f-below = c .before .before .before .before .before .before .before .before .before .before .before .before .loop-test .taken;
+      w-square = record { small = given .w-square .small; size = k .w-size };
+      r-square = record { small = given .w-square .small; size = k .r-size };
+      w-within = within-limit room (k .state .left-within);
+      r-within = within-limit room (k .state .right-within);
+      f-below = turn .loop-test .taken;
       c-below = l;
-      width = c .before .before .before .wider .ensures .2;
-      size = e;
-      negatives = k .ensures;
-      nonzero = found .nonzero (rw (← e) at l);
+      width = widened .wider .ensures .2;
+      size = count negated;
+      negatives = negated .negatives .ensures;
+      nonzero = found .nonzero (rw (← count negated) at l);
     }
 
 add-f : tie.Need-add-f Inv-loop μ-loop
-add-f c = omega (arith, next _ _ (c .before .before .before .before .before .before .before .before .before .before .before .before .before .before .before .before .before .before .before .loop-test .taken), c .before .before .before .before .before .before .before .before .before .before .before .before .before .before .before .before .before .before .before .before .before .before .before .before .before .before .before .before .before .pre .0 .w-square .small)
+add-f c =
+    let stepped = c .before .before .before .before .before .before in
+    let turn = turning (negating (stepped .before .before .before .before .before .before)) in
+    omega (arith, next _ _ (turn .loop-test .taken), start (turn .before) .pre .0 .w-square .small)
 
 loop-less : tie.Need-loop-less Inv-loop μ-loop
-loop-less c = let t = c .before .before .before .before .before .before .before .before .before .before .before .before .before .before .before .before .before .before .before .loop-test .taken in omega arith
+loop-less c = let t = turning (negating (c .before .before .before .before .before .before .before .before .before .before .before .before)) .loop-test .taken in omega arith
 
 loop-again : tie.Need-loop-again Inv-loop μ-loop
 loop-again c =
-    let at = c .before .before .before .before .before .before .before .before .before .before .before .before .before .before .before .before .before .before .before .before .loop .inv .0 in
-    let k = c .before .before .before .before .before .before .before .before .before .before .before .before .before .before .before .before .negatives in
-    let found = c .before .before .before .before .before .before .before .before .before .before .before .before .first-nonzero .ensures in
-    let t = c .before .before .before .before .before .before .step in
-    let wide = c .before .before .before .before .before .before .before .before .before .before .wider .ensures in
-    let e = k .kept .1 .1 .1 .0 ∙ at .factors-size in
-    let turn = c .before .before .before .before .before .before .before .before .before .before .before .before .before .before .before .before .before .before .before .loop-test .taken in (
+    let stepped = c .before .before .before .before .before .before in
+    let widened = stepped .before .before .before .before in
+    let tested = widened .before in
+    let sought = tested .before in
+    let negated = negating sought in
+    let turn = turning negated in
+    let k = turn .before .loop .inv .0 in
+    let found = sought .first-nonzero .ensures in
+    let wide = widened .wider .ensures in
+    let t = stepped .step in (
       record {
-        state = state-step (at .state) turn (found .from) (below _ _ _ (found .to) e (c .before .before .before .before .before .before .before .before .before .before .before .if1 .left)) (wide .0) (wide .1) (t .ensures);
-        reached = next _ _ turn;
+        state =
+            state-step (k .state) (turn .loop-test .taken) (found .from) (below _ _ _ (found .to) (count negated) (tested .if1 .left)) (wide .0) (wide .1)
+            (t .ensures);
+        reached = next _ _ (turn .loop-test .taken);
         width = wide .2;
-        w-size = t .kept .1 .1 .1 .1 .0 ∙ at .w-size;
-        r-size = t .kept .1 .1 .1 .1 .1 .0 ∙ at .r-size;
-        witness-size = at .witness-size;
-        factors-size = t .kept .1 .1 .1 .1 .1 .1 .0 ∙ e;
+        w-size = t .kept .1 .1 .1 .1 .0 ∙ k .w-size;
+        r-size = t .kept .1 .1 .1 .1 .1 .0 ∙ k .r-size;
+        witness-size = k .witness-size;
+        factors-size = t .kept .1 .1 .1 .1 .1 .1 .0 ∙ count negated;
       },
-      c .before .before .before .before .before .before .before .before .before .before .before .before .before .before .before .before .before .before .before .before .loop .inv .1,
+      turn .before .loop .inv .1,
     )
 
 reduce-requires : tie.Need-reduce-requires Inv-loop μ-loop
 reduce-requires c κs = search needs
 
 same-length-5 : tie.Need-same-length-5 Inv-loop μ-loop
-same-length-5 c = c .before .before .before .before .before .loop .inv .0 .w-size ∙ sym (c .before .before .before .before .before .before .before .before .before .before .before .before .before .before .pre .0 .w-square .size)
+same-length-5 c = sizes (c .before .before .before .before .before) .0
 
 same-length-6 : tie.Need-same-length-6 Inv-loop μ-loop
-same-length-6 c = c .before .before .reduce .kept .0 ∙ c .before .before .before .before .before .loop .inv .0 .r-size ∙ sym (c .before .before .before .before .before .before .before .before .before .before .before .before .before .before .pre .0 .r-square .size)
+same-length-6 c = c .before .before .reduce .kept .0 ∙ sizes (c .before .before .before .before .before) .1
 
 same-length-7 : tie.Need-same-length-7 Inv-loop μ-loop
-same-length-7 c = c .before .before .before .before .before .loop .inv .0 .witness-size ∙ sym (c .before .before .before .before .before .before .before .before .before .before .before .before .before .before .pre .0 .witness-size)
+same-length-7 c = sizes (c .before .before .before .before .before) .2
 
 same-length-8 : tie.Need-same-length-8 Inv-loop μ-loop
-same-length-8 c = c .before .before .before .before .before .loop .inv .0 .factors-size ∙ sym (c .before .before .before .before .before .before .before .before .before .before .before .before .before .before .pre .1)
+same-length-8 c = sizes (c .before .before .before .before .before) .3
 
 returns-2 : tie.Need-returns-2 Inv-loop μ-loop
 returns-2 c =
-    let at = c .before .before .before .before .before .loop .inv .0 in
-    let e = at-end _ _ (at .reached) (c .before .before .before .before .loop-test .left) in
-    let d = c .before .before .reduce in
+    let reduced = c .before .before .reduce in
+    let ending = c .before .before .before .before in
+    let k = ending .before .loop .inv in
+    let e = at-end _ _ (k .0 .reached) (ending .loop-test .left) in
     record {
-      inverse = state-inverse (rw e at (at .state)) (d .kept .0 ∙ at .r-size) (d .ensures);
-      below = words-below (d .ensures) (λ m. mod-lt _ (lit< tt));
-      unchanged = c .before .before .before .before .before .loop .inv .1;
+      inverse = state-inverse (rw e at (k .0 .state)) (reduced .kept .0 ∙ k .0 .r-size) (reduced .ensures);
+      below = words-below (reduced .ensures) (λ m. mod-lt _ (lit< tt));
+      unchanged = k .1;
     }
 
 pub run-spec : {M : Type 1} → statement M

@@ -62,14 +62,15 @@ advance-requires c κs =
 
 advance-requires-2 : tie.Need-advance-requires-2
 advance-requires-2 c κs =
-    let s = c .before .before .before .before .before .before .before .before .before .before .before .before .before in
+    let cancelled = c .before .before .before .before .before .before .before .before in
+    let s = cancelled .before .before .before .before .before in
     let p = ready s in (
       record {
         square = s .pre .r-square;
         within = s .pre .r-within;
         f-below = s .pre .f-below;
         r-below = omega (arith, s .pre .f-below, s .pre .c-below);
-        g-below = c .before .before .before .before .before .before .before .before .cancel .ensures .below;
+        g-below = cancelled .cancel .ensures .below;
         ends = s .pre .width;
       },
       (zero-le, p .size, p .below, p .none),
@@ -86,8 +87,11 @@ same-length-3 c = search needs
 
 returns : tie.Need-returns
 returns c =
-    let s = c .before .before .before .before .before .before .before .before .before .before .before .before .before .before .before .before in
-    stepped (s .pre .c-below) (s .pre .size) (s .pre .negatives) (ready s) (c .before .before .before .before .before .before .before .before .before .before .before .cancel .ensures) (c .before .before .before .before .before .before .before .advance .ensures) (c .before .before .advance2 .ensures)
+    let right = c .before .before in
+    let left = right .before .before .before .before .before in
+    let cancelled = left .before .before .before .before in
+    let s = cancelled .before .before .before .before .before in
+    stepped (s .pre .c-below) (s .pre .size) (s .pre .negatives) (ready s) (cancelled .cancel .ensures) (left .advance .ensures) (right .advance2 .ensures)
 
 pub step-spec : {M : Type 1} → statement M
 step-spec =

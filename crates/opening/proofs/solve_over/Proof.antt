@@ -1,6 +1,6 @@
 -- `opening::solve_over` meets its contract: the filled table is the Tutte matrix, and what elimination leaves is the inverse or the
 -- witness. Assumes nothing.
-use mathlib.Core.Path.{sym, ap, _∙_}
+use mathlib.Core.Path.{_≡_, sym, ap, _∙_}
 use lib.ListN.{length, length-replicate}
 use borrow.Author.Needs.{needs}
 use Rattle.lists.specs.Values.{length-list-of}
@@ -8,6 +8,17 @@ use Rattle.matching.specs.Graph.{over}
 use Rattle.opening.specs.Solved.{filled-below, solved-inverse, solved-column}
 use Rattle.opening.proofs.solve_over.Statement.{statement}
 use Rattle.opening.proofs.solve_over.Tie as tie
+
+-- the places before a place: where the table is filled, and where the function starts
+abbrev filling : tie.After-fill-words → tie.After-fill
+filling at = at .before .before .before .before
+
+abbrev start : tie.After-fill → tie.Start
+start at = at .before .before .before .before .before .before .before .before
+
+-- what the witness is cleared to has the witness's length
+witness-length : (at : tie.After-fill-words) → length (at .fill-words .last .0) ≡ start (filling at) .args .n
+witness-length at = ap length (at .fill-words .ensures) ∙ length-replicate _ _ ∙ start (filling at) .pre .1 .3
 
 fill-requires : tie.Need-fill-requires
 fill-requires c κs = search needs
@@ -17,15 +28,15 @@ fill-words-requires c κs = search needs
 
 eliminate-requires : tie.Need-eliminate-requires
 eliminate-requires c κs =
-    let s = c .before .before .before .before .before .before .before .before .before .before .before .before .before .before .before .before .before in
+    let cleared = c .before .before .before .before .before in
+    let filled = filling cleared in
+    let s = start filled in
     let g = over (s .args .n) (s .args .adjacency .now) (s .args .weights .now) in
-    let filled = c .before .before .before .before .before .before .before .before .before .fill .ensures in
-    let cleared = c .before .before .before .before .before .fill-words .ensures in
     record {
-      w-square = record { small = s .pre .0 .0 .size; size = ap length filled ∙ length-list-of _ _ };
+      w-square = record { small = s .pre .0 .0 .size; size = ap length (filled .fill .ensures) ∙ length-list-of _ _ };
       r-square = record { small = s .pre .0 .0 .size; size = s .pre .1 .1 };
-      witness-size = ap length cleared ∙ length-replicate _ _ ∙ s .pre .1 .3;
-      w-below = rw filled (filled-below g (s .pre .0 .1));
+      witness-size = witness-length cleared;
+      w-below = rw (filled .fill .ensures) (filled-below g (s .pre .0 .1));
     }
 
 enum-told : tie.Need-enum-told
@@ -33,9 +44,11 @@ enum-told c = search needs
 
 narrow-requires : tie.Need-narrow-requires
 narrow-requires c κs =
-    let s = c .before .before .before .before .before .before .before .before .before .before .before .before .before .before .before .before .before .before .before .before .before .before .before .before .before .before .before .before in
-    let I = rw (c .before .before .enum-told .given .1) at (c .before .before .before .before .before .before .before .before .before .before .eliminate .ensures) in
-    (s .pre .1 .2 ∙ sym (c .before .before .before .before .before .before .before .r .given ∙ s .pre .1 .1), I .below)
+    let told = c .before .before in
+    let ended = told .before .before .before .before .before .before .before .before in
+    let s = start (filling (ended .before .before .before .before .before .before)) in
+    let I = rw (told .enum-told .given .1) at (ended .eliminate .ensures) in
+    (s .pre .1 .2 ∙ sym (told .before .before .before .before .before .r .given ∙ s .pre .1 .1), I .below)
 
 enum-known-outcome : tie.Need-enum-known-outcome
 enum-known-outcome c = search needs
@@ -57,13 +70,17 @@ same-length-4 c = search needs
 
 returns : tie.Need-returns
 returns c =
-    let s = c .before .before .before .before .before .before .before .before .before .before .before .before .before .before .before .before .before .before .before .before .before .before .before .before .before .before .before .before .before .before .before in
+    let narrowed = c .before .before in
+    let told = narrowed .before .before .before in
+    let ended = told .before .before .before .before .before .before .before .before in
+    let cleared = ended .before .before .before .before .before .before in
+    let filled = filling cleared in
+    let s = start filled in
     let g = over (s .args .n) (s .args .adjacency .now) (s .args .weights .now) in
-    let I = rw (c .before .before .before .before .before .enum-told .given .1) at (c .before .before .before .before .before .before .before .before .before .before .before .before .before .eliminate .ensures) in
-    let J = rw (c .before .before .before .before .before .before .before .before .before .before .before .before .before .before .before .before .before .before .before .before .before .before .before .fill .ensures) at I in
-    let l = c .before .before .before .before .before .before .before .before .before .before .r .given ∙ s .pre .1 .1 in (
-      rw (c .before .before .narrow .ensures) (solved-inverse g _ _ _ l J),
-      I .unchanged ∙ c .before .before .before .before .before .before .before .before .before .before .before .before .before .before .before .before .before .before .before .fill-words .ensures ∙ rw (s .pre .1 .3),
+    let I = rw (told .enum-told .given .1) at (ended .eliminate .ensures) in
+    let l = told .before .before .before .before .before .r .given ∙ s .pre .1 .1 in (
+      rw (narrowed .narrow .ensures) (solved-inverse g _ _ _ l (rw (filled .fill .ensures) at I)),
+      I .unchanged ∙ cleared .fill-words .ensures ∙ rw (s .pre .1 .3),
     )
 
 same-length-5 : tie.Need-same-length-5
@@ -80,12 +97,15 @@ same-length-8 c = search needs
 
 returns-2 : tie.Need-returns-2
 returns-2 c =
-    let s = c .before .before .before .before .before .before .before .before .before .before .before .before .before .before .before .before .before .before .before .before .before .before .before .before .before .before .before .before .before .before .before in
+    let told = c .before .before .before .before .before in
+    let ended = told .before .before .before .before .before .before .before .before in
+    let cleared = ended .before .before .before .before .before .before in
+    let filled = filling cleared in
+    let s = start filled in
     let g = over (s .args .n) (s .args .adjacency .now) (s .args .weights .now) in
-    let S = rw (c .before .before .before .before .before .outcome .given .1) at (c .before .before .before .before .before .before .before .before .before .before .before .before .before .eliminate .ensures) in
-    let J = rw (c .before .before .before .before .before .before .before .before .before .before .before .before .before .before .before .before .before .before .before .before .before .before .before .fill .ensures) at S in
-    let l = c .before .before .before .before .before .before .before .before .witness2 .given ∙ ap length (c .before .before .before .before .before .before .before .before .before .before .before .before .before .before .before .before .before .before .before .fill-words .ensures) ∙ length-replicate _ _ ∙ s .pre .1 .3 in
-    (solved-column g _ _ l J, c .before .before .fill-words2 .ensures ∙ rw (s .pre .1 .2))
+    let S = rw (told .outcome .given .1) at (ended .eliminate .ensures) in
+    let l = told .before .before .before .witness2 .given ∙ witness-length cleared in
+    (solved-column g _ _ l (rw (filled .fill .ensures) at S), c .before .before .fill-words2 .ensures ∙ rw (s .pre .1 .2))
 
 pub solve-over-spec : {M : Type 1} → statement M
 solve-over-spec =

@@ -75,8 +75,8 @@ returns c =
     let p = s .pre .0 in
     let k = c .before .before .before .before .before .before .before .before .promote in
     let e = k .kept .1 .1 .1 .1 .1 .1 .0 ∙ length-part (s .args .hi - s .args .lo) 96 0 (small s) in
-    let q = part-filled (s .args .hi - s .args .lo) (k .last .1 .1 .1 .1 .1 .1 .0) _ e .1 in
     let whole : s .args .lo + (s .args .hi - s .args .lo) ≡ s .args .hi = omega (arith, s .pre .1 .0) in
+    let q = part-filled (s .args .hi - s .args .lo) (k .last .1 .1 .1 .1 .1 .1 .0) _ e .1 in
     advanced (promoted-to (ap (λ x. s .args .lo + x) (length-part (s .args .hi - s .args .lo) 96 0 (small s)) ∙ whole) (k .ensures))
     (ap (λ x. s .args .lo + x) e ∙ whole) (p .f-below) (p .ends) (s .pre .1 .3) (rows-added-as q (c .before .before .add-rows .ensures))
 

@@ -22,9 +22,13 @@ same-length-2 c = search needs
 
 returns : tie.Need-returns
 returns c =
-    let s = c .before .before .before .before .before .before .before .before .before .before .before .before .before .before .before .before in
-    let a = c .before .before .before .before .before .before .before .before .before .before .before .read-scaled in
-    promoted (s .args .n) (s .args .lo) _ _ _ _ _ _ _ _ (a .kept .1 .1 .1 .1 .1 .0) (s .pre .ends) (a .ensures) (rw (a .kept .1 .1 .1 .1 .1 .0) at (c .before .before .before .before .before .before .before .copy-row .ensures)) (c .before .before .put .ensures)
+    let placed = c .before .before in
+    let copied = placed .before .before .before .before .before in
+    let scaled = copied .before .before .before .before in
+    let s = scaled .before .before .before .before .before in
+    let a = scaled .read-scaled in
+    let size = a .kept .1 .1 .1 .1 .1 .0 in
+    promoted (s .args .n) (s .args .lo) _ _ _ _ _ _ _ _ size (s .pre .ends) (a .ensures) (rw size at (copied .copy-row .ensures)) (placed .put .ensures)
 
 pub promote-spec : {M : Type 1} → statement M
 promote-spec =
