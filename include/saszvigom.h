@@ -8,7 +8,9 @@
  *
  *     A(i,j) = d  and  A(j,i) = 65521 - d,
  *
- * and every other entry is 0. If A has an inverse, as it always has for n = 0,
+ * and every other entry is 0. A weight is the value put for a variable of that
+ * matrix, best drawn at random: it is no preference, and finds no matching of
+ * largest or smallest weight. If A has an inverse, as it always has for n = 0,
  * the vertices can be matched in pairs of adjacent vertices, with none left
  * over. If it has none, as always for odd n, there is a vector w other than 0
  * with A w = 0, the witness. A witness alone does not show that no such matching

@@ -1,14 +1,11 @@
 -- The answers of this crate in the terms of the definitions: what the contracts of `src/` cite. Assumes nothing.
 use mathlib.Core.Path.{_≡_}
 use mathlib.Core.Logic.{_≢_}
-use mathlib.Core.List.{List, [], _∷_}
 use Prim.Native.Nat.{ℕ, _+_, _*_, _≤_, _<_}
-use native.Mathlib.Decide.{ℕ-discrete, decLt}
-use Rattle.skew.specs.Choose.{choose}
 use Rattle.matching.specs.Decision as decision
 use Rattle.matching.specs.Decision.{absent, at, because, accepted, refused}
-use Rattle.matching.specs.Graph.{Graph, pair-count, fault}
-use Rattle.matching.specs.Causes.{Lent, bad-cell}
+use Rattle.matching.specs.Graph.{Graph, fault}
+use Rattle.matching.specs.Causes.{bad-cell}
 use Rattle.checks.specs.declared.Finding.{Finding}
 use Rattle.checks.specs.declared.Finding.the-variants.{Absent, At}
 use Rattle.checks.specs.declared.Ruling.{Ruling}
@@ -24,21 +21,6 @@ finding-of (At x) = at x
 abbrev pub ruling-of : Ruling → decision.Ruling
 ruling-of Accepted = accepted
 ruling-of (Refused r) = refused (because (r .cause) (r .place))
-
--- the buffers that opening and every session call are lent, by their lengths
-abbrev pub lent-always : (n adjacency weights inverse sequence : ℕ) → List Lent
-lent-always n adjacency weights inverse sequence =
-    record { number = 1; length = adjacency; needed = n * n }
-    ∷ record { number = 2; length = weights; needed = pair-count n }
-    ∷ record { number = 3; length = inverse; needed = n * n }
-    ∷ record { number = 4; length = sequence; needed = n }
-    ∷ []
-
--- the fault of a cell with a mirror, as `fault` of the definitions numbers it
-unfoldable pub kind-of : (cell mirror row column : ℕ) → ℕ
-unfolding decLt ℕ-discrete
-kind-of x y i j =
-    choose (decLt 1 x) 1 (choose (ℕ-discrete i j) (choose (ℕ-discrete x 0) 0 2) (choose (ℕ-discrete x y) 0 3))
 
 -- what the scan of one row from the diagonal on says
 pub record FaultInRow (g : Graph) (i : ℕ) (f : Fault) : Type 0 where

@@ -10,10 +10,10 @@ use lib.ListN.{getD}
 use Rattle.lists.specs.Table.{index-positive, row-below, column-below, index-of, index-row, index-column, index-below}
 use Rattle.skew.specs.Choose.{choose-yes, choose-no}
 use Rattle.matching.specs.Decision.{Every, absent, at, not?, First, first?}
-use Rattle.matching.specs.Graph.{Graph, cell, fault, Faulty, over}
+use Rattle.matching.specs.Graph.{Graph, over, cell, kind-of, fault, Faulty}
 use Rattle.matching.specs.Causes.{bad-cell}
 use Rattle.laws.specs.Sound.{found-at, found-absent}
-use Rattle.checks.specs.Answers.{kind-of, FaultInRow, FirstFault, Located}
+use Rattle.checks.specs.Answers.{FaultInRow, FirstFault, Located}
 use Rattle.checks.specs.declared.Fault.{Fault}
 use Rattle.checks.specs.declared.Cells.{Cells}
 use Rattle.checks.specs.declared.Cells.the-variants as variants

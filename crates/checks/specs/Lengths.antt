@@ -6,14 +6,8 @@ use native.Mathlib.Omega.{arith}
 use native.Mathlib.Decide.{decLt}
 use Rattle.matching.specs.Decision.{Finding, absent, at, when, because, Refusal, accepted, refused, Cause, judge, unless}
 use Rattle.matching.specs.Graph.{largest, pair-count}
-use Rattle.matching.specs.Causes.{Lent, or, first-short, too-large, too-short}
+use Rattle.matching.specs.Causes.{Lent, lent-always, lent-besides, or, first-short, too-large, too-short}
 use Rattle.laws.specs.Sound.{when-at, when-absent, judge-accepted, LongEnough, short-absent}
-use Rattle.checks.specs.Answers.{lent-always}
-
--- the buffers that opening alone is lent, by their lengths
-abbrev pub lent-besides : (n witness work : ℕ) → List Lent
-lent-besides n witness work =
-    record { number = 5; length = witness; needed = n } ∷ record { number = 6; length = work; needed = n * n } ∷ []
 
 is-short : (length needed number : ℕ) → length < needed → when (decLt length needed) number ≡ at number
 is-short length needed number l = when-at (decLt length needed) number l

@@ -5,10 +5,9 @@ use Prim.Native.Nat.{ℕ, _*_, _≤_, _<_}
 use lib.ListN.{length}
 use Rattle.matching.specs.Decision.{absent, at, Refusal, because, Ruling, accepted, refused, Cause, judge}
 use Rattle.matching.specs.Graph.{Graph, largest, pair-count}
-use Rattle.matching.specs.Causes.{Lent, too-large, too-short, bad-cell, bad-weight, opening-causes, opening-ruling}
+use Rattle.matching.specs.Causes.{Lent, lent-always, lent-besides, too-large, too-short, bad-cell, bad-weight, opening-causes, opening-ruling}
 use Rattle.laws.specs.Sound.{judge-refused, judge-next}
-use Rattle.checks.specs.Answers.{lent-always}
-use Rattle.checks.specs.Lengths.{lent-besides, lengths-refused, lengths-accepted, short-witness, short-work, long-besides}
+use Rattle.checks.specs.Lengths.{lengths-refused, lengths-accepted, short-witness, short-work, long-besides}
 
 module _ (p : ℕ) (g : Graph) where
   abbrev pub graph-causes : List Cause
@@ -26,10 +25,8 @@ module _ (p : ℕ) (g : Graph) where
   graph-accepted a e = judge-next (bad-cell g) (bad-weight p g ∷ []) a ∙ judge-next (bad-weight p g) [] (sym e)
 
   module _ (inverse sequence witness work : ℕ) where
-    -- opening's ruling, whatever the other buffers hold
     abbrev pub RulesOpening : Ruling → Type 0
-    RulesOpening r =
-        (I S W K : List ℕ) → length I ≡ inverse → length S ≡ sequence → length W ≡ witness → length K ≡ work → r ≡ opening-ruling p g I S W K
+    RulesOpening r = r ≡ opening-ruling p g inverse sequence witness work
 
     abbrev pub before : List Lent
     before = lent-always (g .n) (length (g .adjacency)) (length (g .weights)) inverse sequence
@@ -39,7 +36,7 @@ module _ (p : ℕ) (g : Graph) where
 
     by-lengths : (r : Ruling) → r ≡ judge (opening-causes p g (before ++ after)) → RulesOpening r
     unfolding opening-ruling
-    by-lengths r e I S W K i s w k = rw (i, s, w, k) e
+    by-lengths r e = e
 
     -- what is judged of the size and the first lengths
     abbrev pub lengths-judged : Ruling

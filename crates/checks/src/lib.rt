@@ -5,9 +5,9 @@ ghost use Prim.Native.Nat.{ℕ, _+_, _*_, _≤_, _<_};
 ghost use lib.ListN.{length};
 ghost use Rattle.residue.specs.Modulus.{modulus};
 ghost use Rattle.matching.specs.Decision.{judge};
-ghost use Rattle.matching.specs.Graph.{largest, pair-count, over};
-ghost use Rattle.matching.specs.Causes.{first-short, too-large, too-short, bad-cell, bad-weight, opening-ruling};
-ghost use Rattle.checks.specs.Answers.{finding-of, ruling-of, lent-always, kind-of, InRow, Located};
+ghost use Rattle.matching.specs.Graph.{largest, pair-count, over, kind-of};
+ghost use Rattle.matching.specs.Causes.{lent-always, first-short, too-large, too-short, bad-cell, bad-weight, opening-ruling};
+ghost use Rattle.checks.specs.Answers.{finding-of, ruling-of, InRow, Located};
 use residue::Residue;
 
 // The most vertices that a graph may have.
@@ -83,7 +83,7 @@ fn first_short(
     Finding::Absent
 }
 
-// Causes 1 and 2, for the size and the lengths of the same buffers.
+// Causes 1 and 2, for the size and the lengths of buffers 1 to 4.
 pub fn judge_lengths(
     n: usize,
     adjacency: usize,
@@ -203,7 +203,7 @@ pub fn judge_opening(
     witness: usize,
     work: usize,
 ) -> Ruling
-    ensures { λ r. ⌜ ((I S W K : List ℕ) → length I ≡ inverse → length S ≡ sequence → length W ≡ witness → length K ≡ work → ruling-of r ≡ opening-ruling modulus (over n (now (adjacency .entry)) (now (weights .entry))) I S W K) ⌝ }
+    ensures { λ r. ⌜ ruling-of r ≡ opening-ruling modulus (over n (now (adjacency .entry)) (now (weights .entry))) inverse sequence witness work ⌝ }
 {
     if let Ruling::Refused(refusal) = judge_lengths(
         n,

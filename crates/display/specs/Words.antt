@@ -1,4 +1,4 @@
--- Whether a word of a list is not 0, and where a part starts: what the contracts of `src/` cite besides the definitions. Assumes nothing.
+-- Whether a word of a list is not 0: what the contracts of `src/` cite besides the definitions. Assumes nothing.
 use mathlib.Core.Path.{_≡_}
 use mathlib.Core.Bool.{Bool, true, false}
 use mathlib.Core.Logic.{_≢_}
@@ -6,7 +6,6 @@ use mathlib.Core.List.{List}
 use Prim.Native.Nat.{ℕ, _<_}
 use lib.ListN.{length, getD}
 use Rattle.matching.specs.Decision.{Every}
-use Rattle.matching.specs.Display.{Part, of-inverse, of-witness}
 
 -- a word that is not 0
 pub record Nonzero (words : List ℕ) : Type 0 where
@@ -21,8 +20,3 @@ Zero words = Every (length words) (λ x. getD words x 0 ≡ 0)
 abbrev pub Tells : List ℕ → Bool → Type 0
 Tells words true = Nonzero words
 Tells words false = Zero words
-
--- where the part starts: at the start of its buffer
-abbrev pub start-of : {A : Type 0} → Part → A → A → A
-start-of (of-inverse _) inverse witness = inverse
-start-of (of-witness _) inverse witness = witness

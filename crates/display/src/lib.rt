@@ -1,7 +1,7 @@
 // The part of the inverse or the witness buffer that shows an opening's answer.
 ghost use mathlib.Core.Path.{_≡_};
-ghost use Rattle.matching.specs.Display.{display, words-of};
-ghost use Rattle.display.specs.Words.{Tells, start-of};
+ghost use Rattle.matching.specs.Display.{display, words-of, start-of};
+ghost use Rattle.display.specs.Words.{Tells};
 use checks::LARGEST;
 
 // Whether a word is not 0.

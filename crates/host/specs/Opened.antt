@@ -11,24 +11,24 @@ use Rattle.matching.specs.Decision.{Every, accepted}
 use Rattle.matching.specs.Pairs.{everything, unused}
 use Rattle.matching.specs.Graph.{Graph, pair-count, over}
 use Rattle.matching.specs.Session.{onto}
-use Rattle.matching.specs.Opening.{Opening, opened, dependent, not-opened, Buffers, ruling, with-inverse, with-witness, Opens, refuses-opening, opens, depends}
+use Rattle.matching.specs.Opening.{Opening, opened, singular, not-opened, Buffers, ruling, with-inverse, with-witness, Opens, refuses-opening, opens, finds-singular}
 use Rattle.matching.specs.Host.{words, bytes-of, opening-number, unpacked, HostOpens}
 use Rattle.laws.specs.Sound.{opening-accepted}
-use Rattle.opening.specs.Solved.{buffers}
-use Rattle.host.specs.Words.{Bytes, stored-front, stored-again}
+use Rattle.opening.specs.Answers.{buffers}
+use Rattle.host.specs.Words.{Bytes, stored-front}
 use Rattle.host.specs.Same.{table-same, singular-same}
 use Rattle.host.specs.Room.{Front, Lends, room-enough, lent-agree, ruling-same, place-small}
 
 -- the parts of an answer fit their bits
 abbrev pub Small : Opening → Type 0
 Small (opened s) = s .made < 256
-Small (dependent f) = f < 256
+Small (singular f) = f < 256
 Small (not-opened r) = r .place < 65536
 
 -- for how many vertices words are stored
 abbrev pub extent : ℕ → Opening → ℕ
 extent n (opened s) = n
-extent n (dependent f) = n
+extent n (singular f) = n
 extent n (not-opened r) = 0
 
 -- the words left for m vertices, as bytes written over those of the host
@@ -72,7 +72,7 @@ opens-within {p} {g} {S} {b} (opens inverse e l I) = record {
   witness = onto-long (replicate (g .n) 0) (b .witness) (g .n) (length-replicate _ _);
   work = onto-long (replicate (g .n * g .n) 0) (b .work) (g .n * g .n) (length-replicate _ _);
 }
-opens-within {p} {g} {S} {b} (depends f witness e l s) = record {
+opens-within {p} {g} {S} {b} (finds-singular f witness e l s) = record {
   size = opening-accepted p g _ _ _ _ .0 e .1 .size;
   inverse = onto-long (replicate (g .n * g .n) 0) (b .inverse) (g .n * g .n) (length-replicate _ _);
   witness = onto-long witness (b .witness) (g .n) l;
@@ -82,7 +82,7 @@ opens-within {p} {g} {S} {b} (depends f witness e l s) = record {
 pub opens-small : {p : ℕ} {g : Graph} {S : Subset} {b left : Buffers} {o : Opening} → Opens p g S b o left → Small o
 opens-small {p} {g} {S} {b} (refuses-opening r e) = place-small p g b e
 opens-small (opens inverse e l I) = omega arith
-opens-small {p} {g} (depends f witness e l s) =
+opens-small {p} {g} (finds-singular f witness e l s) =
     omega (arith, s .kernel .below, opening-accepted p g _ _ _ _ .0 e .1 .size)
 
 pub same-buffers : {i i′ s s′ w w′ k k′ : List ℕ} → i ≡ i′ → s ≡ s′ → w ≡ w′ → k ≡ k′ → buffers i s w k ≡ buffers i′ s′ w′ k′
@@ -100,7 +100,7 @@ module _ (n : ℕ) (adjacency : List ℕ) {weights lent : List ℕ} (F : Front n
     (inverse-bytes : Bytes (b .inverse)) (witness-bytes : Bytes (b .witness)) (work-bytes : Bytes (b .work)) where
   enough : ruling modulus (over n adjacency lent) w ≡ accepted → Enough n weights lent b
   enough e =
-      let k = opening-accepted modulus (over n adjacency lent) (w .inverse) (w .sequence) (w .witness) (w .work) .0 e in
+      let k = opening-accepted modulus (over n adjacency lent) (length (w .inverse)) (length (w .sequence)) (length (w .witness)) (length (w .work)) .0 e in
       let h = k .1 .size in
       record {
         agree = lent-agree F L adjacency (k .0 .1 .0);
@@ -117,9 +117,7 @@ module _ (n : ℕ) (adjacency : List ℕ) {weights lent : List ℕ} (F : Front n
     buffers = unpacked b;
     outcome = refuses-opening r (sym (ruling-same F L adjacency modulus) ∙ e);
     numbered = refl;
-    stored =
-        same-buffers (sym (stored-again (b .inverse) inverse-bytes)) (L .sequence) (sym (stored-again (b .witness) witness-bytes))
-        (sym (stored-again (b .work) work-bytes));
+    stored = same-buffers refl (L .sequence) refl refl;
   }
   through (opens inverse e l I) =
       let E = enough e in
@@ -134,12 +132,12 @@ module _ (n : ℕ) (adjacency : List ℕ) {weights lent : List ℕ} (F : Front n
             (stored-front (replicate n 0) (w .witness) (b .witness) n witness-bytes (length-replicate _ _) (E .witness))
             (stored-front (replicate (n * n) 0) (w .work) (b .work) (n * n) work-bytes (length-replicate _ _) (E .work));
       }
-  through (depends f witness e l s) =
+  through (finds-singular f witness e l s) =
       let E = enough e in
       record {
-        opening = dependent f;
+        opening = singular f;
         buffers = with-witness n witness (unpacked b);
-        outcome = depends f witness (sym (ruling-same F L adjacency modulus) ∙ e) l (singular-same n adjacency lent (words weights) (E .agree) s);
+        outcome = finds-singular f witness (sym (ruling-same F L adjacency modulus) ∙ e) l (singular-same n adjacency lent (words weights) (E .agree) s);
         numbered = refl;
         stored =
             same-buffers (stored-front (replicate (n * n) 0) (w .inverse) (b .inverse) (n * n) inverse-bytes (length-replicate _ _) (E .inverse))

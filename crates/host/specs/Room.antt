@@ -103,8 +103,8 @@ module _ {n : ℕ} {weights lent : List ℕ} (F : Front n weights lent) {b w : B
 
   -- the same buffers are too short
   short-same : n ≤ largest
-      → first-short (lent-to-opening (over n adjacency lent) (w .inverse) (w .sequence) (w .witness) (w .work))
-      ≡ first-short (lent-to-opening (over n adjacency (words weights)) (words (b .inverse)) (b .sequence) (words (b .witness)) (words (b .work)))
+      → first-short (lent-to-opening (over n adjacency lent) (length (w .inverse)) (length (w .sequence)) (length (w .witness)) (length (w .work)))
+      ≡ first-short (lent-to-opening (over n adjacency (words weights)) (length (words (b .inverse))) (length (b .sequence)) (length (words (b .witness))) (length (words (b .work))))
   short-same h =
       rw (
         lent-length,
@@ -121,7 +121,7 @@ module _ {n : ℕ} {weights lent : List ℕ} (F : Front n weights lent) {b w : B
   ruling-same p = go (decLt largest n)
     where
       lents : List Lent
-      lents = lent-to-opening (over n adjacency lent) (w .inverse) (w .sequence) (w .witness) (w .work)
+      lents = lent-to-opening (over n adjacency lent) (length (w .inverse)) (length (w .sequence)) (length (w .witness)) (length (w .work))
 
       agreed : (f : Finding) → first-short lents ≡ f
           → unless f 2 (judge (bad-cell (over n adjacency lent) ∷ bad-weight p (over n adjacency lent) ∷ []))
@@ -172,7 +172,7 @@ unfolding opening-ruling
 place-small p g b {r} e = go (decLt largest (g .n))
   where
     lents : List Lent
-    lents = lent-to-opening g (b .inverse) (b .sequence) (b .witness) (b .work)
+    lents = lent-to-opening g (length (b .inverse)) (length (b .sequence)) (length (b .witness)) (length (b .work))
 
     shorts : SmallAt (first-short lents)
     shorts =

@@ -7,7 +7,7 @@ ghost use Rattle.residue.specs.Modulus.{modulus};
 ghost use Rattle.matching.specs.Pairs.{everything};
 ghost use Rattle.matching.specs.Session.{onto};
 ghost use Rattle.matching.specs.Host.{words, bytes-of, opening-number, HostOpens, HostOpenedExactly};
-ghost use Rattle.opening.specs.Solved.{opening-of, buffers};
+ghost use Rattle.opening.specs.Answers.{opening-of, buffers};
 ghost use Rattle.host.specs.Room.{Room, needed};
 ghost use Rattle.host.specs.Opened.{Small, extent, OpensOver, OpensBytes};
 
@@ -76,7 +76,7 @@ fn number(o: Opening) -> u64
 {
     match o {
         Opening::Opened(s) => 256 + 4294967296 * (s.made as u64),
-        Opening::Dependent(f) => 512 + 65536 * (f as u64),
+        Opening::Singular(f) => 512 + 65536 * (f as u64),
         Opening::Refused(r) => r.cause as u64 + 65536 * (r.place as u64),
     }
 }
@@ -87,7 +87,7 @@ fn stored(n: usize, o: Opening) -> usize
 {
     match o {
         Opening::Opened(_) => n,
-        Opening::Dependent(_) => n,
+        Opening::Singular(_) => n,
         Opening::Refused(_) => 0,
     }
 }

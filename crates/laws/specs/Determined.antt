@@ -22,8 +22,8 @@ use Rattle.matching.specs.Graph.{Graph, over, tutte}
 use Rattle.matching.specs.Pairs.{everything}
 use Rattle.matching.specs.Model.{skew}
 use Rattle.matching.specs.Session.{Session, session, InverseTable}
-use Rattle.matching.specs.Opening.{Opening, opened, dependent, not-opened, Buffers, Singular, ruling, with-inverse, with-witness, Opens, refuses-opening, opens, depends, OpenedExactly}
-use Rattle.matching.specs.Host.{words, opening-number, unpacked, HostOpens, HostOpenedExactly}
+use Rattle.matching.specs.Opening.{Opening, opened, singular, not-opened, Buffers, Singular, ruling, with-inverse, with-witness, Opens, refuses-opening, opens, finds-singular, OpenedExactly}
+use Rattle.matching.specs.Host.{words, opening-number, unpacked, stored-after, HostOpens, HostOpenedExactly}
 
 pub count-everything : (n : ℕ) → count n everything ≡ n
 count-everything zero = count-none everything
@@ -116,29 +116,37 @@ module _ {p : ℕ} (P : OddPrime p) (g : Graph) (S : Subset) where
       go (refused r) e _ = (not-opened r, b, refuses-opening r e)
       go accepted e (inverse T I) = let h = inverse-table-of I in (opened (session (g .n) []), with-inverse (g .n) (h .0) b, opens (h .0) e (h .1) (h .2))
       go accepted e (column f w F W) =
-          let s = singular-of F W in (dependent f, with-witness (g .n) (s .0) b, depends f (s .0) e (s .1) (s .2))
+          let s = singular-of F W in (singular f, with-witness (g .n) (s .0) b, finds-singular f (s .0) e (s .1) (s .2))
 
   -- and no other
   pub opens-unique : {b : Buffers} {o o′ : Opening} {a a′ : Buffers} → Opens p g S b o a → Opens p g S b o′ a′ → (o ≡ o′) × (a ≡ a′)
   opens-unique (refuses-opening r e) (refuses-opening r′ e′) = (cc, refl)
   opens-unique (refuses-opening r e) (opens words e′ l h) = absurd (let z : _≡_ {A = ℕ} 0 1 = cc in omega arith)
-  opens-unique (refuses-opening r e) (depends f w e′ l s) = absurd (let z : _≡_ {A = ℕ} 0 1 = cc in omega arith)
+  opens-unique (refuses-opening r e) (finds-singular f w e′ l s) = absurd (let z : _≡_ {A = ℕ} 0 1 = cc in omega arith)
   opens-unique (opens words e l h) (refuses-opening r e′) = absurd (let z : _≡_ {A = ℕ} 0 1 = cc in omega arith)
   opens-unique {b} (opens words e l h) (opens words′ e′ l′ h′) = (refl, ap (λ words. with-inverse (g .n) words b) (inverse-table-unique l l′ h h′))
-  opens-unique (opens words e l h) (depends f w e′ l′ s) =
+  opens-unique (opens words e l h) (finds-singular f w e′ l′ s) =
       absurd (witness-singular P (g .n) (tutte g p) (skew P g S) S (s .kernel) (_, h .is-inverse))
-  opens-unique (depends f w e l s) (refuses-opening r e′) = absurd (let z : _≡_ {A = ℕ} 0 1 = cc in omega arith)
-  opens-unique (depends f w e l s) (opens words e′ l′ h) =
+  opens-unique (finds-singular f w e l s) (refuses-opening r e′) = absurd (let z : _≡_ {A = ℕ} 0 1 = cc in omega arith)
+  opens-unique (finds-singular f w e l s) (opens words e′ l′ h) =
       absurd (witness-singular P (g .n) (tutte g p) (skew P g S) S (s .kernel) (_, h .is-inverse))
-  opens-unique {b} (depends f w e l s) (depends f′ w′ e′ l′ s′) =
-      let u = singular-unique l l′ s s′ in (ap dependent (u .0), ap (λ words. with-witness (g .n) words b) (u .1))
+  opens-unique {b} (finds-singular f w e l s) (finds-singular f′ w′ e′ l′ s′) =
+      let u = singular-unique l l′ s s′ in (ap singular (u .0), ap (λ words. with-witness (g .n) words b) (u .1))
+
+pub host-opens-unique : {p : ℕ} (P : OddPrime p) (S : Subset) {n k k′ : ℕ} {adjacency weights : List ℕ} {b a a′ : Buffers}
+    → HostOpens p n adjacency weights S b k a → HostOpens p n adjacency weights S b k′ a′ → (k ≡ k′) × (a ≡ a′)
+host-opens-unique P S {b = b} H H′ =
+    let u = opens-unique P _ S (H .outcome) (H′ .outcome) in (
+      H .numbered ∙ ap opening-number (u .0) ∙ sym (H′ .numbered),
+      H .stored ∙ ap₂ (λ o left. stored-after o left b) (u .0) (u .1) ∙ sym (H′ .stored),
+    )
 
 -- demand 2: a graph that is not refused is opened exactly when its matrix has an inverse
 module _ {p : ℕ} (P : OddPrime p) (g : Graph) (S : Subset) where
   pub opened-exactly : {b a : Buffers} {o : Opening} → Opens p g S b o a → OpenedExactly p g S b o
   opened-exactly (refuses-opening r e) ok = absurd (let z : _≡_ {A = ℕ} 0 1 = cc in omega arith)
   opened-exactly (opens entries e l h) ok = (λ _. (_, h .is-inverse), λ _. refl)
-  opened-exactly (depends f w e l s) ok = (
+  opened-exactly (finds-singular f w e l s) ok = (
     λ q. absurd (let z : _≡_ {A = ℕ} 0 1 = cc in omega arith),
     λ I. absurd (witness-singular P (g .n) (tutte g p) (skew P g S) S (s .kernel) I),
   )
@@ -154,7 +162,7 @@ host-opened-exactly {p} P S {n} {answer} {adjacency} {weights} {b} H ok = rw (H 
         → (opening-number o ≡ opening-number (opened (session n []))) ↔ Invertible p n (tutte g p) S
     go (refuses-opening r e) = absurd (let z : _≡_ {A = ℕ} 0 1 = cc in omega arith)
     go (opens entries e l h) = (λ _. (_, h .is-inverse), λ _. refl)
-    go (depends f w e l s) =
+    go (finds-singular f w e l s) =
         (λ q. absurd (omega arith), λ I. absurd (witness-singular P n (tutte g p) (skew P g S) S (s .kernel) I))
 
 module _ {p : ℕ} (P : OddPrime p) (g : Graph) where

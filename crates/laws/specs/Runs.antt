@@ -18,7 +18,7 @@ use Rattle.matching.specs.Pairs.{Pair, Pairs, everything, unused, bytes, sequen
 use Rattle.matching.specs.Session.{Session, session, InverseTable, onto}
 use Rattle.matching.specs.Opening.{opened, Buffers, Opens, opens}
 use Rattle.matching.specs.Model.{Call, undo, Answer, Step, done, denied, skew, Nonsingular, step, run, OpenPartner, PicksToCome}
-use Rattle.matching.specs.Causes.{adjacency-of, weights-of}
+use Rattle.matching.specs.Causes.{lent-graph}
 use Rattle.matching.specs.Calls.{State, pairs-of, soundness, Handles, unsound, refuses, carries, HandlesAll, none, more}
 use Rattle.laws.specs.Sound.{InOrder, LongEnough, opening-accepted, session-accepted}
 use Rattle.laws.specs.Determined.{inverse-table-unique, count-everything}
@@ -70,7 +70,7 @@ module _ {p : ℕ} (P : OddPrime p) (n : ℕ) (adjacency weights : List ℕ) (S 
 
   -- such a state is sound
   mirror-sound : (pairs : Pairs) (words excess spare : List ℕ) → length words ≡ n * n → InverseTable p g (unmatched S pairs) words → Valid P g S pairs
-      → LongEnough (adjacency-of g ∷ weights-of g ∷ []) → InOrder p g
+      → LongEnough (lent-graph g) → InOrder p g
       → soundness P adjacency weights S (standing n pairs words excess spare) [] ≡ accepted
   mirror-sound pairs words excess spare l I v long order =
       session-accepted p g S (length pairs) (words ++ excess) (sequence n pairs ++ spare) [] .1 (
@@ -84,7 +84,7 @@ module _ {p : ℕ} (P : OddPrime p) (n : ℕ) (adjacency weights : List ℕ) (S 
 
   -- one call on it goes as the plain model goes
   pub mirror-step : {excess spare : List ℕ} (pairs : Pairs) (s t : State) (c : Call) (a : Answer) → Mirrors P g S excess spare pairs s
-      → LongEnough (adjacency-of g ∷ weights-of g ∷ []) → InOrder p g → Handles P adjacency weights S s c a t
+      → LongEnough (lent-graph g) → InOrder p g → Handles P adjacency weights S s c a t
       → (a ≡ step P g S pairs c .answer) × Mirrors P g S excess spare (step P g S pairs c .pairs) t
   mirror-step {excess} {spare} pairs s t c a M long order h =
       go a t (rw (M .stands) at h) (change P g S pairs c I)
@@ -130,7 +130,7 @@ module _ {p : ℕ} (P : OddPrime p) (n : ℕ) (adjacency weights : List ℕ) (S 
 
   -- and so does a list of calls
   pub mirror-run : {excess spare : List ℕ} (pairs : Pairs) (s t : State) (calls : List Call) (answers : List Answer) → Mirrors P g S excess spare pairs s
-      → LongEnough (adjacency-of g ∷ weights-of g ∷ []) → InOrder p g → HandlesAll P adjacency weights S s calls answers t
+      → LongEnough (lent-graph g) → InOrder p g → HandlesAll P adjacency weights S s calls answers t
       → (answers ≡ run P g S pairs calls .answers) × Mirrors P g S excess spare (run P g S pairs calls .pairs) t
   unfolding run
   mirror-run pairs s _ [] _ M long order none = (refl, M)
@@ -177,9 +177,9 @@ module _ {p : ℕ} (P : OddPrime p) (g : Graph) where
       fresh : g .n - 0 ≡ g .n
       fresh = omega arith
 
-  opening-order : (b a : Buffers) (s : Session) → Opens p g everything b (opened s) a → LongEnough (adjacency-of g ∷ weights-of g ∷ []) × InOrder p g
+  opening-order : (b a : Buffers) (s : Session) → Opens p g everything b (opened s) a → LongEnough (lent-graph g) × InOrder p g
   opening-order b _ _ (opens words e l I) =
-      let r = opening-accepted p g (b .inverse) (b .sequence) (b .witness) (b .work) .0 e in ((r .0 .0, (r .0 .1 .0, tt)), r .1)
+      let r = opening-accepted p g (length (b .inverse)) (length (b .sequence)) (length (b .witness)) (length (b .work)) .0 e in ((r .0 .0, (r .0 .1 .0, tt)), r .1)
 
   pub promise : (b a : Buffers) (s : Session) (calls : List Call) (answers : List Answer) (t : State) → Opens p g everything b (opened s) a
       → HandlesAll P (g .adjacency) (g .weights) everything (record { session = s; inverse = a .inverse; sequence = a .sequence }) calls answers t

@@ -108,7 +108,7 @@ weights-ok p g =
     (λ e x l. stable (in-range? p g x) (r .0 e x l), λ h. r .1 (λ x l d. d (h x l)))
 
 -- opening is not refused exactly when the buffers are long enough and the graph is in order
-pub opening-accepted : (p : ℕ) (g : Graph) (inverse sequence witness work : List ℕ)
+pub opening-accepted : (p : ℕ) (g : Graph) (inverse sequence witness work : ℕ)
     → (opening-ruling p g inverse sequence witness work ≡ accepted)
     ↔ (LongEnough (lent-to-opening g inverse sequence witness work) × InOrder p g)
 unfolding opening-ruling

@@ -12,7 +12,7 @@ use Rattle.matching.specs.Decision.{Refusal, Ruling, accepted, refused, 
 use Rattle.matching.specs.Graph.{Graph, over}
 use Rattle.matching.specs.Pairs.{Pair, Pairs, unmatched, in?, pairs-on, sequence}
 use Rattle.matching.specs.Session.{Session, session, InverseTable, onto}
-use Rattle.matching.specs.Causes.{Lent, session-ruling, row-of}
+use Rattle.matching.specs.Causes.{Lent, session-ruling, lent-row}
 use Rattle.matching.specs.Model.{Call, Answer, done, denied, Step, needs, pick-ruling, step}
 
 -- what a call is handed and may write: the session, the inverse (held) and the sequence of pairs (strip)
@@ -84,7 +84,7 @@ module _ {p : ℕ} (P : OddPrime p) (adjacency weights : List ℕ) (S : Subset) 
   unfoldable pub row-ruling : State → ℕ → List ℕ → Ruling
   unfolding session-ruling decLt
   row-ruling s a row =
-      then (soundness s (row-of (s .session .size) row ∷ []))
+      then (soundness s (lent-row (s .session .size) (length row) ∷ []))
       (judge (needs 7 (decLt a (s .session .size)) ∷ needs 8 (in? (unmatched S (pairs-of s)) a) ∷ []))
 
   -- whether it was refused, the session handed back, and the row afterwards; the other buffers are only read

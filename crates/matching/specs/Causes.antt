@@ -1,6 +1,6 @@
 -- The causes 1 to 6 of document 01's table, each with its place, and the order in which opening and the session calls look at them.
 -- Causes 7 to 11 are in Model, 12 to 15 in Records. Assumes nothing.
-use mathlib.Core.List.{List, [], _∷_}
+use mathlib.Core.List.{List, [], _∷_, _++_}
 use Prim.Native.Nat.{ℕ, _*_, _/_, _%_}
 use native.Mathlib.Decide.{ℕ-discrete, decLt}
 use lib.ListN.{length, getD}
@@ -16,33 +16,46 @@ pub record Lent : Type 0 where
   pub length : ℕ
   pub needed : ℕ
 
-abbrev pub adjacency-of : Graph → Lent
-adjacency-of g = record { number = 1; length = length (g .adjacency); needed = g .n * g .n }
+-- the buffers by their lengths, for n vertices: 1 adjacency (share), 2 weights (draws), 3 inverse (held), 4 sequence (strip), 5 witness,
+-- 6 work, 7 row
+abbrev pub lent-adjacency : (n length : ℕ) → Lent
+lent-adjacency n length = record { number = 1; length = length; needed = n * n }
 
-abbrev pub weights-of : Graph → Lent
-weights-of g = record { number = 2; length = length (g .weights); needed = pair-count (g .n) }
+abbrev pub lent-weights : (n length : ℕ) → Lent
+lent-weights n length = record { number = 2; length = length; needed = pair-count n }
 
--- numbers 3 inverse (held), 4 sequence (strip), 5 witness, 6 work, 7 row
-abbrev pub inverse-of : ℕ → List ℕ → Lent
-inverse-of n inverse = record { number = 3; length = length inverse; needed = n * n }
+abbrev pub lent-inverse : (n length : ℕ) → Lent
+lent-inverse n length = record { number = 3; length = length; needed = n * n }
 
-abbrev pub sequence-of : ℕ → List ℕ → Lent
-sequence-of n sequence = record { number = 4; length = length sequence; needed = n }
+abbrev pub lent-sequence : (n length : ℕ) → Lent
+lent-sequence n length = record { number = 4; length = length; needed = n }
 
-abbrev pub witness-of : ℕ → List ℕ → Lent
-witness-of n witness = record { number = 5; length = length witness; needed = n }
+abbrev pub lent-witness : (n length : ℕ) → Lent
+lent-witness n length = record { number = 5; length = length; needed = n }
 
-abbrev pub work-of : ℕ → List ℕ → Lent
-work-of n work = record { number = 6; length = length work; needed = n * n }
+abbrev pub lent-work : (n length : ℕ) → Lent
+lent-work n length = record { number = 6; length = length; needed = n * n }
 
-abbrev pub row-of : ℕ → List ℕ → Lent
-row-of n row = record { number = 7; length = length row; needed = n }
+abbrev pub lent-row : (n length : ℕ) → Lent
+lent-row n length = record { number = 7; length = length; needed = n }
+
+-- those of a graph
+abbrev pub lent-graph : Graph → List Lent
+lent-graph g = lent-adjacency (g .n) (length (g .adjacency)) ∷ lent-weights (g .n) (length (g .weights)) ∷ []
+
+-- those that opening and every session call are lent, and those that opening is lent besides
+abbrev pub lent-always : (n adjacency weights inverse sequence : ℕ) → List Lent
+lent-always n adjacency weights inverse sequence =
+    lent-adjacency n adjacency ∷ lent-weights n weights ∷ lent-inverse n inverse ∷ lent-sequence n sequence ∷ []
+
+abbrev pub lent-besides : (n witness work : ℕ) → List Lent
+lent-besides n witness work = lent-witness n witness ∷ lent-work n work ∷ []
 
 -- 1: size above 96
 abbrev pub too-large : ℕ → Cause
 too-large n = record { number = 1; finding = when (decLt largest n) 0 }
 
--- 2: a lent buffer too short, at the number of the first of them
+-- the first of two findings
 abbrev pub or : Finding → Finding → Finding
 or absent f = f
 or (at x) f = at x
@@ -51,6 +64,7 @@ abbrev pub first-short : List Lent → Finding
 first-short [] = absent
 first-short (b ∷ later) = or (when (decLt (b .length) (b .needed)) (b .number)) (first-short later)
 
+-- 2: a lent buffer too short, at the number of the first of them
 abbrev pub too-short : List Lent → Cause
 too-short buffers = record { number = 2; finding = first-short buffers }
 
@@ -78,27 +92,22 @@ unfoldable pub not-inverse : ℕ → Graph → Subset → List ℕ → Cause
 unfolding inverse-table?
 not-inverse p g L inverse = record { number = 6; finding = when (not? (inverse-table? p g L inverse)) 0 }
 
--- what opening is lent, and what it looks at: 1 to 4
-abbrev pub lent-to-opening : Graph → (inverse sequence witness work : List ℕ) → List Lent
+-- what opening is lent, the graph's tables and the others by their lengths, and what it looks at: 1 to 4
+abbrev pub lent-to-opening : Graph → (inverse sequence witness work : ℕ) → List Lent
 lent-to-opening g inverse sequence witness work =
-    adjacency-of g
-    ∷ weights-of g
-    ∷ inverse-of (g .n) inverse
-    ∷ sequence-of (g .n) sequence
-    ∷ witness-of (g .n) witness
-    ∷ work-of (g .n) work
-    ∷ []
+    lent-always (g .n) (length (g .adjacency)) (length (g .weights)) inverse sequence ++ lent-besides (g .n) witness work
 
 abbrev pub opening-causes : ℕ → Graph → List Lent → List Cause
 opening-causes p g buffers = too-large (g .n) ∷ too-short buffers ∷ bad-cell g ∷ bad-weight p g ∷ []
 
-unfoldable pub opening-ruling : ℕ → Graph → (inverse sequence witness work : List ℕ) → Ruling
+unfoldable pub opening-ruling : ℕ → Graph → (inverse sequence witness work : ℕ) → Ruling
 unfolding bad-cell bad-weight
 opening-ruling p g inverse sequence witness work = judge (opening-causes p g (lent-to-opening g inverse sequence witness work))
 
 -- what every session call is lent, and what it looks at first: 1 to 6, whether the session is sound
 abbrev pub lent-to-session : Graph → (inverse sequence : List ℕ) → List Lent → List Lent
-lent-to-session g inverse sequence more = adjacency-of g ∷ weights-of g ∷ inverse-of (g .n) inverse ∷ sequence-of (g .n) sequence ∷ more
+lent-to-session g inverse sequence more =
+    lent-always (g .n) (length (g .adjacency)) (length (g .weights)) (length inverse) (length sequence) ++ more
 
 abbrev pub session-causes : ℕ → Graph → Subset → ℕ → (inverse sequence : List ℕ) → List Lent → List Cause
 session-causes p g S made inverse sequence buffers =

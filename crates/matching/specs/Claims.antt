@@ -12,7 +12,7 @@ use Rattle.matching.specs.Graph.{Graph, over, pair-count, tutte}
 use Rattle.matching.specs.Pairs.{Pair, everything, unmatched}
 use Rattle.matching.specs.Session.{Session, session, InverseTable, onto}
 use Rattle.matching.specs.Decided.{inverse-table?, witness?}
-use Rattle.matching.specs.Opening.{Opening, opened, dependent, not-opened, Buffers, Singular, Opens, opens, refuses-opening, depends, with-inverse, with-witness, ruling}
+use Rattle.matching.specs.Opening.{Opening, opened, singular, not-opened, Buffers, Singular, Opens, opens, refuses-opening, finds-singular, with-inverse, with-witness, ruling}
 use Rattle.matching.specs.Display.{Part, display}
 use Rattle.matching.specs.Model.{Call, automatic, Answer, denied, skew, Nonsingular, nonsingular?, run, PicksToCome}
 use Rattle.matching.specs.Calls.{State, soundness, model-step, Handles, unsound, refuses, row-ruling, open-row, ShowsRow, shows, refuses-row}
@@ -101,7 +101,7 @@ unfoldable pub Holds : Claim → Type 0
 Holds (opening g inverse) =
     Opens modulus g everything (before (g .n)) (opened (session (g .n) [])) (full (g .n) inverse (replicate (g .n) 0))
 Holds (witness g f words) =
-    Opens modulus g everything (before (g .n)) (dependent f) (full (g .n) (replicate (g .n * g .n) 0) words)
+    Opens modulus g everything (before (g .n)) (singular f) (full (g .n) (replicate (g .n * g .n) 0) words)
 Holds (not-opening g b r) = Opens modulus g everything b (not-opened r) b
 Holds (model g calls given) = run modulus-prime g everything [] calls .answers ≡ given
 Holds (answers g calls given) = Nonsingular modulus-prime g everything [] × (run modulus-prime g everything [] calls .answers ≡ given)
@@ -147,9 +147,9 @@ ShownSingular g f words =
     × IsYes (first-dependent? modulus-prime (g .n) (tutte g modulus) (skew modulus-prime g everything) everything f)
     × IsYes (witness? modulus (g .n) (tutte g modulus) everything f (vector words))
 
-singular : (g : Graph) (f : ℕ) (words : List ℕ) → ShownSingular g f words → Singular modulus g everything f words
+shown-singular : (g : Graph) (f : ℕ) (words : List ℕ) → ShownSingular g f words → Singular modulus g everything f words
 unfolding ShownSingular
-singular g f words e = record {
+shown-singular g f words e = record {
   small = decided (every? _ (g .n) (λ x. decLt (getD words x 0) modulus)) (e .0);
   first = decided (first-dependent? modulus-prime (g .n) (tutte g modulus) (skew modulus-prime g everything) everything f) (e .1);
   kernel = decided (witness? modulus (g .n) (tutte g modulus) everything f (vector words)) (e .2);
@@ -182,7 +182,7 @@ unfolding ShownWitness
 listed-witness input f words text (unread r) q e = absurd e
 listed-witness input f words text (sheet n weights edges) q e =
     subst (λ (t : List ℕ). Lists input t) (e .2)
-    (shows-witness n weights edges f words q (e .0) (singular (graph n weights edges) f words (e .1)))
+    (shows-witness n weights edges f words q (e .0) (shown-singular (graph n weights edges) f words (e .1)))
 
 unfoldable pub ShownFilling : Reading → List ℕ → List ℕ → Read → List ℕ → List ℕ → Type 0
 ShownFilling (unread r) adjacency weights o adjacency′ weights′ = ⊥
@@ -245,8 +245,8 @@ enough (opening g inverse) e =
     subst (λ (b : Buffers). Opens modulus g everything (before (g .n)) (opened (session (g .n) [])) b) (e .2)
     (opens inverse (e .0) (e .1) (decided (inverse-table? modulus g everything inverse) (e .3)))
 enough (witness g f words) e =
-    subst (λ (b : Buffers). Opens modulus g everything (before (g .n)) (dependent f) b) (e .2)
-    (depends f words (e .0) (e .1) (singular g f words (e .3)))
+    subst (λ (b : Buffers). Opens modulus g everything (before (g .n)) (singular f) b) (e .2)
+    (finds-singular f words (e .0) (e .1) (shown-singular g f words (e .3)))
 enough (not-opening g b r) e = refuses-opening r e
 enough (model g calls given) e = e
 enough (answers g calls given) e = (decided (nonsingular? modulus-prime g everything []) (e .0), e .1)

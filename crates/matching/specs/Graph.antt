@@ -26,16 +26,23 @@ pub record Graph : Type 0 where
 abbrev pub over : ℕ → (adjacency weights : List ℕ) → Graph
 over n adjacency weights = record { n = n; adjacency = adjacency; weights = weights }
 
--- how many two vertices there are: n(n - 1)/2
+-- how many pairs of vertices there are, so how many weights (document 01: draws): n(n - 1)/2
 abbrev pub pair-count : ℕ → ℕ
 pair-count n = n * (n - 1) / 2
+
+-- which fault a cell with this mirror has: 1 not 0 or 1, 2 on the diagonal and not 0, 3 unequal to its mirror; 0 none. Document 01
+-- does not tell them apart; document 02 does.
+unfoldable pub kind-of : (cell mirror row column : ℕ) → ℕ
+unfolding decLt ℕ-discrete
+kind-of x y i j =
+    choose (decLt 1 x) 1 (choose (ℕ-discrete i j) (choose (ℕ-discrete x 0) 0 2) (choose (ℕ-discrete x y) 0 3))
 
 module _ (g : Graph) where
   -- the adjacency table at row i, column j
   abbrev pub cell : ℕ → ℕ → ℕ
   cell i j = getD (g .adjacency) (i * g .n + j) 0
 
-  -- where the weight of i < j stands: the rows before i have n - 1, n - 2, .. weights
+  -- where the weight of i < j stands (document 01: the order of the draws): the rows before i have n - 1, n - 2, .. weights
   unfoldable pub weight-index : ℕ → ℕ → ℕ
   unfolding sum
   weight-index i j = sum i (λ k. g .n - 1 - k) + (j - i - 1)
@@ -49,7 +56,7 @@ module _ (g : Graph) where
   unfolding weight ℕ-discrete
   upper i j = choose (ℕ-discrete (cell i j) 1) (weight i j) 0
 
-  -- the Tutte matrix (document 01: A) modulo p: a weight above the diagonal, and its negative, p - d, below
+  -- the Tutte matrix (document 01: A) modulo p: for i < j adjacent with weight d it is d at (i, j) and p - d at (j, i), else 0
   unfoldable pub tutte : ℕ → Matrix
   unfolding upper decLt
   tutte p i j = choose (decLt i j) (upper i j) (choose (decLt j i) (negative p (upper j i)) 0)
@@ -81,12 +88,10 @@ module _ (g : Graph) where
           let same : i ≡ j = omega arith in
           equals (rw same (omega (arith, tutte-diagonal p j)))
 
-  -- which fault the cell has: 1 not 0 or 1, 2 on the diagonal and not 0, 3 unequal to its mirror; 0 none
+  -- the fault of the cell in row i, column j
   unfoldable pub fault : ℕ → ℕ → ℕ
-  unfolding decLt ℕ-discrete
-  fault i j =
-      choose (decLt 1 (cell i j)) 1
-      (choose (ℕ-discrete i j) (choose (ℕ-discrete (cell i j) 0) 0 2) (choose (ℕ-discrete (cell i j) (cell j i)) 0 3))
+  unfolding kind-of
+  fault i j = kind-of (cell i j) (cell j i) i j
 
   -- a cell by its index, row by row
   abbrev pub Faulty : ℕ → Type 0

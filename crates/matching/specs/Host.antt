@@ -11,7 +11,7 @@ use Rattle.matching.specs.Decision.{Refusal, accepted}
 use Rattle.matching.specs.Graph.{over, tutte}
 use Rattle.matching.specs.Session.{Session, session, onto}
 use Rattle.matching.specs.Model.{Answer, done, denied}
-use Rattle.matching.specs.Opening.{Opening, opened, dependent, not-opened, Buffers, ruling, Opens}
+use Rattle.matching.specs.Opening.{Opening, opened, singular, not-opened, Buffers, ruling, Opens}
 
 -- the words of a byte slice, low byte first; an odd last byte is none
 unfoldable pub words : List ℕ → List ℕ
@@ -35,7 +35,7 @@ refusal-number r = number (r .cause) 0 (r .place) 0 0
 -- kind 1: opened, with the session's pairs; kind 2: the first dependent column
 abbrev pub opening-number : Opening → ℕ
 opening-number (opened s) = number 0 1 0 0 (s .made)
-opening-number (dependent f) = number 0 2 f 0 0
+opening-number (singular f) = number 0 2 f 0 0
 opening-number (not-opened r) = refusal-number r
 
 -- kind 3: a pair appended or removed, the smaller vertex first, with the session's pairs
@@ -48,10 +48,11 @@ pub low-byte : (cause kind first second made : ℕ) → cause < 256 → number c
 low-byte cause kind first second made h =
     add-mul-mod-self-left cause 256 (kind + 256 * (first + 256 * (second + 256 * made))) ∙ mod-eq-of-lt h
 
--- the buffers of opening, those of words as bytes
+-- the host's bytes read as words; the sequence is bytes already
 abbrev pub unpacked : Buffers → Buffers
 unpacked b = record { inverse = words (b .inverse); sequence = b .sequence; witness = words (b .witness); work = words (b .work) }
 
+-- the words left, stored over the host's bytes; an odd last byte is as it was
 abbrev pub packed : Buffers → Buffers → Buffers
 packed new old = record {
   inverse = onto (bytes-of (new .inverse)) (old .inverse);
@@ -60,15 +61,21 @@ packed new old = record {
   work = onto (bytes-of (new .work)) (old .work);
 }
 
+-- the host's buffers afterwards: on a refusal as they came
+abbrev pub stored-after : Opening → Buffers → Buffers → Buffers
+stored-after (opened s) left b = packed left b
+stored-after (singular f) left b = packed left b
+stored-after (not-opened r) left b = b
+
 -- opening through the host: the number, and every byte of the buffers afterwards
 pub record HostOpens (p n : ℕ) (adjacency weights : List ℕ) (S : Subset) (b : Buffers) (answer : ℕ) (after : Buffers) : Type 0 where
   pub opening : Opening
   pub buffers : Buffers
   pub outcome : Opens p (over n adjacency (words weights)) S (unpacked b) opening buffers
   pub numbered : answer ≡ opening-number opening
-  pub stored : after ≡ packed buffers b
+  pub stored : after ≡ stored-after opening buffers b
 
--- demand 2 through the host
+-- demand 2, first half, through the host. It follows from `HostOpens`.
 abbrev pub HostOpenedExactly : ℕ → ℕ → (adjacency weights : List ℕ) → Subset → Buffers → ℕ → Type 0
 HostOpenedExactly p n adjacency weights S b answer =
     ruling p (over n adjacency (words weights)) (unpacked b) ≡ accepted

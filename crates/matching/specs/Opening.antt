@@ -17,7 +17,7 @@ use Rattle.matching.specs.Causes.{opening-ruling}
 -- "opened" and a session with no pairs; "witness" with the first dependent column f; or a refusal
 pub data Opening : Type 0 where
   opened : Session → Opening
-  dependent : ℕ → Opening
+  singular : ℕ → Opening
   not-opened : Refusal → Opening
 
 -- the buffers that opening may write: the inverse (held), the sequence of pairs (strip), the witness and work
@@ -52,16 +52,16 @@ with-witness n witness b = record {
 }
 
 abbrev pub ruling : ℕ → Graph → Buffers → Ruling
-ruling p g b = opening-ruling p g (b .inverse) (b .sequence) (b .witness) (b .work)
+ruling p g b = opening-ruling p g (length (b .inverse)) (length (b .sequence)) (length (b .witness)) (length (b .work))
 
--- the answer and the buffers that opening leaves
+-- the answer and the buffers that opening leaves. The vertices in play are a set S; in document 01 it is `everything`.
 pub data Opens (p : ℕ) (g : Graph) (S : Subset) (b : Buffers) : Opening → Buffers → Type 0 where
   refuses-opening : (r : Refusal) → ruling p g b ≡ refused r → Opens p g S b (not-opened r) b
   opens : (inverse : List ℕ) → ruling p g b ≡ accepted → length inverse ≡ g .n * g .n → InverseTable p g S inverse
       → Opens p g S b (opened (session (g .n) [])) (with-inverse (g .n) inverse b)
-  depends : (f : ℕ) (witness : List ℕ) → ruling p g b ≡ accepted → length witness ≡ g .n → Singular p g S f witness
-      → Opens p g S b (dependent f) (with-witness (g .n) witness b)
+  finds-singular : (f : ℕ) (witness : List ℕ) → ruling p g b ≡ accepted → length witness ≡ g .n → Singular p g S f witness
+      → Opens p g S b (singular f) (with-witness (g .n) witness b)
 
--- demand 2: a graph that is not refused is opened exactly when its matrix has an inverse
+-- demand 2, first half: a graph that is not refused is opened exactly when its matrix has an inverse. It follows from `Opens`.
 abbrev pub OpenedExactly : ℕ → Graph → Subset → Buffers → Opening → Type 0
 OpenedExactly p g S b o = ruling p g b ≡ accepted → ((o ≡ opened (session (g .n) [])) ↔ Invertible p (g .n) (tutte g p) S)

@@ -13,7 +13,7 @@ use Rattle.matching.specs.Graph.{Graph, over, largest, pair-count}
 use Rattle.matching.specs.Pairs.{Pair, pair-of}
 use Rattle.matching.specs.Session.{onto}
 use Rattle.matching.specs.Model.{named?}
-use Rattle.matching.specs.Causes.{adjacency-of, weights-of, too-short}
+use Rattle.matching.specs.Causes.{lent-graph, too-short}
 
 -- one of four kinds of record, with its body: the size; two vertices that are adjacent (may share), in either order; the seed; the end
 pub data Record : Type 0 where
@@ -173,7 +173,7 @@ pub data Read : Type 0 where
 abbrev pub room : ℕ → List ℕ → List ℕ → Ruling
 room n adjacency weights =
     let g : Graph = over n adjacency weights in
-    judge (too-short (adjacency-of g ∷ weights-of g ∷ []) ∷ [])
+    judge (too-short (lent-graph g) ∷ [])
 
 -- the answer, and the adjacency table and the weights afterwards
 pub data Fills (r : Reading) (adjacency weights : List ℕ) : Read → List ℕ → List ℕ → Type 0 where

@@ -13,7 +13,7 @@ use Rattle.matching.specs.Graph.{Graph, over, tutte}
 use Rattle.matching.specs.Pairs.{unmatched, pairs-on}
 use Rattle.matching.specs.Decided.{inverse-table?, witness?}
 use Rattle.matching.specs.Causes.{opening-ruling, session-ruling}
-use Rattle.matching.specs.Opening.{opened, dependent, not-opened, Buffers}
+use Rattle.matching.specs.Opening.{opened, singular, not-opened, Buffers}
 use Rattle.matching.specs.Display.{of-inverse, of-witness, display}
 use Rattle.matching.specs.Model.{pick, automatic, undo, done, denied, nonsingular?, step, run, picked, stopped}
 use Rattle.matching.specs.Calls.{State, row-ruling, open-row}
@@ -117,7 +117,7 @@ worked =
     ∷ lists-refusal [] (because 13 0) (114 ∷ 101 ∷ 102 ∷ 117 ∷ 115 ∷ 101 ∷ 100 ∷ 32 ∷ 49 ∷ 51 ∷ 32 ∷ 97 ∷ 116 ∷ 32 ∷ 48 ∷ 10 ∷ [])
     -- the host's numbers
     ∷ host-opening (opened (record { size = 4; made = 0 })) 256
-    ∷ host-opening (dependent 2) 131584
+    ∷ host-opening (singular 2) 131584
     ∷ host-opening (not-opened (because 3 9215)) 603914243
     ∷ host-answer (done (edge 0 2)) (record { size = 4; made = 1 }) 4328522496
     ∷ host-answer (denied (because 10 0)) (record { size = 4; made = 1 }) 10

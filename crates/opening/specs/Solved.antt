@@ -35,17 +35,7 @@ use Rattle.elimination.specs.Words.{Below}
 use Rattle.elimination.specs.End.{Inverted, Stopped}
 use Rattle.elimination.specs.declared.Outcome.{Outcome}
 use Rattle.elimination.specs.declared.Outcome.the-variants.{Inverse, Column}
-use Rattle.opening.specs.declared.Opening.{Opening}
-use Rattle.opening.specs.declared.Opening.the-variants.{Opened, Dependent, Refused}
-
--- this crate's answers are the definition's
-abbrev pub opening-of : Opening → definition.Opening
-opening-of (Opened s) = definition.opened (record { size = s .size; made = s .made })
-opening-of (Dependent f) = definition.dependent f
-opening-of (Refused r) = definition.not-opened (because (r .cause) (r .place))
-
-abbrev pub buffers : (inverse sequence witness work : List ℕ) → Buffers
-buffers inverse sequence witness work = record { inverse = inverse; sequence = sequence; witness = witness; work = work }
+use Rattle.opening.specs.Answers.{buffers}
 
 -- every weight is in range
 abbrev pub InRange : ℕ → List ℕ → Type 0
@@ -113,11 +103,11 @@ pub record Ready (n : ℕ) (adjacency weights inverse sequence witness work : Li
   pub work-fits : n * n ≤ length work
 
 pub ready : (n : ℕ) (adjacency weights inverse sequence witness work : List ℕ) {r : Ruling} → r ≡ Accepted
-    → ruling-of r ≡ opening-ruling modulus (over n adjacency weights) inverse sequence witness work
+    → ruling-of r ≡ opening-ruling modulus (over n adjacency weights) (length inverse) (length sequence) (length witness) (length work)
     → Ready n adjacency weights inverse sequence witness work
 ready n adjacency weights inverse sequence witness work q e =
-    let ok : opening-ruling modulus (over n adjacency weights) inverse sequence witness work ≡ decision.accepted = sym e ∙ ap ruling-of q in
-    let k = opening-accepted modulus (over n adjacency weights) inverse sequence witness work .0 ok in
+    let ok = sym e ∙ ap ruling-of q in
+    let k = opening-accepted modulus (over n adjacency weights) (length inverse) (length sequence) (length witness) (length work) .0 ok in
     record {
       accepts = ok;
       lent = record { size = k .1 .size; cells = k .0 .0; weights-enough = k .0 .1 .0 };
@@ -129,7 +119,7 @@ ready n adjacency weights inverse sequence witness work q e =
     }
 
 pub refuses : (n : ℕ) (adjacency weights inverse sequence witness work : List ℕ) {r : Ruling} {why : Refusal} → r ≡ ruled.Refused why
-    → ruling-of r ≡ opening-ruling modulus (over n adjacency weights) inverse sequence witness work
+    → ruling-of r ≡ opening-ruling modulus (over n adjacency weights) (length inverse) (length sequence) (length witness) (length work)
     → Opens modulus (over n adjacency weights) everything (buffers inverse sequence witness work) (definition.not-opened (because (why .cause) (why .place))) (buffers inverse sequence witness work)
 refuses n adjacency weights inverse sequence witness work q e = definition.refuses-opening _ (sym e ∙ ap ruling-of q)
 
@@ -144,11 +134,11 @@ module _ {n : ℕ} {adjacency weights inverse sequence witness work : List ℕ} 
       (rw (es, ew, ek, l, length-replicate {A = ℕ} n 255, length-replicate {A = ℕ} n 0, length-replicate {A = ℕ} (n * n) 0))
       (definition.opens inverse' (R .accepts) l I)
 
-  pub depends-so : (f : ℕ) (inverse' sequence' witness' work' : List ℕ) → length witness' ≡ n → Singular modulus (over n adjacency weights) everything f witness'
+  pub singular-so : (f : ℕ) (inverse' sequence' witness' work' : List ℕ) → length witness' ≡ n → Singular modulus (over n adjacency weights) everything f witness'
       → inverse' ≡ replicate (n * n) 0 → sequence' ≡ replicate n 255 → work' ≡ replicate (n * n) 0
-      → Opens modulus (over n adjacency weights) everything (buffers inverse sequence witness work) (definition.dependent f)
+      → Opens modulus (over n adjacency weights) everything (buffers inverse sequence witness work) (definition.singular f)
       (buffers (inverse' ++ drop (n * n) inverse) (sequence' ++ drop n sequence) (witness' ++ drop n witness) (work' ++ drop (n * n) work))
-  depends-so f inverse' sequence' witness' work' l S ei es ek =
-      subst (λ (b : Buffers). Opens modulus (over n adjacency weights) everything (buffers inverse sequence witness work) (definition.dependent f) b)
+  singular-so f inverse' sequence' witness' work' l S ei es ek =
+      subst (λ (b : Buffers). Opens modulus (over n adjacency weights) everything (buffers inverse sequence witness work) (definition.singular f) b)
       (rw (ei, es, ek, l, length-replicate {A = ℕ} n 255, length-replicate {A = ℕ} (n * n) 0))
-      (definition.depends f witness' (R .accepts) l S)
+      (definition.finds-singular f witness' (R .accepts) l S)

@@ -11,7 +11,8 @@ ghost use Rattle.matching.specs.Pairs.{everything};
 ghost use Rattle.matching.specs.Opening.{Opens, OpenedExactly};
 ghost use Rattle.tutte.specs.Table.{Lent};
 ghost use Rattle.elimination.specs.Words.{Below};
-ghost use Rattle.opening.specs.Solved.{InRange, Solved, Ready, opening-of, buffers};
+ghost use Rattle.opening.specs.Answers.{opening-of, buffers};
+ghost use Rattle.opening.specs.Solved.{InRange, Solved, Ready};
 
 // The size and the number of pairs made.
 pub struct Session {
@@ -22,7 +23,7 @@ pub struct Session {
 // What opening answers: a session with no pairs, the first dependent column, or a refusal.
 pub enum Opening {
     Opened(Session),
-    Dependent(usize),
+    Singular(usize),
     Refused(Refusal),
 }
 
@@ -153,7 +154,7 @@ fn begin_accepted(
     );
     match outcome {
         Outcome::Inverse => Opening::Opened(Session { size: n, made: 0 }),
-        Outcome::Column(f) => Opening::Dependent(f),
+        Outcome::Column(f) => Opening::Singular(f),
     }
 }
 

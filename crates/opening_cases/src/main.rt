@@ -21,7 +21,7 @@ fn show(opening: Opening) {
             item(session.size as u64);
             item(session.made as u64);
         }
-        Opening::Dependent(f) => {
+        Opening::Singular(f) => {
             io::write_all(STDOUT_FILENO, b"witness");
             item(f as u64);
         }

@@ -7,8 +7,7 @@ use native.Mathlib.Nat.{mul-le-mul}
 use native.Mathlib.Omega.{arith}
 use lib.Seq.{length-take-le}
 use borrow.Author.Needs.{needs}
-use Rattle.matching.specs.Display.{Part, words-of}
-use Rattle.display.specs.Words.{start-of}
+use Rattle.matching.specs.Display.{Part, words-of, start-of}
 use Rattle.display.specs.Laws.{display-large, display-short-inverse, display-short-witness, display-witness, display-inverse}
 use Rattle.display.proofs.part.Statement.{statement}
 use Rattle.display.proofs.part.Tie as tie

@@ -5,7 +5,7 @@ use native.Mathlib.Omega.{arith}
 use borrow.Author.Needs.{needs}
 use Rattle.lists.specs.Table.{square-small}
 use Rattle.matching.specs.Opening.{Buffers}
-use Rattle.opening.specs.Solved.{opening-of, buffers}
+use Rattle.opening.specs.Answers.{opening-of, buffers}
 use Rattle.host.specs.Opened.{Within, opens-within, opens-small, same-buffers}
 use Rattle.host.proofs.open_over.Statement.{statement}
 use Rattle.host.proofs.open_over.Tie as tie

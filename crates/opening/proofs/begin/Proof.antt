@@ -1,5 +1,4 @@
 -- `opening::begin` meets its contract: a refusal writes nothing, and an accepted graph is ready to be opened. Assumes nothing.
-use mathlib.Core.Path.{refl}
 use borrow.Author.Needs.{needs}
 use Rattle.residue.specs.Modulus.{modulus-prime}
 use Rattle.matching.specs.Graph.{over}
@@ -20,7 +19,7 @@ returns c =
     let s = c .before .before .before .before .before .before .before .before .before .before in
     let o =
     refuses (s .args .n) (s .args .adjacency .now) (s .args .weights .now) (s .args .inverse .now) (s .args .sequence .now) (s .args .witness .now) (s .args .work .now)
-    (c .before .ruling .given .1) (c .before .before .before .judge-opening .ensures _ _ _ _ refl refl refl refl) in
+    (c .before .ruling .given .1) (c .before .before .before .judge-opening .ensures) in
     (o, opened-exactly modulus-prime (over (s .args .n) (s .args .adjacency .now) (s .args .weights .now)) everything o)
 
 enum-told : tie.Need-enum-told
@@ -29,7 +28,7 @@ enum-told c = search needs
 begin-accepted-requires : tie.Need-begin-accepted-requires
 begin-accepted-requires c κs =
     let told = c .before .before .before .before in
-    ready _ _ _ _ _ _ _ (told .enum-told .given .1) (told .before .before .judge-opening .ensures _ _ _ _ refl refl refl refl)
+    ready _ _ _ _ _ _ _ (told .enum-told .given .1) (told .before .before .judge-opening .ensures)
 
 same-length : tie.Need-same-length
 same-length c = search needs

@@ -2,7 +2,7 @@
 use mathlib.Core.Path.{sym, _∙_}
 use lib.Seq.{length-take-le}
 use borrow.Author.Needs.{needs}
-use Rattle.opening.specs.Solved.{opens-so, depends-so}
+use Rattle.opening.specs.Solved.{opens-so, singular-so}
 use Rattle.opening.proofs.begin_accepted.Statement.{statement}
 use Rattle.opening.proofs.begin_accepted.Tie as tie
 
@@ -107,7 +107,7 @@ returns-2 c =
     let unused = cleared .before .before .before .before in
     let s = unused .before .before .before .before .before .before .before .before in
     let left = rw (c .before .outcome .given .1) at (solved .solve .ensures) in
-    depends-so (s .pre) _ _ _ _ _ (solved .solve .kept .1 .1 .1 .1 .0 ∙ length-take-le _ (s .args .witness .now) (s .pre .witness-fits)) (left .0) (left .1)
+    singular-so (s .pre) _ _ _ _ _ (solved .solve .kept .1 .1 .1 .1 .0 ∙ length-take-le _ (s .args .witness .now) (s .pre .witness-fits)) (left .0) (left .1)
     (unused .fill-bytes .ensures ∙ rw (length-take-le _ (s .args .sequence .now) (s .pre .sequence-fits)))
     (cleared .fill-words .ensures ∙ rw (length-take-le _ (s .args .work .now) (s .pre .work-fits)))
 

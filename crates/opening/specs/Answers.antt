@@ -1,0 +1,16 @@
+-- The answers of this crate in the terms of the definitions: what the contracts of `src/` cite. Assumes nothing.
+use mathlib.Core.List.{List}
+use Prim.Native.Nat.{ℕ}
+use Rattle.matching.specs.Decision.{because}
+use Rattle.matching.specs.Opening as definition
+use Rattle.matching.specs.Opening.{Buffers}
+use Rattle.opening.specs.declared.Opening.{Opening}
+use Rattle.opening.specs.declared.Opening.the-variants.{Opened, Singular, Refused}
+
+abbrev pub opening-of : Opening → definition.Opening
+opening-of (Opened s) = definition.opened (record { size = s .size; made = s .made })
+opening-of (Singular f) = definition.singular f
+opening-of (Refused r) = definition.not-opened (because (r .cause) (r .place))
+
+abbrev pub buffers : (inverse sequence witness work : List ℕ) → Buffers
+buffers inverse sequence witness work = record { inverse = inverse; sequence = sequence; witness = witness; work = work }
