@@ -36,10 +36,3 @@ pub record Stopped (n f : ℕ) (w witness : List ℕ) : Type 0 where
 abbrev pub Ended : ℕ → List ℕ → List ℕ → List ℕ → List ℕ → Outcome → Type 0
 Ended n w r witness witness' Inverse = Inverted n w r witness witness'
 Ended n w r witness witness' (Column f) = Stopped n f w witness'
-
--- what a caller has in each case. An `Ended` computes only once its outcome is known, so the arguments are given.
-pub ended-inverse : (n : ℕ) (w r witness witness' : List ℕ) {o : Outcome} → o ≡ Inverse → Ended n w r witness witness' o → Inverted n w r witness witness'
-ended-inverse n w r witness witness' e E = rw e at E
-
-pub ended-column : (n : ℕ) (w r witness witness' : List ℕ) {o : Outcome} {f : ℕ} → o ≡ Column f → Ended n w r witness witness' o → Stopped n f w witness'
-ended-column n w r witness witness' e E = rw e at E

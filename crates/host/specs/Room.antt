@@ -41,10 +41,6 @@ room-enough l {most} {r} R needed h = (to, λ k. from k (decLt r most))
 pub part-room : {bytes most r : ℕ} → Room bytes most r → Room bytes most (length {A = ℕ} (take r (replicate most 0)))
 part-room {bytes} {most} {r} R = rw (length-part r most 0 (R .capped)) R
 
--- the first words that are left, where there is room for all
-pub part-fits : (m : ℕ) (left old : List ℕ) {bytes : ℕ} → m ≤ length left → length left ≡ length old → 2 * length old ≤ bytes → 2 * length (take m left) ≤ bytes
-part-fits m left old h e k = rw (length-take-le m left h) (omega arith)
-
 -- at most 96 vertices
 pub pairs-small : (n : ℕ) → n ≤ largest → pair-count n ≤ 4560
 pairs-small n h = let k : n * (n - 1) ≤ 9120 = mul-le-mul {n₁ = n} {m₁ = n - 1} {n₂ = 96} {m₂ = 95} h (omega arith) in omega arith

@@ -83,8 +83,3 @@ pub stored-front : (new old l : List ℕ) (k : ℕ) → Bytes l → length new �
     → onto (bytes-of (take k (onto new old))) l ≡ onto (bytes-of (onto new (words l))) l
 stored-front new old l k B e h =
     rw (take-at new (drop (length new) old) k e) (sym (stored-words new l B (omega arith)))
-
--- bytes whose words are stored again stay as they are
-pub stored-again : (l : List ℕ) → Bytes l → onto (bytes-of (words l)) l ≡ l
-unfolding bytes-of
-stored-again l B = stored-words [] l B (omega arith)
