@@ -101,9 +101,10 @@ enum saszvigom_kind {
  *   weights    read; n * (n - 1) / 2 words, for the vertices (0,1), (0,2) ..
  *              (0,n-1), (1,2) and so on, each from 1 to 65520
  *   inverse    written; n * n words, row by row
- *   sequence   written; n bytes, all SASZVIGOM_UNUSED: no vertex is matched
+ *   sequence   written; n bytes, all SASZVIGOM_UNUSED: room for the vertices of
+ *              matched pairs, of which there are none yet
  *   witness    written; n words
- *   work       written; n * n words, all 0
+ *   work       written; n * n words, all 0: room to work in, left clear
  *
  * Each buffer is followed by its length in bytes, all of which must be there to
  * read, and to write where the buffer is written. A buffer of words holds half

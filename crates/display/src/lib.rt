@@ -4,7 +4,7 @@ ghost use Rattle.matching.specs.Display.{display, words-of, start-of};
 ghost use Rattle.display.specs.Words.{Tells};
 use checks::LARGEST;
 
-// Whether a word is not 0.
+// Whether any word is not 0.
 fn any_nonzero(words: &[u16]) -> bool
     ensures { λ r. ⌜ Tells (now (words .entry)) r ⌝ }
 {

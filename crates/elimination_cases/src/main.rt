@@ -85,7 +85,7 @@ fn main() {
     let mut zd = [0u16; 4];
     show(4, &mut d, &mut rd, &mut zd);
 
-    // The third column is twice the first and three times the second.
+    // The third column is twice the first plus three times the second.
     let mut e = [0, 1, 3, 4, 65520, 5, 7, 2, 20];
     let mut re = [9u64; 9];
     let mut ze = [0u16; 3];

@@ -82,7 +82,7 @@ fn number(o: Opening) -> u64
 }
 
 // For how many vertices words are stored: for none where opening is refused.
-fn stored(n: usize, o: Opening) -> usize
+fn extent(n: usize, o: Opening) -> usize
     ensures { λ r. ⌜ r ≡ extent n (opening-of o) ⌝ }
 {
     match o {
@@ -92,7 +92,7 @@ fn stored(n: usize, o: Opening) -> usize
     }
 }
 
-// Opening over lent words; those that it leaves are stored as bytes.
+// Opening over lent words, table for the inverse, vector for the witness and scratch for work; what it leaves in them is stored as bytes.
 fn open_over(
     n: usize,
     adjacency: &[u8],
@@ -109,7 +109,7 @@ fn open_over(
     ensures { λ r. ⌜ OpensOver n (now (adjacency .entry)) (now (weights .entry)) (buffers (now (table .entry)) (now (sequence .entry)) (now (vector .entry)) (now (scratch .entry))) (buffers (now (inverse .entry)) (now (sequence .entry)) (now (witness .entry)) (now (work .entry))) r (buffers (now (inverse .exit)) (now (sequence .exit)) (now (witness .exit)) (now (work .exit))) ⌝ }
 {
     let o = opening::begin(n, adjacency, weights, table, sequence, vector, scratch);
-    let m = stored(n, o);
+    let m = extent(n, o);
     let size = m * m;
     store(table, size, inverse);
     store(vector, m, witness);
@@ -133,6 +133,7 @@ fn open_bytes(
     requires { ⌜ (2 * length (now table) ≤ length (now inverse)) × (2 * length (now vector) ≤ length (now witness)) × (2 * length (now scratch) ≤ length (now work)) ⌝ }
     ensures { λ r. ⌜ OpensBytes n (now (adjacency .entry)) (now (weights .entry)) (buffers (now (table .entry)) (now (sequence .entry)) (now (vector .entry)) (now (scratch .entry))) (buffers (now (inverse .entry)) (now (sequence .entry)) (now (witness .entry)) (now (work .entry))) r (buffers (now (inverse .exit)) (now (sequence .exit)) (now (witness .exit)) (now (work .exit))) ⌝ }
 {
+    // The weights of the largest graph: 96 * 95 / 2.
     let mut values = [0u16; 4560];
     let most = weights_needed(n);
     let count = room(weights.len(), most);
@@ -165,19 +166,20 @@ pub extern "C" fn saszvigom_open(
     ensures { λ r. ⌜ HostOpens modulus n (now (adjacency .entry)) (now (weights .entry)) everything (buffers (now (inverse .entry)) (now (sequence .entry)) (now (witness .entry)) (now (work .entry))) r (buffers (now (inverse .exit)) (now (sequence .exit)) (now (witness .exit)) (now (work .exit))) ⌝ }
     ensures { λ r. ⌜ HostOpenedExactly modulus n (now (adjacency .entry)) (now (weights .entry)) everything (buffers (now (inverse .entry)) (now (sequence .entry)) (now (witness .entry)) (now (work .entry))) r ⌝ }
 {
+    // The words of the largest graph: 96 * 96 and 96.
     let mut table = [0u16; 9216];
     let mut vector = [0u16; 96];
     let mut scratch = [0u16; 9216];
-    let inverse_count = room(inverse.len(), 9216);
-    let witness_count = room(witness.len(), 96);
-    let work_count = room(work.len(), 9216);
+    let inverse_room = room(inverse.len(), 9216);
+    let witness_room = room(witness.len(), 96);
+    let work_room = room(work.len(), 9216);
     open_bytes(
         n as usize,
         adjacency,
         weights,
-        &mut table[..inverse_count],
-        &mut vector[..witness_count],
-        &mut scratch[..work_count],
+        &mut table[..inverse_room],
+        &mut vector[..witness_room],
+        &mut scratch[..work_room],
         inverse,
         sequence,
         witness,

@@ -1,4 +1,4 @@
--- What an accepting verdict says: the size, the lengths, the tables and the session are in order; and conversely. Assumes nothing.
+-- What an accepting ruling says: the size, the lengths, the tables and the session are in order; and conversely. Assumes nothing.
 use mathlib.Core.Path.{_≡_, refl, ap}
 use mathlib.Core.Logic.{_↔_}
 use mathlib.Core.List.{List, [], _∷_}

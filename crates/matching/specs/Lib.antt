@@ -1,4 +1,4 @@
--- Document 01 in definitions, in its own order: the graph and its matrix, pairs, the session, opening and its display, the plain
+-- Document 01 in definitions, nearly in its own order: the graph and its matrix, pairs, the session, opening and its display, the plain
 -- model, the session calls, records, causes, the listing, the host's number.
 pub mod Graph
 pub mod Pairs

@@ -104,6 +104,7 @@ fn solve(
 {
     let size = n * n;
     if n <= 32 {
+        // 32 * 32 words.
         let mut w = [0u64; 1024];
         let mut r = [0u64; 1024];
         return solve_over(
@@ -116,6 +117,7 @@ fn solve(
             witness,
         );
     }
+    // 96 * 96 words.
     let mut w = [0u64; 9216];
     let mut r = [0u64; 9216];
     solve_over(

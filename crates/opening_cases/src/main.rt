@@ -1,4 +1,5 @@
-// Opens the graphs of document 01's last sheet to try, and some more, and writes each answer with a digest of every buffer.
+// Opens the graphs of document 01's last sheet to try, and some more, and writes each answer with a digest of every
+// buffer, its excess included: with 0 to start from, three times the digest so far and the next element, modulo 2^64.
 use libc::STDOUT_FILENO;
 use opening::Opening;
 ghost use Prim.Native.Nat.{_<_};
@@ -92,7 +93,7 @@ fn run(n: usize, adjacency: &[u8], weights: &[u16]) {
     end_line();
 }
 
-// A cell of every row that is n + 1 after the one before becomes 0.
+// Every cell n + 1 after another, from the first on, becomes 0.
 fn clear_diagonal(adjacency: &mut [u8], n: usize)
     requires { ⌜ n < 1000 ⌝ }
 {

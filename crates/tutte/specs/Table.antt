@@ -17,8 +17,8 @@ pub record Lent (n : ℕ) (adjacency weights : List ℕ) : Type 0 where
   pub weights-enough : pair-count n ≤ length weights
 
 -- a row of the matrix
-abbrev pub rowOf : Graph → ℕ → List ℕ
-rowOf g i = list-of (g .n) (λ j. tutte g modulus i j)
+abbrev pub row-of : Graph → ℕ → List ℕ
+row-of g i = list-of (g .n) (λ j. tutte g modulus i j)
 
 -- the table of the matrix, row by row
 abbrev pub filled : Graph → List ℕ

@@ -5,7 +5,7 @@ ghost use Prim.Native.Nat.{_*_, _<_};
 ghost use lib.ListN.{length};
 ghost use Rattle.matching.specs.Graph.{upper, tutte, over};
 ghost use Rattle.residue.specs.Modulus.{modulus};
-ghost use Rattle.tutte.specs.Table.{Lent, rowOf, filled};
+ghost use Rattle.tutte.specs.Table.{Lent, row-of, filled};
 
 // The weight of i < j where they are adjacent, else 0.
 fn upper(n: usize, adjacency: &[u8], weights: &[u16], i: usize, j: usize) -> u16
@@ -41,7 +41,7 @@ pub fn entry(n: usize, adjacency: &[u8], weights: &[u16], i: usize, j: usize) ->
 fn fill_row(n: usize, adjacency: &[u8], weights: &[u16], i: usize, row: &mut [u64])
     requires { ⌜ Lent n (now adjacency) (now weights) ⌝ }
     requires { ⌜ (i < n) × (length (now row) ≡ n) ⌝ }
-    ensures { λ _. ⌜ now (row .exit) ≡ rowOf (over n (now (adjacency .entry)) (now (weights .entry))) i ⌝ }
+    ensures { λ _. ⌜ now (row .exit) ≡ row-of (over n (now (adjacency .entry)) (now (weights .entry))) i ⌝ }
 {
     let mut j = 0;
     while j < n {

@@ -15,15 +15,15 @@ abbrev left : tie.After-begin → Buffers
 left at = let l = at .begin .last .1 .1 .1 in buffers (l .0) (l .1 .0) (l .1 .1 .0) (l .1 .1 .1 .0)
 
 -- and that what is stored of it is there
-within : (at : tie.After-stored) → Within (at .stored .result) (left (at .before .before .before .before .before .before .before .before .before))
+within : (at : tie.After-extent) → Within (at .extent .result) (left (at .before .before .before .before .before .before .before .before .before))
 within at =
-    rw (← at .stored .ensures) at (opens-within (at .before .before .before .before .before .before .before .before .before .begin .ensures .0))
+    rw (← at .extent .ensures) at (opens-within (at .before .before .before .before .before .before .before .before .before .begin .ensures .0))
 
 begin-requires : tie.Need-begin-requires
 begin-requires c κs = search needs
 
-stored-requires : tie.Need-stored-requires
-stored-requires c κs = search needs
+extent-requires : tie.Need-extent-requires
+extent-requires c κs = search needs
 
 mul-size : tie.Need-mul-size
 mul-size c = record { fits = omega (arith, square-small _ (within c .size)) }
@@ -87,7 +87,7 @@ returns c =
       left = left begun;
       outcome = begun .begin .ensures .0;
       numbered = c .number .ensures;
-      stored = rw (← told .stored .ensures) (same-buffers (first .store .ensures) refl (second .store2 .ensures) (third .store3 .ensures));
+      stored = rw (← told .extent .ensures) (same-buffers (first .store .ensures) refl (second .store2 .ensures) (third .store3 .ensures));
     }
 
 pub open-over-spec : {M : Type 1} → statement M
@@ -95,7 +95,7 @@ open-over-spec =
     tie.close
     (tie.spec
     begin-requires
-    stored-requires
+    extent-requires
     mul-size
     store-requires
     store-requires-2
