@@ -1,5 +1,6 @@
 // Measures opening through the C entry.
 //
+//   opening peer             which library it is compared with
 //   opening times            a table of times, beside the plain reading and the peer
 //   opening once N dense     one call on a graph of N vertices that are all linked
 //   opening once N sparse    the same with about four neighbours a vertex
@@ -233,18 +234,24 @@ void print_times()
 
 int main(int argc, char **argv)
 {
+    if (argc == 2 && std::strcmp(argv[1], "peer") == 0) {
+        std::printf("Peer: %s\n", Peer::name == nullptr ? "none" : (std::string(Peer::name) + " " + Peer::version).c_str());
+        return 0;
+    }
     if (argc == 2 && std::strcmp(argv[1], "times") == 0) {
         print_times();
         return 0;
     }
     if (argc == 4 && std::strcmp(argv[1], "once") == 0) {
         const size_t n = std::strtoul(argv[2], nullptr, 10);
-        if (n >= 8 && n <= SASZVIGOM_MAX_VERTICES) {
-            const Graph graph = std::string(argv[3]) == "dense" ? dense(n) : sparse(n);
+        const std::string kind = argv[3];
+        // Fewer than five vertices have not 2n edges.
+        if (n >= 5 && n <= SASZVIGOM_MAX_VERTICES && (kind == "dense" || kind == "sparse")) {
+            const Graph graph = kind == "dense" ? dense(n) : sparse(n);
             Buffers buffers(n);
             return saszvigom_cause_of(open_by_entry(graph, buffers)) == SASZVIGOM_NO_CAUSE ? 0 : 1;
         }
     }
-    std::fprintf(stderr, "usage: opening times | opening once N dense|sparse\n");
+    std::fprintf(stderr, "usage: opening peer | opening times | opening once N dense|sparse\n");
     return 2;
 }

@@ -8,10 +8,12 @@
 #if defined(PEER_NTL)
 
 #include <NTL/mat_lzz_p.h>
+#include <NTL/version.h>
 
 class Peer {
 public:
     static constexpr const char *name = "NTL";
+    static constexpr const char *version = NTL_VERSION;
 
     // Takes the matrix, row by row.
     Peer(size_t n, const std::vector<uint16_t> &entries)
@@ -46,6 +48,7 @@ private:
 class Peer {
 public:
     static constexpr const char *name = "FLINT";
+    static constexpr const char *version = FLINT_VERSION;
 
     Peer(size_t n, const std::vector<uint16_t> &entries)
     {
@@ -84,6 +87,7 @@ private:
 class Peer {
 public:
     static constexpr const char *name = nullptr;
+    static constexpr const char *version = "";
 
     Peer(size_t, const std::vector<uint16_t> &)
     {
