@@ -41,16 +41,16 @@ fn negatives(w: &[u64], n: usize, f: usize, factors: &mut [u32])
 // The first index from f on where `factors` is not 0; the length where there is none.
 fn first_nonzero(factors: &[u32], f: usize) -> usize
     requires { ⌜ f ≤ length (now factors) ⌝ }
-    ensures { λ r. ⌜ Found (now (factors .entry)) f r ⌝ }
+    ensures { λ c. ⌜ Found (now (factors .entry)) f c ⌝ }
 {
-    let mut r = f;
-    while r < factors.len() {
-        if factors[r] != 0 {
-            return r;
+    let mut c = f;
+    while c < factors.len() {
+        if factors[c] != 0 {
+            return c;
         }
-        r += 1;
+        c += 1;
     }
-    r
+    c
 }
 
 // What makes a pivot 1, of whose negative k is the residue.

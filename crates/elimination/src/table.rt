@@ -39,23 +39,23 @@ pub fn put(t: &mut [u64], n: usize, i: usize, lo: usize, from: &[u64])
     row::copy(&mut t[at..end], from);
 }
 
-// Row f becomes row r too, in `size` columns from lo on.
-pub fn copy_row(t: &mut [u64], n: usize, lo: usize, size: usize, f: usize, r: usize)
-    requires { ⌜ Square n (now t) × (f < n) × (r < n) × (lo + size ≤ n) ⌝ }
-    ensures { λ _. ⌜ RowCopied n lo (lo + size) f r (now (t .entry)) (now (t .exit)) ⌝ }
+// Row f becomes row c too, in `size` columns from lo on.
+pub fn copy_row(t: &mut [u64], n: usize, lo: usize, size: usize, f: usize, c: usize)
+    requires { ⌜ Square n (now t) × (f < n) × (c < n) × (lo + size ≤ n) ⌝ }
+    ensures { λ _. ⌜ RowCopied n lo (lo + size) f c (now (t .entry)) (now (t .exit)) ⌝ }
 {
     let mut spare = [0u64; 96];
     read(t, n, f, lo, &mut spare[..size]);
-    put(t, n, r, lo, &spare[..size]);
+    put(t, n, c, lo, &spare[..size]);
 }
 
-// Row r times g becomes row f and is left in `pivot`; row f becomes row r. So in the columns from lo on, as many as `pivot` has.
-pub fn promote(t: &mut [u64], n: usize, lo: usize, f: usize, r: usize, g: u64, pivot: &mut [u64])
-    requires { ⌜ Promoting n lo (lo + length (now pivot)) f r g (now t) ⌝ }
-    ensures { λ _. ⌜ Promoted n lo (lo + length (now (pivot .entry))) f r g (now (t .entry)) (now (pivot .exit)) (now (t .exit)) ⌝ }
+// Row c times g becomes row f and is left in `pivot`; row f becomes row c. So in the columns from lo on, as many as `pivot` has.
+pub fn promote(t: &mut [u64], n: usize, lo: usize, f: usize, c: usize, g: u64, pivot: &mut [u64])
+    requires { ⌜ Promoting n lo (lo + length (now pivot)) f c g (now t) ⌝ }
+    ensures { λ _. ⌜ Promoted n lo (lo + length (now (pivot .entry))) f c g (now (t .entry)) (now (pivot .exit)) (now (t .exit)) ⌝ }
 {
-    read_scaled(t, n, r, lo, g, pivot);
-    copy_row(t, n, lo, pivot.len(), f, r);
+    read_scaled(t, n, c, lo, g, pivot);
+    copy_row(t, n, lo, pivot.len(), f, c);
     put(t, n, f, lo, pivot);
 }
 
@@ -85,7 +85,7 @@ pub fn add_rows(t: &mut [u64], n: usize, lo: usize, pivot: &[u64], factors: &[u3
     }
 }
 
-// Row r times g becomes row f, and row f becomes row r; then row f is added to every other row as often as the row's factor says. So in the
+// Row c times g becomes row f, and row f becomes row c; then row f is added to every other row as often as the row's factor says. So in the
 // columns from lo to hi.
 pub fn advance(
     t: &mut [u64],
@@ -93,16 +93,16 @@ pub fn advance(
     lo: usize,
     hi: usize,
     f: usize,
-    r: usize,
+    c: usize,
     g: u64,
     factors: &[u32],
 )
-    requires { ⌜ Promoting n lo hi f r g (now t) ⌝ }
+    requires { ⌜ Promoting n lo hi f c g (now t) ⌝ }
     requires { ⌜ (lo ≤ hi) × (length (now factors) ≡ n) × Below modulus (now factors) × (vector (now factors) f ≡ 0) ⌝ }
-    ensures { λ _. ⌜ Advanced n lo hi f r g (now (factors .entry)) (now (t .entry)) (now (t .exit)) ⌝ }
+    ensures { λ _. ⌜ Advanced n lo hi f c g (now (factors .entry)) (now (t .entry)) (now (t .exit)) ⌝ }
 {
     let mut pivot = [0u64; 96];
     let size = hi - lo;
-    promote(t, n, lo, f, r, g, &mut pivot[..size]);
+    promote(t, n, lo, f, c, g, &mut pivot[..size]);
     add_rows(t, n, lo, &pivot[..size], factors);
 }

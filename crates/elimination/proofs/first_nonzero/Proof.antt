@@ -1,4 +1,4 @@
--- `elimination::first_nonzero` meets its contract: the words from f to before r are 0.
+-- `elimination::first_nonzero` meets its contract: the words from f to before c are 0.
 -- Assumes nothing.
 use mathlib.Core.Path.{_≡_}
 use Prim.Native.Nat.{ℕ, _-_, _≤_, _<_}
@@ -10,10 +10,10 @@ use Rattle.elimination.proofs.first_nonzero.Statement.{statement}
 use Rattle.elimination.proofs.first_nonzero.Tie as tie
 
 abbrev Inv-loop : tie.InvT-loop
-Inv-loop factors f r₀ r = (f ≤ r) × (r ≤ length factors) × ((i : ℕ) → i < r → f ≤ i → getD factors i 0 ≡ 0)
+Inv-loop factors f c₀ c = (f ≤ c) × (c ≤ length factors) × ((i : ℕ) → i < c → f ≤ i → getD factors i 0 ≡ 0)
 
 abbrev μ-loop : tie.MeasureT-loop
-μ-loop factors f r₀ r = length factors - r
+μ-loop factors f c₀ c = length factors - c
 
 loop-holds : tie.Need-loop-holds Inv-loop μ-loop
 loop-holds c = (search needs, search needs, found-start (c .args .factors .now) _)
@@ -29,8 +29,8 @@ returns c =
     let at = c .before .before .before .loop in
     record { from = at .inv .0; to = at .inv .1; zeros = at .inv .2; nonzero = λ _. c .if1 .taken }
 
-add-r : tie.Need-add-r Inv-loop μ-loop
-add-r c = search needs
+add-c : tie.Need-add-c Inv-loop μ-loop
+add-c c = search needs
 
 loop-less : tie.Need-loop-less Inv-loop μ-loop
 loop-less c = search needs
@@ -55,7 +55,7 @@ first-nonzero-spec =
     mul-if1
     shared-slice-read-if1
     returns
-    add-r
+    add-c
     loop-less
     loop-again
     returns-2)

@@ -55,7 +55,7 @@ returns c =
     let k = c .before .before .before .before .before .before .read in
     let e = k .kept .1 .1 .1 .1 .0 ∙ length-part (s .args .size) 96 0 (small s) in
     let q = part-filled (s .args .size) (k .last .1 .1 .1 .1 .0) _ e .1 in
-    row-copied (s .args .n) (s .args .lo) (s .args .size) (s .args .f) (s .args .r) _ _ _ (ap length q ∙ e) (words-same q (k .ensures)) (c .before .before .put .ensures)
+    row-copied (s .args .n) (s .args .lo) (s .args .size) (s .args .f) (s .args .c) _ _ _ (ap length q ∙ e) (words-same q (k .ensures)) (c .before .before .put .ensures)
 
 pub copy-row-spec : {M : Type 1} → statement M
 copy-row-spec =
