@@ -8,6 +8,7 @@ use Rattle.matching.specs.Decision.{Finding, absent, at, when, because, Refusal
 use Rattle.matching.specs.Graph.{largest, pair-count}
 use Rattle.matching.specs.Causes.{Lent, lent-always, lent-besides, or, first-short, too-large, too-short}
 use Rattle.laws.specs.Sound.{when-at, when-absent, judge-accepted, LongEnough, short-absent}
+use Rattle.checks.specs.Answers.{either}
 
 is-short : (length needed number : ℕ) → length < needed → when (decLt length needed) number ≡ at number
 is-short length needed number l = when-at (decLt length needed) number l
@@ -54,16 +55,23 @@ module _ (n adjacency weights inverse sequence : ℕ) where
   pub lengths-long : n ≤ largest → absent ≡ first-short always → judge (too-large n ∷ too-short always ∷ []) ≡ accepted
   lengths-long h e = rw (is-long largest n 0 h, ← e)
 
--- the buffers lent to opening alone, case by case
-module _ (n witness work : ℕ) (later : List Cause) where
-  pub short-witness : witness < n → judge (too-short (lent-besides n witness work) ∷ later) ≡ refused (because 2 5)
+-- the buffers lent to opening alone, case by case, and what comes after them
+module _ (n witness work : ℕ) where
+  pub short-witness : witness < n → judge (too-short (lent-besides n witness work) ∷ []) ≡ refused (because 2 5)
   short-witness h = rw (is-short witness n 5 h)
 
-  pub short-work : n ≤ witness → work < n * n → judge (too-short (lent-besides n witness work) ∷ later) ≡ refused (because 2 6)
+  pub short-work : n ≤ witness → work < n * n → judge (too-short (lent-besides n witness work) ∷ []) ≡ refused (because 2 6)
   short-work g h = rw (is-long witness n 5 g, is-short work (n * n) 6 h)
 
-  pub long-besides : n ≤ witness → n * n ≤ work → judge (too-short (lent-besides n witness work) ∷ later) ≡ judge later
+  pub long-besides : n ≤ witness → n * n ≤ work → judge (too-short (lent-besides n witness work) ∷ []) ≡ accepted
   long-besides g h = rw (is-long witness n 5 g, is-long work (n * n) 6 h)
+
+pub short-then : (buffers : List Lent) (later : List Cause) → judge (too-short buffers ∷ later) ≡ either (judge (too-short buffers ∷ [])) (judge later)
+short-then buffers later = go (first-short buffers)
+  where
+    go : (f : Finding) → unless f 2 (judge later) ≡ either (unless f 2 accepted) (judge later)
+    go absent = refl
+    go (at x) = refl
 
 -- the buffers of a first list, and those after them: a cause found among the first is that of all, and else the others are looked at
 module _ (n : ℕ) (a b : List Lent) (later : List Cause) where

@@ -1,13 +1,14 @@
 -- Laws of the causes 3 and 4, and of opening's 1 to 4, case by case. Assumes nothing.
 use mathlib.Core.Path.{_≡_, sym, _∙_}
 use mathlib.Core.List.{List, [], _∷_, _++_}
-use Prim.Native.Nat.{ℕ, _*_, _≤_, _<_}
+use Prim.Native.Nat.{ℕ, _*_, _≤_}
 use lib.ListN.{length}
 use Rattle.matching.specs.Decision.{absent, at, Refusal, because, Ruling, accepted, refused, Cause, judge}
 use Rattle.matching.specs.Graph.{Graph, largest, pair-count}
 use Rattle.matching.specs.Causes.{Lent, lent-always, lent-besides, too-large, too-short, bad-cell, bad-weight, opening-causes, opening-ruling}
 use Rattle.laws.specs.Sound.{judge-refused, judge-next}
-use Rattle.checks.specs.Lengths.{lengths-refused, lengths-accepted, short-witness, short-work, long-besides}
+use Rattle.checks.specs.Answers.{either}
+use Rattle.checks.specs.Lengths.{short-then, lengths-refused, lengths-accepted}
 
 module _ (p : ℕ) (g : Graph) where
   abbrev pub graph-causes : List Cause
@@ -45,20 +46,10 @@ module _ (p : ℕ) (g : Graph) where
     pub opening-lengths : (r : Refusal) → refused r ≡ lengths-judged → RulesOpening (refused r)
     opening-lengths r e = by-lengths (refused r) (sym (lengths-refused (g .n) before after graph-causes r (sym e)))
 
-    pub opening-witness : accepted ≡ lengths-judged → witness < g .n → RulesOpening (refused (because 2 5))
-    opening-witness e h =
-        by-lengths (refused (because 2 5))
-        (sym (lengths-accepted (g .n) before after graph-causes (sym e) .2 ∙ short-witness (g .n) witness work graph-causes h))
-
-    pub opening-work : accepted ≡ lengths-judged → g .n ≤ witness → work < g .n * g .n → RulesOpening (refused (because 2 6))
-    opening-work e l h =
-        by-lengths (refused (because 2 6))
-        (sym (lengths-accepted (g .n) before after graph-causes (sym e) .2 ∙ short-work (g .n) witness work graph-causes l h))
-
-    pub opening-graph : accepted ≡ lengths-judged → g .n ≤ witness → g .n * g .n ≤ work → (r : Ruling) → r ≡ judge graph-causes → RulesOpening r
-    opening-graph e l m r q =
-        by-lengths r
-        (q ∙ sym (lengths-accepted (g .n) before after graph-causes (sym e) .2 ∙ long-besides (g .n) witness work graph-causes l m))
+    pub opening-rest : accepted ≡ lengths-judged → (b c : Ruling) → b ≡ judge (too-short after ∷ []) → c ≡ judge graph-causes → RulesOpening (either b c)
+    opening-rest e b c q r =
+        by-lengths (either b c)
+        (rw (q, r) (sym (short-then after graph-causes)) ∙ sym (lengths-accepted (g .n) before after graph-causes (sym e) .2))
 
     -- what the graph's check needs
     pub tables-long : accepted ≡ lengths-judged → (g .n ≤ largest) × (g .n * g .n ≤ length (g .adjacency)) × (pair-count (g .n) ≤ length (g .weights))

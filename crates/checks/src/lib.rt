@@ -6,8 +6,8 @@ ghost use lib.ListN.{length};
 ghost use Rattle.residue.specs.Modulus.{modulus};
 ghost use Rattle.matching.specs.Decision.{judge};
 ghost use Rattle.matching.specs.Graph.{largest, pair-count, over, kind-of};
-ghost use Rattle.matching.specs.Causes.{lent-always, first-short, too-large, too-short, bad-cell, bad-weight, opening-ruling};
-ghost use Rattle.checks.specs.Answers.{finding-of, ruling-of, InRow, Located};
+ghost use Rattle.matching.specs.Causes.{lent-always, lent-besides, first-short, too-large, too-short, bad-cell, bad-weight, opening-ruling};
+ghost use Rattle.checks.specs.Answers.{finding-of, ruling-of, either, InRow, Located};
 use residue::Residue;
 
 // The most vertices that a graph may have.
@@ -193,6 +193,30 @@ pub fn judge_graph(n: usize, adjacency: &[u8], weights: &[u16]) -> Ruling
     Ruling::Accepted
 }
 
+// Cause 2, for the lengths of buffers 5 and 6.
+fn judge_besides(n: usize, witness: usize, work: usize) -> Ruling
+    requires { ⌜ n ≤ largest ⌝ }
+    ensures { λ r. ⌜ ruling-of r ≡ judge (too-short (lent-besides n witness work) ∷ []) ⌝ }
+{
+    if witness < n {
+        return Ruling::Refused(Refusal { cause: 2, place: 5 });
+    }
+    if work < n * n {
+        return Ruling::Refused(Refusal { cause: 2, place: 6 });
+    }
+    Ruling::Accepted
+}
+
+// The first of two rulings that is a refusal.
+fn earlier(a: Ruling, b: Ruling) -> Ruling
+    ensures { λ r. ⌜ ruling-of r ≡ either (ruling-of a) (ruling-of b) ⌝ }
+{
+    match a {
+        Ruling::Accepted => b,
+        Ruling::Refused(refusal) => Ruling::Refused(refusal),
+    }
+}
+
 // Causes 1 to 4 as opening looks at them. The last four are the lengths of the other buffers lent to it.
 pub fn judge_opening(
     n: usize,
@@ -214,11 +238,7 @@ pub fn judge_opening(
     ) {
         return Ruling::Refused(refusal);
     }
-    if witness < n {
-        return Ruling::Refused(Refusal { cause: 2, place: 5 });
-    }
-    if work < n * n {
-        return Ruling::Refused(Refusal { cause: 2, place: 6 });
-    }
-    judge_graph(n, adjacency, weights)
+    let besides = judge_besides(n, witness, work);
+    let graph = judge_graph(n, adjacency, weights);
+    earlier(besides, graph)
 }

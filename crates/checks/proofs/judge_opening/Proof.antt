@@ -1,11 +1,10 @@
 -- `checks::judge_opening` meets its contract: each return is a case of the definition.
 -- Assumes nothing.
-use native.Mathlib.Nat.{mul-le-mul}
-use native.Mathlib.Omega.{arith}
+use mathlib.Core.Path.{_∙_}
 use borrow.Author.Needs.{needs}
 use Rattle.residue.specs.Modulus.{modulus}
 use Rattle.matching.specs.Graph.{over}
-use Rattle.checks.specs.Opening.{opening-lengths, opening-witness, opening-work, opening-graph, tables-long}
+use Rattle.checks.specs.Opening.{opening-lengths, opening-rest, tables-long}
 use Rattle.checks.proofs.judge_opening.Statement.{statement}
 use Rattle.checks.proofs.judge_opening.Tie as tie
 
@@ -25,48 +24,31 @@ returns c =
 enum-told : tie.Need-enum-told
 enum-told c = search needs
 
-returns-2 : tie.Need-returns-2
-returns-2 c =
-    let told = c .before in
-    let judged = told .before .before in
+judge-besides-requires : tie.Need-judge-besides-requires
+judge-besides-requires c κs =
+    let judged = c .before .before in
     let a = judged .before .before .before .args in
-    opening-witness modulus (over (a .n) (a .adjacency .now) (a .weights .now)) (a .inverse) (a .sequence) (a .witness) (a .work)
-    (rw (told .enum-told .given .1) at (judged .judge-lengths .ensures)) (c .if1 .taken)
-
-mul-if2 : tie.Need-mul-if2
-mul-if2 c =
-    let told = c .before in
-    let judged = told .before .before in
-    let a = judged .before .before .before .args in
-    let long =
     tables-long modulus (over (a .n) (a .adjacency .now) (a .weights .now)) (a .inverse) (a .sequence) (a .witness) (a .work)
-    (rw (told .enum-told .given .1) at (judged .judge-lengths .ensures)) in
-    omega (arith, mul-le-mul (long .0) (long .0))
-
-returns-3 : tie.Need-returns-3
-returns-3 c =
-    let told = c .before .before in
-    let judged = told .before .before in
-    let a = judged .before .before .before .args in
-    opening-work modulus (over (a .n) (a .adjacency .now) (a .weights .now)) (a .inverse) (a .sequence) (a .witness) (a .work)
-    (rw (told .enum-told .given .1) at (judged .judge-lengths .ensures)) (c .before .if1 .left) (c .if2 .taken)
+    (rw (c .enum-told .given .1) at (judged .judge-lengths .ensures)) .0
 
 judge-graph-requires : tie.Need-judge-graph-requires
 judge-graph-requires c κs =
-    let told = c .before .before in
-    let judged = told .before .before in
+    let judged = c .before .before .before in
     let a = judged .before .before .before .args in
     tables-long modulus (over (a .n) (a .adjacency .now) (a .weights .now)) (a .inverse) (a .sequence) (a .witness) (a .work)
-    (rw (told .enum-told .given .1) at (judged .judge-lengths .ensures))
+    (rw (c .before .enum-told .given .1) at (judged .judge-lengths .ensures))
 
-returns-4 : tie.Need-returns-4
-returns-4 c =
+earlier-requires : tie.Need-earlier-requires
+earlier-requires c κs = search needs
+
+returns-2 : tie.Need-returns-2
+returns-2 c =
     let told = c .before .before .before in
     let judged = told .before .before in
     let a = judged .before .before .before .args in
-    opening-graph modulus (over (a .n) (a .adjacency .now) (a .weights .now)) (a .inverse) (a .sequence) (a .witness) (a .work)
-    (rw (told .enum-told .given .1) at (judged .judge-lengths .ensures)) (c .before .before .if1 .left) (c .before .if2 .left)
-    _ (c .judge-graph .ensures)
+    c .earlier .ensures
+    ∙ opening-rest modulus (over (a .n) (a .adjacency .now) (a .weights .now)) (a .inverse) (a .sequence) (a .witness) (a .work)
+    (rw (told .enum-told .given .1) at (judged .judge-lengths .ensures)) _ _ (c .before .before .judge-besides .ensures) (c .before .judge-graph .ensures)
 
 pub judge-opening-spec : {M : Type 1} → statement M
 judge-opening-spec =
@@ -76,8 +58,7 @@ judge-opening-spec =
     enum-known-refusal
     returns
     enum-told
-    returns-2
-    mul-if2
-    returns-3
+    judge-besides-requires
     judge-graph-requires
-    returns-4)
+    earlier-requires
+    returns-2)
