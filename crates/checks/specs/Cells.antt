@@ -9,9 +9,9 @@ use native.Mathlib.Decide.{ℕ-discrete, decLt}
 use lib.ListN.{getD}
 use Rattle.lists.specs.Table.{index-positive, row-below, column-below, index-of, index-row, index-column, index-below}
 use Rattle.skew.specs.Choose.{choose-yes, choose-no}
-use Rattle.matching.specs.Decision.{Every, absent, at, not?, First, first?}
+use Rattle.matching.specs.Decision.{Every, absent, at}
 use Rattle.matching.specs.Graph.{Graph, over, cell, kind-of, fault, Faulty}
-use Rattle.matching.specs.Causes.{bad-cell}
+use Rattle.matching.specs.Causes.{first-faulty, bad-cell}
 use Rattle.laws.specs.Sound.{found-at, found-absent}
 use Rattle.checks.specs.Answers.{FaultInRow, FirstFault, Located}
 use Rattle.checks.specs.declared.Fault.{Fault}
@@ -96,20 +96,16 @@ module _ (g : Graph) where
           fault-mirror (x % g .n) (x / g .n) (λ e. omega arith) (rows (x % g .n) (omega (arith, same-row a)) (x / g .n) (omega arith) at-row)
       go (no a) (no b) = rw (same-row a) (row (x % g .n) (omega (arith, same-row a)) (left-of (same-row a)))
 
-  cells : First (g .n * g .n) (Faulty g)
-  unfolding first? fault ℕ-discrete
-  cells = first? (Faulty g) (g .n * g .n) (λ x. not? (ℕ-discrete (fault g (x / g .n) (x % g .n)) 0))
-
   pub cell-found : (i j : ℕ) → i < g .n → j < g .n → fault g i j ≢ 0 → RowsPassed i → ((l : ℕ) → i ≤ l → l < j → fault g i l ≡ 0)
       → bad-cell g .finding ≡ at (i * g .n + j)
-  unfolding bad-cell cells
+  unfolding bad-cell
   cell-found i j hi hj d rows row =
       let below = index-below (g .n) i j hi hj in
-      found-at cells (i * g .n + j) below (rw (index-row (g .n) i j hj, index-column (g .n) i j hj) d) (passed i j (omega arith) (omega arith) rows row)
+      found-at (first-faulty g) (i * g .n + j) below (rw (index-row (g .n) i j hj, index-column (g .n) i j hj) d) (passed i j (omega arith) (omega arith) rows row)
 
   pub cells-absent : RowsPassed (g .n) → bad-cell g .finding ≡ absent
-  unfolding bad-cell cells
-  cells-absent rows = found-absent cells .1 (λ x l. passed (g .n) 0 (omega arith) (omega arith) rows (λ l a b. absurd (omega arith)) x (omega arith))
+  unfolding bad-cell
+  cells-absent rows = found-absent (first-faulty g) .1 (λ x l. passed (g .n) 0 (omega arith) (omega arith) rows (λ l a b. absurd (omega arith)) x (omega arith))
 
   -- a row's scan after the rows before it
   pub first-in-row : (i : ℕ) → i < g .n → RowsPassed i → (f : Fault) → FaultInRow g i f → FirstFault g f

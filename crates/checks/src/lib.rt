@@ -142,7 +142,7 @@ fn row_fault(n: usize, adjacency: &[u8], row: usize, start: usize) -> Cells
 }
 
 // The first fault, row by row. A cell left of the diagonal has one only if its mirror, which comes before it, has one.
-pub fn first_fault(n: usize, adjacency: &[u8]) -> Cells
+fn first_fault(n: usize, adjacency: &[u8]) -> Cells
     requires { ⌜ (n ≤ largest) × (n * n ≤ length (now adjacency)) ⌝ }
     ensures { λ r. ⌜ ((weights : List ℕ) → Located (over n (now (adjacency .entry)) weights) r) ⌝ }
 {
@@ -159,7 +159,7 @@ pub fn first_fault(n: usize, adjacency: &[u8]) -> Cells
 }
 
 // The first weight that is 0 or not below the modulus, of one for each pair of vertices.
-pub fn first_outside(n: usize, weights: &[u16]) -> Finding
+fn first_outside(n: usize, weights: &[u16]) -> Finding
     requires { ⌜ (n ≤ largest) × (pair-count n ≤ length (now weights)) ⌝ }
     ensures { λ r. ⌜ ((adjacency : List ℕ) → finding-of r ≡ bad-weight modulus (over n adjacency (now (weights .entry))) .finding) ⌝ }
 {

@@ -2,23 +2,23 @@
 use mathlib.Core.Path.{_≡_, refl, sym, ap, _∙_}
 use mathlib.Core.Logic.{_↔_}
 use mathlib.Core.List.{List, [], _∷_}
-use Prim.Native.Nat.{ℕ, _+_, _*_, _-_, _/_, _%_, _≤_, _<_}
+use Prim.Native.Nat.{ℕ, _+_, _*_, _-_, _≤_, _<_}
 use native.Mathlib.Nat.{mul-le-mul}
 use native.Mathlib.Omega.{arith}
-use native.Mathlib.Decide.{ℕ-discrete, decLt}
+use native.Mathlib.Decide.{decLt}
 use lib.ListN.{length, getD, take, replicate}
 use lib.Seq.{length-take-le, getD-take}
 use Rattle.lists.specs.Part.{length-part}
 use Rattle.lists.specs.Table.{square-small}
 use Rattle.skew.specs.Choose.{choose, choose-yes, choose-no}
-use Rattle.matching.specs.Decision.{Every, not?, First, first?, nowhere, first-at, Finding, absent, at, when, found, because, Refusal, Ruling, accepted, refused, unless, judge}
-use Rattle.matching.specs.Graph.{Graph, largest, pair-count, fault, Faulty, over}
-use Rattle.matching.specs.Causes.{Lent, lent-to-opening, first-short, or, bad-cell, bad-weight, opening-ruling}
+use Rattle.matching.specs.Decision.{Every, First, nowhere, first-at, Finding, absent, at, when, found, because, Refusal, Ruling, accepted, refused, unless, judge}
+use Rattle.matching.specs.Graph.{Graph, largest, pair-count, over}
+use Rattle.matching.specs.Causes.{Lent, lent-to-opening, first-short, or, first-faulty, bad-cell, first-outside, bad-weight, opening-ruling}
 use Rattle.matching.specs.Opening.{Buffers, ruling}
 use Rattle.matching.specs.Host.{words, unpacked}
 use Rattle.laws.specs.Sound.{when-at, when-absent, short-absent}
 use Rattle.host.specs.Words.{words-length}
-use Rattle.host.specs.Same.{outside, outside-found, cells-same, weights-same}
+use Rattle.host.specs.Same.{cells-same, weights-same}
 
 -- r words are all that so many bytes hold, or the most that matter
 pub record Room (bytes most r : ℕ) : Type 0 where
@@ -157,11 +157,11 @@ unless-small (at x) k v h later e = at-small k x h e
 
 cell-small : (g : Graph) → g .n ≤ largest → SmallAt (bad-cell g .finding)
 unfolding bad-cell
-cell-small g h =
-    found-small (first? (Faulty g) (g .n * g .n) (λ x. not? (ℕ-discrete (fault g (x / g .n) (x % g .n)) 0))) (omega (arith, square-small (g .n) h))
+cell-small g h = found-small (first-faulty g) (omega (arith, square-small (g .n) h))
 
 weight-small : (p : ℕ) (g : Graph) → g .n ≤ largest → SmallAt (bad-weight p g .finding)
-weight-small p g h = rw (outside-found p g) (found-small (outside p g) (omega (arith, pairs-small (g .n) h)))
+unfolding bad-weight
+weight-small p g h = found-small (first-outside p g) (omega (arith, pairs-small (g .n) h))
 
 pub place-small : (p : ℕ) (g : Graph) (b : Buffers) {r : Refusal} → ruling p g b ≡ refused r → r .place < 65536
 unfolding opening-ruling

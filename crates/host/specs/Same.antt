@@ -5,17 +5,15 @@ use Prim.Native.Nat.{ℕ, _<_}
 use native.Mathlib.Omega.{arith}
 use native.Mathlib.Decide.{ℕ-discrete, decLt}
 use lib.ListN.{getD}
-use Rattle.modular.specs.Congruence.{equals, _⨾_}
 use Rattle.modular.specs.Operations.{negative}
 use Rattle.skew.specs.Choose.{choose}
 use Rattle.skew.specs.Subset.{Subset}
-use Rattle.skew.specs.Inverse.{Matrix, column, Inverse}
-use Rattle.skew.specs.Same.{apply-same, witness-same, first-same}
-use Rattle.matching.specs.Decision.{Every, both?, not?, First, nowhere, first-at, first?, found}
-use Rattle.matching.specs.Graph.{Graph, pair-count, cell, weight-index, weight, upper, tutte, tutte-upper, tutte-lower, tutte-diagonal, fault, Outside, over}
+use Rattle.skew.specs.Same.{inverse-same, witness-same, first-same}
+use Rattle.matching.specs.Decision.{Every, First, nowhere, first-at, found}
+use Rattle.matching.specs.Graph.{pair-count, cell, weight-index, weight, upper, tutte, tutte-upper, tutte-lower, tutte-diagonal, fault, over}
 use Rattle.matching.specs.Session.{InverseTable}
 use Rattle.matching.specs.Opening.{Singular}
-use Rattle.matching.specs.Causes.{bad-cell, bad-weight}
+use Rattle.matching.specs.Causes.{bad-cell, first-outside, bad-weight}
 use Rattle.laws.specs.Sound.{found-absent, found-at}
 use Rattle.laws.specs.Weights.{index-fits}
 
@@ -23,23 +21,6 @@ use Rattle.laws.specs.Weights.{index-fits}
 found-same : {n : ℕ} {P Q : ℕ → Type 0} (f : First n P) (h : First n Q) → Every n (λ k. P k → Q k) → Every n (λ k. Q k → P k) → found f ≡ found h
 found-same f (nowhere none) to from = found-absent f .1 (λ k l a. none k l (to k l a))
 found-same f (first-at x l e none) to from = found-at f x l (from x l e) (λ k m a. none k m (to k (omega arith) a))
-
-inverse-same : {p n : ℕ} (A B : Matrix) {L : Subset} {T : Matrix} → ((i j : ℕ) → i < n → j < n → A i j ≡ B i j) → Inverse p n A L T → Inverse p n B L T
-inverse-same A B {T = T} same I = record {
-  rows = I .rows;
-  columns = I .columns;
-  one = λ i hi l. equals (sym (apply-same A B same (column T i) i hi)) ⨾ I .one i hi l;
-  off = λ i j hi hj l m d. equals (sym (apply-same A B same (column T j) i hi)) ⨾ I .off i j hi hj l m d;
-}
-
--- the first weight out of range
-pub outside : (p : ℕ) (g : Graph) → First (pair-count (g .n)) (Outside g p)
-unfolding first? decLt
-outside p g = first? (Outside g p) (pair-count (g .n)) (λ x. not? (both? (decLt 0 (getD (g .weights) x 0)) (decLt (getD (g .weights) x 0) p)))
-
-pub outside-found : (p : ℕ) (g : Graph) → bad-weight p g .finding ≡ found (outside p g)
-unfolding bad-weight outside
-outside-found p g = refl
 
 module _ (n : ℕ) (adjacency u v : List ℕ) where
   -- the cells are the same, whatever the weights are
@@ -49,10 +30,9 @@ module _ (n : ℕ) (adjacency u v : List ℕ) where
 
   module _ (agree : Every (pair-count n) (λ x. getD u x 0 ≡ getD v x 0)) where
     pub weights-same : (p : ℕ) → bad-weight p (over n adjacency u) .finding ≡ bad-weight p (over n adjacency v) .finding
+    unfolding bad-weight
     weights-same p =
-        outside-found p (over n adjacency u)
-        ∙ found-same (outside p (over n adjacency u)) (outside p (over n adjacency v)) (λ k l o. rw (agree k l) at o) (λ k l o. rw (← agree k l) at o)
-        ∙ sym (outside-found p (over n adjacency v))
+        found-same (first-outside p (over n adjacency u)) (first-outside p (over n adjacency v)) (λ k l o. rw (agree k l) at o) (λ k l o. rw (← agree k l) at o)
 
     upper-same : (i j : ℕ) → i < j → j < n → upper (over n adjacency u) i j ≡ upper (over n adjacency v) i j
     unfolding upper weight weight-index

@@ -5,7 +5,6 @@ use Prim.Native.Nat.{ℕ, zero, suc, _+_, _*_, _/_, _%_, _≤_, _<_}
 use native.Mathlib.Omega.{arith}
 use lib.ListN.{length, getD, take, drop}
 use lib.Seq.{take-at}
-use Rattle.lists.specs.Values.{list-of}
 use Rattle.matching.specs.Session.{onto}
 use Rattle.matching.specs.Host.{words, bytes-of}
 
@@ -51,13 +50,6 @@ unfolding bytes-of
 bytes-high [] i h = absurd (omega arith)
 bytes-high (w ∷ l) zero h = refl
 bytes-high (w ∷ l) (suc i) h = rw (double-one i) (bytes-high l i (omega arith))
-
--- the first values of a list
-pub list-of-front : (k : ℕ) (l : List ℕ) → k ≤ length l → list-of k (λ x. getD l x 0) ≡ take k l
-unfolding list-of
-list-of-front zero l h = refl
-list-of-front (suc k) [] h = absurd (omega arith)
-list-of-front (suc k) (x ∷ l) h = ap (λ r. x ∷ r) (list-of-front k l (omega arith))
 
 low-of : (a b : ℕ) → a < 256 → (a + 256 * b) % 256 ≡ a
 low-of a b h = omega arith

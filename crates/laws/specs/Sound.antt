@@ -5,14 +5,14 @@ use mathlib.Core.List.{List, [], _∷_}
 use Prim.Native.Nat.{ℕ, _*_, _/_, _%_, _≤_, _<_}
 use native.Mathlib.Omega.{arith}
 use native.Mathlib.Decide.{ℕ-discrete, decLt}
-use lib.ListN.{length, getD}
+use lib.ListN.{length}
 use Rattle.skew.specs.Subset.{Subset}
-use Rattle.matching.specs.Decision.{because, refused, Every, not?, both?, First, nowhere, first-at, first?, Finding, absent, at, when, found, Cause, accepted, judge, unless}
-use Rattle.matching.specs.Graph.{Graph, largest, pair-count, fault, Faulty, Outside}
+use Rattle.matching.specs.Decision.{because, refused, Every, not?, First, nowhere, first-at, Finding, absent, at, when, found, Cause, accepted, judge, unless}
+use Rattle.matching.specs.Graph.{Graph, largest, pair-count, fault, InRange}
 use Rattle.matching.specs.Session.{InverseTable, WellFormed}
 use Rattle.matching.specs.Pairs.{unmatched, pairs-on}
 use Rattle.matching.specs.Decided.{inverse-table?, well-formed?}
-use Rattle.matching.specs.Causes.{Lent, lent-to-opening, opening-causes, lent-to-session, session-causes, too-large, or, first-short, bad-cell, bad-weight, ill-formed, not-inverse, opening-ruling, session-ruling}
+use Rattle.matching.specs.Causes.{Lent, lent-to-opening, opening-causes, lent-to-session, session-causes, too-large, or, first-short, first-faulty, bad-cell, in-range?, first-outside, bad-weight, ill-formed, not-inverse, opening-ruling, session-ruling}
 
 clash : {A : Type 0} {x : ℕ} → at x ≡ absent → A
 clash e = absurd (let z : _≡_ {A = ℕ} 0 1 = cc in omega arith)
@@ -81,7 +81,7 @@ short-absent (b ∷ later) = go (decLt (b .length) (b .needed)) (short-absent la
 pub record InOrder (p : ℕ) (g : Graph) : Type 0 where
   pub size : g .n ≤ largest
   pub cells : Every (g .n * g .n) (λ x. fault g (x / g .n) (x % g .n) ≡ 0)
-  pub weights : Every (pair-count (g .n)) (λ x. (0 < getD (g .weights) x 0) × (getD (g .weights) x 0 < p))
+  pub weights : Every (pair-count (g .n)) (InRange g p)
 
 stable : {A : Type 0} → Dec A → ¬ ¬ A → A
 stable (yes a) _ = a
@@ -95,16 +95,13 @@ size-ok n =
 cells-ok : (g : Graph) → (bad-cell g .finding ≡ absent) ↔ Every (g .n * g .n) (λ x. fault g (x / g .n) (x % g .n) ≡ 0)
 unfolding bad-cell
 cells-ok g =
-    let r = found-absent (first? (Faulty g) (g .n * g .n) (λ x. not? (ℕ-discrete (fault g (x / g .n) (x % g .n)) 0))) in
+    let r = found-absent (first-faulty g) in
     (λ e x l. stable (ℕ-discrete (fault g (x / g .n) (x % g .n)) 0) (r .0 e x l), λ h. r .1 (λ x l d. d (h x l)))
 
-in-range? : (p : ℕ) (g : Graph) (x : ℕ) → Dec ((0 < getD (g .weights) x 0) × (getD (g .weights) x 0 < p))
-in-range? p g x = both? (decLt 0 (getD (g .weights) x 0)) (decLt (getD (g .weights) x 0) p)
-
-weights-ok : (p : ℕ) (g : Graph) → (bad-weight p g .finding ≡ absent) ↔ Every (pair-count (g .n)) (λ x. (0 < getD (g .weights) x 0) × (getD (g .weights) x 0 < p))
-unfolding bad-weight in-range?
+weights-ok : (p : ℕ) (g : Graph) → (bad-weight p g .finding ≡ absent) ↔ Every (pair-count (g .n)) (InRange g p)
+unfolding bad-weight
 weights-ok p g =
-    let r = found-absent (first? (Outside g p) (pair-count (g .n)) (λ x. not? (in-range? p g x))) in
+    let r = found-absent (first-outside p g) in
     (λ e x l. stable (in-range? p g x) (r .0 e x l), λ h. r .1 (λ x l d. d (h x l)))
 
 -- opening is not refused exactly when the buffers are long enough and the graph is in order

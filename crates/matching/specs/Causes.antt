@@ -5,8 +5,8 @@ use Prim.Native.Nat.{ℕ, _*_, _/_, _%_}
 use native.Mathlib.Decide.{ℕ-discrete, decLt}
 use lib.ListN.{length, getD}
 use Rattle.skew.specs.Subset.{Subset}
-use Rattle.matching.specs.Decision.{both?, not?, Finding, absent, at, when, found, first?, Cause, Ruling, judge}
-use Rattle.matching.specs.Graph.{Graph, largest, pair-count, fault, Faulty, Outside}
+use Rattle.matching.specs.Decision.{both?, not?, First, first?, Finding, absent, at, when, found, Cause, Ruling, judge}
+use Rattle.matching.specs.Graph.{Graph, largest, pair-count, fault, Faulty, InRange}
 use Rattle.matching.specs.Pairs.{unmatched, pairs-on}
 use Rattle.matching.specs.Decided.{inverse-table?, well-formed?}
 
@@ -69,18 +69,25 @@ abbrev pub too-short : List Lent → Cause
 too-short buffers = record { number = 2; finding = first-short buffers }
 
 -- 3: a cell of the adjacency table not 0 or 1, not 0 on the diagonal, or unequal to its mirror, at the first index, row by row
-unfoldable pub bad-cell : Graph → Cause
+unfoldable pub first-faulty : (g : Graph) → First (g .n * g .n) (Faulty g)
 unfolding first? fault ℕ-discrete
-bad-cell g =
-    record { number = 3; finding = found (first? (Faulty g) (g .n * g .n) (λ x. not? (ℕ-discrete (fault g (x / g .n) (x % g .n)) 0))) }
+first-faulty g = first? (Faulty g) (g .n * g .n) (λ x. not? (ℕ-discrete (fault g (x / g .n) (x % g .n)) 0))
+
+unfoldable pub bad-cell : Graph → Cause
+unfolding first-faulty
+bad-cell g = record { number = 3; finding = found (first-faulty g) }
 
 -- 4: a weight outside 1 .. p - 1, at the first index
-unfoldable pub bad-weight : ℕ → Graph → Cause
+abbrev pub in-range? : (p : ℕ) (g : Graph) (x : ℕ) → Dec (InRange g p x)
+in-range? p g x = both? (decLt 0 (getD (g .weights) x 0)) (decLt (getD (g .weights) x 0) p)
+
+unfoldable pub first-outside : (p : ℕ) (g : Graph) → First (pair-count (g .n)) (λ x. ¬ InRange g p x)
 unfolding first? decLt
-bad-weight p g = record {
-  number = 4;
-  finding = found (first? (Outside g p) (pair-count (g .n)) (λ x. not? (both? (decLt 0 (getD (g .weights) x 0)) (decLt (getD (g .weights) x 0) p))));
-}
+first-outside p g = first? (λ x. ¬ InRange g p x) (pair-count (g .n)) (λ x. not? (in-range? p g x))
+
+unfoldable pub bad-weight : ℕ → Graph → Cause
+unfolding first-outside
+bad-weight p g = record { number = 4; finding = found (first-outside p g) }
 
 -- 5: the session not well formed
 unfoldable pub ill-formed : Graph → ℕ → List ℕ → Cause

@@ -97,6 +97,6 @@ module _ (g : Graph) where
   abbrev pub Faulty : ℕ → Type 0
   Faulty x = fault (x / g .n) (x % g .n) ≢ 0
 
-  -- a weight outside 1 .. p - 1
-  abbrev pub Outside : ℕ → ℕ → Type 0
-  Outside p x = ¬ ((0 < getD (g .weights) x 0) × (getD (g .weights) x 0 < p))
+  -- a weight by its index, from 1 to p - 1
+  abbrev pub InRange : ℕ → ℕ → Type 0
+  InRange p x = (0 < getD (g .weights) x 0) × (getD (g .weights) x 0 < p)

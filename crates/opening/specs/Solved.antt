@@ -1,6 +1,6 @@
 -- What opening computes, in the terms of the definitions. Assumes nothing.
 use mathlib.Core.Path.{_≡_, sym, ap, ap₂, subst, _∙_}
-use mathlib.Core.List.{List, _++_}
+use mathlib.Core.List.{List, [], _++_}
 use Prim.Native.Nat.{ℕ, _+_, _*_, _/_, _%_, _≤_, _<_}
 use native.Mathlib.Nat.{mod-lt}
 use native.Mathlib.Omega.{arith}
@@ -15,7 +15,7 @@ use Rattle.skew.specs.Inverse.{inverse-of-left}
 use Rattle.skew.specs.Same.{left-same, witness-same, first-same}
 use Rattle.matching.specs.Decision as decision
 use Rattle.matching.specs.Decision.{Every, because}
-use Rattle.matching.specs.Graph.{Graph, pair-count, weight, upper, tutte, tutte-upper, tutte-lower, tutte-diagonal, over}
+use Rattle.matching.specs.Graph.{Graph, over, pair-count, weight, upper, tutte, tutte-upper, tutte-lower, tutte-diagonal, InRange}
 use Rattle.matching.specs.Pairs.{everything}
 use Rattle.matching.specs.Session.{InverseTable}
 use Rattle.matching.specs.Model.{skew}
@@ -38,8 +38,8 @@ use Rattle.elimination.specs.declared.Outcome.the-variants.{Inverse, Column}
 use Rattle.opening.specs.Answers.{buffers}
 
 -- every weight is in range
-abbrev pub InRange : ℕ → List ℕ → Type 0
-InRange n weights = Every (pair-count n) (λ x. (0 < getD weights x 0) × (getD weights x 0 < modulus))
+abbrev pub Weighted : ℕ → List ℕ → Type 0
+Weighted n weights = Every (pair-count n) (InRange (over n [] weights) modulus)
 
 -- what is left in the inverse and in the witness
 abbrev pub Solved : Graph → Outcome → (inverse witness : List ℕ) → Type 0
@@ -50,7 +50,7 @@ positive : 0 < modulus
 positive = lit< tt
 
 -- every entry of the matrix is below the modulus
-module _ (g : Graph) (range : InRange (g .n) (g .weights)) where
+module _ (g : Graph) (range : Weighted (g .n) (g .weights)) where
   upper-below : (i j : ℕ) → i < j → j < g .n → upper g i j < modulus
   unfolding upper weight
   upper-below i j h l = go (ℕ-discrete (getD (g .adjacency) (i * g .n + j) 0) 1)
@@ -96,7 +96,7 @@ solved-column g f witness l S = record {
 pub record Ready (n : ℕ) (adjacency weights inverse sequence witness work : List ℕ) : Type 0 where
   pub accepts : definition.ruling modulus (over n adjacency weights) (buffers inverse sequence witness work) ≡ decision.accepted
   pub lent : Lent n adjacency weights
-  pub range : InRange n weights
+  pub range : Weighted n weights
   pub inverse-fits : n * n ≤ length inverse
   pub sequence-fits : n ≤ length sequence
   pub witness-fits : n ≤ length witness

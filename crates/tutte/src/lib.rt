@@ -21,7 +21,7 @@ fn upper(n: usize, adjacency: &[u8], weights: &[u16], i: usize, j: usize) -> u16
 }
 
 // Row i, column j of the matrix.
-pub fn entry(n: usize, adjacency: &[u8], weights: &[u16], i: usize, j: usize) -> u16
+fn entry(n: usize, adjacency: &[u8], weights: &[u16], i: usize, j: usize) -> u16
     requires { ⌜ Lent n (now adjacency) (now weights) ⌝ }
     requires { ⌜ (i < n) × (j < n) ⌝ }
     ensures { λ r. ⌜ r ≡ tutte (over n (now (adjacency .entry)) (now (weights .entry))) modulus i j ⌝ }

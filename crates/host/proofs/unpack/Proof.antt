@@ -4,9 +4,10 @@ use Prim.Native.Nat.{_-_}
 use native.Mathlib.Omega.{arith}
 use lib.ListN.{length, getD}
 use borrow.Author.Needs.{needs}
+use Rattle.lists.specs.Values.{list-of-front}
 use Rattle.lists.specs.Written.{Written, written-start, written-more, written-all}
 use Rattle.matching.specs.Host.{words}
-use Rattle.host.specs.Words.{words-length, words-at, list-of-front}
+use Rattle.host.specs.Words.{words-length, words-at}
 use Rattle.host.proofs.unpack.Statement.{statement}
 use Rattle.host.proofs.unpack.Tie as tie
 
