@@ -25,12 +25,12 @@ pub record RowPut (n i lo : ℕ) (from t t' : List ℕ) : Type 0 where
   pub right : (j : ℕ) → lo + length from ≤ j → table n t' i j ≡ table n t i j
   pub others : (a j : ℕ) → j < n → a ≢ i → table n t' a j ≡ table n t a j
 
--- row f is row r too in the columns from lo to hi, and everything else is as it was
-pub record RowCopied (n lo hi f r : ℕ) (t t' : List ℕ) : Type 0 where
-  pub inside : (j : ℕ) → lo ≤ j → j < hi → table n t' r j ≡ table n t f j
-  pub left : (j : ℕ) → j < lo → table n t' r j ≡ table n t r j
-  pub right : (j : ℕ) → hi ≤ j → table n t' r j ≡ table n t r j
-  pub others : (i j : ℕ) → j < n → i ≢ r → table n t' i j ≡ table n t i j
+-- row f is row c too in the columns from lo to hi, and everything else is as it was
+pub record RowCopied (n lo hi f c : ℕ) (t t' : List ℕ) : Type 0 where
+  pub inside : (j : ℕ) → lo ≤ j → j < hi → table n t' c j ≡ table n t f j
+  pub left : (j : ℕ) → j < lo → table n t' c j ≡ table n t c j
+  pub right : (j : ℕ) → hi ≤ j → table n t' c j ≡ table n t c j
+  pub others : (i j : ℕ) → j < n → i ≢ c → table n t' i j ≡ table n t i j
 
 -- k times the words of pivot, in the columns from lo on, are added to row i
 pub record RowAdded (n i lo k : ℕ) (pivot t t' : List ℕ) : Type 0 where
@@ -43,28 +43,28 @@ pub record RowsAdded (n m lo : ℕ) (factors pivot t t' : List ℕ) : Type 0 whe
   pub done : (i j : ℕ) → i < m → j < n → table n t' i j ≡ table n t i j + vector factors i * shifted lo pivot j
   pub rest : (i j : ℕ) → m ≤ i → j < n → table n t' i j ≡ table n t i j
 
--- a table in which row r, times g, is to become row f in the columns from lo to hi
-pub record Promoting (n lo hi f r g : ℕ) (t : List ℕ) : Type 0 where
+-- a table in which row c, times g, is to become row f in the columns from lo to hi
+pub record Promoting (n lo hi f c g : ℕ) (t : List ℕ) : Type 0 where
   pub square : Square n t
   pub within : Within limit n t
   pub f-below : f < n
-  pub r-below : r < n
+  pub c-below : c < n
   pub g-below : g < modulus
   pub ends : hi ≤ n
 
--- in the columns from lo to hi row r times g is row f, and row f is row r
-pub record Promoted (n lo hi f r g : ℕ) (t pivot t' : List ℕ) : Type 0 where
-  pub row : (j : ℕ) → lo ≤ j → j < hi → table n t' f j ≡ scaled g (table n t r) j
+-- in the columns from lo to hi row c times g is row f, and row f is row c
+pub record Promoted (n lo hi f c g : ℕ) (t pivot t' : List ℕ) : Type 0 where
+  pub row : (j : ℕ) → lo ≤ j → j < hi → table n t' f j ≡ scaled g (table n t c) j
   pub kept : (j : ℕ) → lo ≤ j → j < hi → getD pivot (j - lo) 0 ≡ table n t' f j
-  pub others : (i j : ℕ) → i ≢ f → lo ≤ j → j < hi → table n t' i j ≡ exchange f r (table n t) i j
+  pub others : (i j : ℕ) → i ≢ f → lo ≤ j → j < hi → table n t' i j ≡ exchange f c (table n t) i j
   pub left : (i j : ℕ) → j < n → j < lo → table n t' i j ≡ table n t i j
   pub right : (i j : ℕ) → j < n → hi ≤ j → table n t' i j ≡ table n t i j
 
 -- the same, and then row f is added to every other row, as often as its factor says
-pub record Advanced (n lo hi f r g : ℕ) (factors t t' : List ℕ) : Type 0 where
-  pub row : (j : ℕ) → lo ≤ j → j < hi → table n t' f j ≡ scaled g (table n t r) j
+pub record Advanced (n lo hi f c g : ℕ) (factors t t' : List ℕ) : Type 0 where
+  pub row : (j : ℕ) → lo ≤ j → j < hi → table n t' f j ≡ scaled g (table n t c) j
   pub others : (i j : ℕ) → i < n → i ≢ f → lo ≤ j → j < hi
-      → table n t' i j ≡ exchange f r (table n t) i j + vector factors i * table n t' f j
+      → table n t' i j ≡ exchange f c (table n t) i j + vector factors i * table n t' f j
   pub left : (i j : ℕ) → i < n → j < n → j < lo → table n t' i j ≡ table n t i j
   pub right : (i j : ℕ) → i < n → j < n → hi ≤ j → table n t' i j ≡ table n t i j
 
@@ -143,27 +143,27 @@ rows-next {n} {m} {lo} {factors} {pivot} {t} {s} {s'} R size A = record {
     done i j l hj (no d) = A .others i j hj d ∙ R .done i j (omega arith) hj
 
 -- what an exchange leaves in a row that is not f
-pub exchange-second : (f r : ℕ) (X : Matrix) (i j : ℕ) → i ≢ f → i ≡ r → exchange f r X i j ≡ X f j
+pub exchange-second : (f c : ℕ) (X : Matrix) (i j : ℕ) → i ≢ f → i ≡ c → exchange f c X i j ≡ X f j
 unfolding exchange
-exchange-second f r X i j d e =
-    ap (λ (row : Vector). row j) (choose-no (ℕ-discrete i f) _ _ d ∙ choose-yes (ℕ-discrete i r) _ _ e)
+exchange-second f c X i j d e =
+    ap (λ (row : Vector). row j) (choose-no (ℕ-discrete i f) _ _ d ∙ choose-yes (ℕ-discrete i c) _ _ e)
 
-pub exchange-others : (f r : ℕ) (X : Matrix) (i j : ℕ) → i ≢ f → i ≢ r → exchange f r X i j ≡ X i j
+pub exchange-others : (f c : ℕ) (X : Matrix) (i j : ℕ) → i ≢ f → i ≢ c → exchange f c X i j ≡ X i j
 unfolding exchange
-exchange-others f r X i j d e =
-    ap (λ (row : Vector). row j) (choose-no (ℕ-discrete i f) _ _ d ∙ choose-no (ℕ-discrete i r) _ _ e)
+exchange-others f c X i j d e =
+    ap (λ (row : Vector). row j) (choose-no (ℕ-discrete i f) _ _ d ∙ choose-no (ℕ-discrete i c) _ _ e)
 
 -- what holds of column j in every row holds there after an exchange
-pub exchange-all : (P : ℕ → Type 0) (n f r : ℕ) (X : Matrix) (j : ℕ) → f < n → ((i : ℕ) → i < n → P (X i j)) → (i : ℕ) → i < n → i ≢ f → P (exchange f r X i j)
-exchange-all P n f r X j hf h i hi d = go (ℕ-discrete i r)
+pub exchange-all : (P : ℕ → Type 0) (n f c : ℕ) (X : Matrix) (j : ℕ) → f < n → ((i : ℕ) → i < n → P (X i j)) → (i : ℕ) → i < n → i ≢ f → P (exchange f c X i j)
+exchange-all P n f c X j hf h i hi d = go (ℕ-discrete i c)
   where
-    go : Dec (i ≡ r) → P (exchange f r X i j)
-    go (yes e) = rw (exchange-second f r X i j d e) (h f hf)
-    go (no q) = rw (exchange-others f r X i j d q) (h i hi)
+    go : Dec (i ≡ c) → P (exchange f c X i j)
+    go (yes e) = rw (exchange-second f c X i j d e) (h f hf)
+    go (no q) = rw (exchange-others f c X i j d q) (h i hi)
 
-pub row-copied : (n lo size f r : ℕ) (t spare t' : List ℕ) → length spare ≡ size → Words (λ m. table n t f (lo + m)) spare → RowPut n r lo spare t t'
-    → RowCopied n lo (lo + size) f r t t'
-row-copied n lo size f r t spare t' len S A = record {
+pub row-copied : (n lo size f c : ℕ) (t spare t' : List ℕ) → length spare ≡ size → Words (λ m. table n t f (lo + m)) spare → RowPut n c lo spare t t'
+    → RowCopied n lo (lo + size) f c t t'
+row-copied n lo size f c t spare t' len S A = record {
   inside = λ j l h.
       let e : lo + (j - lo) ≡ j = omega arith in
       A .inside j l (omega arith) ∙ S .at (j - lo) (omega arith) ∙ ap (table n t f) e;
@@ -172,43 +172,43 @@ row-copied n lo size f r t spare t' len S A = record {
   others = A .others;
 }
 
-pub promoted : (n lo size f r g : ℕ) (t pivot s t' : List ℕ) → length pivot ≡ size → lo + size ≤ n
-    → Words (scaled g (λ m. table n t r (lo + m))) pivot → RowCopied n lo (lo + size) f r t s → RowPut n f lo pivot s t'
-    → Promoted n lo (lo + size) f r g t pivot t'
-promoted n lo size f r g t pivot s t' lp ends P A B = record {
+pub promoted : (n lo size f c g : ℕ) (t pivot s t' : List ℕ) → length pivot ≡ size → lo + size ≤ n
+    → Words (scaled g (λ m. table n t c (lo + m))) pivot → RowCopied n lo (lo + size) f c t s → RowPut n f lo pivot s t'
+    → Promoted n lo (lo + size) f c g t pivot t'
+promoted n lo size f c g t pivot s t' lp ends P A B = record {
   row = λ j l h.
       let e : lo + (j - lo) ≡ j = omega arith in
-      B .inside j l (omega arith) ∙ P .at (j - lo) (omega arith) ∙ ap (scaled g (table n t r)) e;
+      B .inside j l (omega arith) ∙ P .at (j - lo) (omega arith) ∙ ap (scaled g (table n t c)) e;
   kept = λ j l h. sym (B .inside j l (omega arith));
-  others = λ i j d l h. B .others i j (omega arith) d ∙ other i j d l h (ℕ-discrete i r);
-  left = λ i j hj l. left i j hj l (ℕ-discrete i f) (ℕ-discrete i r);
-  right = λ i j hj l. right i j hj l (ℕ-discrete i f) (ℕ-discrete i r);
+  others = λ i j d l h. B .others i j (omega arith) d ∙ other i j d l h (ℕ-discrete i c);
+  left = λ i j hj l. left i j hj l (ℕ-discrete i f) (ℕ-discrete i c);
+  right = λ i j hj l. right i j hj l (ℕ-discrete i f) (ℕ-discrete i c);
 }
   where
-    other : (i j : ℕ) → i ≢ f → lo ≤ j → j < lo + size → Dec (i ≡ r) → table n s i j ≡ exchange f r (table n t) i j
+    other : (i j : ℕ) → i ≢ f → lo ≤ j → j < lo + size → Dec (i ≡ c) → table n s i j ≡ exchange f c (table n t) i j
     other i j d l h (yes e) =
-        ap (λ k. table n s k j) e ∙ A .inside j l h ∙ sym (exchange-second f r (table n t) i j d e)
-    other i j d l h (no q) = A .others i j (omega arith) q ∙ sym (exchange-others f r (table n t) i j d q)
+        ap (λ k. table n s k j) e ∙ A .inside j l h ∙ sym (exchange-second f c (table n t) i j d e)
+    other i j d l h (no q) = A .others i j (omega arith) q ∙ sym (exchange-others f c (table n t) i j d q)
 
-    left-before : (i j : ℕ) → j < n → j < lo → Dec (i ≡ r) → table n s i j ≡ table n t i j
+    left-before : (i j : ℕ) → j < n → j < lo → Dec (i ≡ c) → table n s i j ≡ table n t i j
     left-before i j hj l (yes e) = rw e (A .left j l)
     left-before i j hj l (no d) = A .others i j hj d
 
-    left : (i j : ℕ) → j < n → j < lo → Dec (i ≡ f) → Dec (i ≡ r) → table n t' i j ≡ table n t i j
+    left : (i j : ℕ) → j < n → j < lo → Dec (i ≡ f) → Dec (i ≡ c) → table n t' i j ≡ table n t i j
     left i j hj l (yes e) q = ap (λ k. table n t' k j) e ∙ B .left j l ∙ ap (λ k. table n s k j) (sym e) ∙ left-before i j hj l q
     left i j hj l (no d) q = B .others i j hj d ∙ left-before i j hj l q
 
-    right-before : (i j : ℕ) → j < n → lo + size ≤ j → Dec (i ≡ r) → table n s i j ≡ table n t i j
+    right-before : (i j : ℕ) → j < n → lo + size ≤ j → Dec (i ≡ c) → table n s i j ≡ table n t i j
     right-before i j hj l (yes e) = rw e (A .right j l)
     right-before i j hj l (no d) = A .others i j hj d
 
-    right : (i j : ℕ) → j < n → lo + size ≤ j → Dec (i ≡ f) → Dec (i ≡ r) → table n t' i j ≡ table n t i j
+    right : (i j : ℕ) → j < n → lo + size ≤ j → Dec (i ≡ f) → Dec (i ≡ c) → table n t' i j ≡ table n t i j
     right i j hj l (yes e) q =
         ap (λ k. table n t' k j) e ∙ B .right j (omega arith) ∙ ap (λ k. table n s k j) (sym e) ∙ right-before i j hj l q
     right i j hj l (no d) q = B .others i j hj d ∙ right-before i j hj l q
 
-pub promoted-within : {n lo hi f r g b : ℕ} {t pivot t' : List ℕ} → Promoted n lo hi f r g t pivot t' → f < n → modulus ≤ b → Within b n t → Within b n t'
-promoted-within {n} {lo} {hi} {f} {r} {g} {b} {t} {pivot} {t'} P hf l B = record {
+pub promoted-within : {n lo hi f c g b : ℕ} {t pivot t' : List ℕ} → Promoted n lo hi f c g t pivot t' → f < n → modulus ≤ b → Within b n t → Within b n t'
+promoted-within {n} {lo} {hi} {f} {c} {g} {b} {t} {pivot} {t'} P hf l B = record {
   at = λ i j hi' hj. at i j hi' hj (decLt j lo) (decLt j hi) (ℕ-discrete i f);
 }
   where
@@ -216,32 +216,32 @@ promoted-within {n} {lo} {hi} {f} {r} {g} {b} {t} {pivot} {t'} P hf l B = record
     at i j hi' hj (yes k) _ _ = rw (P .left i j hj k) (B .at i j hi' hj)
     at i j hi' hj (no _) (no k) _ = rw (P .right i j hj (omega arith)) (B .at i j hi' hj)
     at i j hi' hj (no a) (yes k) (yes e) =
-        let h : (table n t r j * g) % modulus < modulus = mod-lt _ (lit< tt) in
+        let h : (table n t c j * g) % modulus < modulus = mod-lt _ (lit< tt) in
         rw (e, P .row j (omega arith) k) (omega arith)
     at i j hi' hj (no a) (yes k) (no d) =
-        rw (P .others i j d (omega arith) k) (exchange-all (λ x. x < b) n f r (table n t) j hf (λ m hm. B .at m j hm hj) i hi' d)
+        rw (P .others i j d (omega arith) k) (exchange-all (λ x. x < b) n f c (table n t) j hf (λ m hm. B .at m j hm hj) i hi' d)
 
-pub promoted-pivot : {n lo hi f r g : ℕ} {t pivot t' : List ℕ} → Promoted n lo hi f r g t pivot t' → lo + length pivot ≡ hi → Below modulus pivot
-promoted-pivot {n} {lo} {hi} {f} {r} {g} {t} {pivot} {t'} P len = record {
+pub promoted-pivot : {n lo hi f c g : ℕ} {t pivot t' : List ℕ} → Promoted n lo hi f c g t pivot t' → lo + length pivot ≡ hi → Below modulus pivot
+promoted-pivot {n} {lo} {hi} {f} {c} {g} {t} {pivot} {t'} P len = record {
   at = λ m l.
       let e : lo + m - lo ≡ m = omega arith in
       let low : lo ≤ lo + m = omega arith in
       let high : lo + m < hi = omega arith in
-      let z : (table n t r (lo + m) * g) % modulus < modulus = mod-lt _ (lit< tt) in
+      let z : (table n t c (lo + m) * g) % modulus < modulus = mod-lt _ (lit< tt) in
       rw (sym (ap (vector pivot) e) ∙ P .kept (lo + m) low high ∙ P .row (lo + m) low high) z;
 }
 
 -- the same with an equal end, and with an equal pivot row
-pub promoted-to : {n lo hi hi' f r g : ℕ} {t pivot t' : List ℕ} → hi ≡ hi' → Promoted n lo hi f r g t pivot t' → Promoted n lo hi' f r g t pivot t'
+pub promoted-to : {n lo hi hi' f c g : ℕ} {t pivot t' : List ℕ} → hi ≡ hi' → Promoted n lo hi f c g t pivot t' → Promoted n lo hi' f c g t pivot t'
 promoted-to e P = rw (← e) P
 
 pub rows-added-as : {n m lo : ℕ} {factors pivot pivot' t t' : List ℕ} → pivot ≡ pivot' → RowsAdded n m lo factors pivot t t'
     → RowsAdded n m lo factors pivot' t t'
 rows-added-as e A = rw (← e) A
 
-pub advanced : {n lo hi f r g : ℕ} {factors t pivot s t' : List ℕ} → Promoted n lo hi f r g t pivot s → lo + length pivot ≡ hi → f < n → hi ≤ n
-    → vector factors f ≡ 0 → RowsAdded n n lo factors pivot s t' → Advanced n lo hi f r g factors t t'
-advanced {n} {lo} {hi} {f} {r} {g} {factors} {t} {pivot} {s} {t'} P len hf ends z A = record {
+pub advanced : {n lo hi f c g : ℕ} {factors t pivot s t' : List ℕ} → Promoted n lo hi f c g t pivot s → lo + length pivot ≡ hi → f < n → hi ≤ n
+    → vector factors f ≡ 0 → RowsAdded n n lo factors pivot s t' → Advanced n lo hi f c g factors t t'
+advanced {n} {lo} {hi} {f} {c} {g} {factors} {t} {pivot} {s} {t'} P len hf ends z A = record {
   row = λ j l h. top j (omega arith) ∙ P .row j l h;
   others = λ i j hi' d l h. A .done i j hi' (omega arith) ∙ ap₂ (λ x y. x + vector factors i * y) (P .others i j d l h) (within j l h);
   left = λ i j hi' hj l. A .done i j hi' hj ∙ none (vector factors i) (P .left i j hj l) (shifted-left lo pivot j l);
@@ -266,17 +266,17 @@ advanced {n} {lo} {hi} {f} {r} {g} {factors} {t} {pivot} {s} {t'} P len hf ends 
 abbrev pub square : ℕ
 square = 4293001441
 
-pub advanced-within : {n lo hi f r g b : ℕ} {factors t t' : List ℕ} → Advanced n lo hi f r g factors t t' → f < n → length factors ≡ n → Below modulus factors
+pub advanced-within : {n lo hi f c g b : ℕ} {factors t t' : List ℕ} → Advanced n lo hi f c g factors t t' → f < n → length factors ≡ n → Below modulus factors
     → Within b n t → Within (b + square) n t'
-advanced-within {n} {lo} {hi} {f} {r} {g} {b} {factors} {t} {t'} A hf len F B = record {
+advanced-within {n} {lo} {hi} {f} {c} {g} {b} {factors} {t} {t'} A hf len F B = record {
   at = λ i j hi' hj. at i j hi' hj (decLt j lo) (decLt j hi) (ℕ-discrete i f);
 }
   where
     top : (j : ℕ) → lo ≤ j → j < hi → table n t' f j < modulus
     top j l h = rw (A .row j l h) (mod-lt _ (lit< tt))
 
-    old : (i j : ℕ) → i < n → j < n → i ≢ f → exchange f r (table n t) i j < b
-    old i j hi' hj d = exchange-all (λ x. x < b) n f r (table n t) j hf (λ k hk. B .at k j hk hj) i hi' d
+    old : (i j : ℕ) → i < n → j < n → i ≢ f → exchange f c (table n t) i j < b
+    old i j hi' hj d = exchange-all (λ x. x < b) n f c (table n t) j hf (λ k hk. B .at k j hk hj) i hi' d
 
     at : (i j : ℕ) → i < n → j < n → Dec (j < lo) → Dec (j < hi) → Dec (i ≡ f) → table n t' i j < b + square
     at i j hi' hj (yes l) _ _ = omega (arith, A .left i j hi' hj l, B .at i j hi' hj)

@@ -53,7 +53,7 @@ advance-requires c κs =
         square = s .pre .w-square;
         within = s .pre .w-within;
         f-below = s .pre .f-below;
-        r-below = omega (arith, s .pre .f-below, s .pre .c-below);
+        c-below = omega (arith, s .pre .f-below, s .pre .c-below);
         g-below = c .before .before .before .cancel .ensures .below;
         ends = le-refl _;
       },
@@ -69,7 +69,7 @@ advance-requires-2 c κs =
         square = s .pre .r-square;
         within = s .pre .r-within;
         f-below = s .pre .f-below;
-        r-below = omega (arith, s .pre .f-below, s .pre .c-below);
+        c-below = omega (arith, s .pre .f-below, s .pre .c-below);
         g-below = cancelled .cancel .ensures .below;
         ends = s .pre .width;
       },

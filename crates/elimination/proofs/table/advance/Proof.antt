@@ -33,7 +33,7 @@ promote-requires c κs =
       square = p .square;
       within = p .within;
       f-below = p .f-below;
-      r-below = p .r-below;
+      c-below = p .c-below;
       g-below = p .g-below;
       ends = ends-with (s .args .lo) (s .args .n) (s .args .hi - s .args .lo) _ (length-part (s .args .hi - s .args .lo) 96 0 (small s)) (omega (arith, p .ends, s .pre .1 .0));
     }
