@@ -23,14 +23,13 @@ use Rattle.matching.specs.Opening as definition
 use Rattle.matching.specs.Opening.{Singular, Buffers, Opens}
 use Rattle.matching.specs.Causes.{opening-ruling}
 use Rattle.laws.specs.Sound.{opening-accepted}
+use Rattle.laws.specs.Weights.{index-fits}
 use Rattle.checks.specs.Answers.{ruling-of}
 use Rattle.checks.specs.declared.Refusal.{Refusal}
-use Rattle.checks.specs.declared.Ruling as checked
 use Rattle.checks.specs.declared.Ruling.{Ruling}
 use Rattle.checks.specs.declared.Ruling.the-variants.{Accepted}
 use Rattle.checks.specs.declared.Ruling.the-variants as ruled
-use Rattle.laws.specs.Weights.{index-fits}
-use Rattle.tutte.specs.Table.{Lent, filled}
+use Rattle.tutte.specs.Table.{Complete, filled}
 use Rattle.elimination.specs.Words.{Below}
 use Rattle.elimination.specs.End.{Inverted, Stopped}
 use Rattle.elimination.specs.declared.Outcome.{Outcome}
@@ -68,7 +67,11 @@ module _ (g : Graph) (range : Weighted (g .n) (g .weights)) where
       go (no d) (no e) = let same : i ≡ j = omega arith in rw (same, tutte-diagonal g modulus j) positive
 
   pub filled-below : Below modulus (filled g)
-  filled-below = record { at = λ x l. let k : x < g .n * g .n = omega (arith, length-list-of (g .n * g .n) (λ x. tutte g modulus (x / g .n) (x % g .n))) in rw (getD-list-of (g .n * g .n) _ x k) (tutte-below _ _ (row-below (g .n) x k) (column-below (g .n) x k)) }
+  filled-below = record {
+    at = λ x l.
+        let k : x < g .n * g .n = omega (arith, length-list-of (g .n * g .n) (λ x. tutte g modulus (x / g .n) (x % g .n))) in
+        rw (getD-list-of (g .n * g .n) _ x k) (tutte-below _ _ (row-below (g .n) x k) (column-below (g .n) x k));
+  }
 
 -- the filled table is the matrix
 pub filled-entry : (g : Graph) (i j : ℕ) → i < g .n → j < g .n → table (g .n) (filled g) i j ≡ tutte g modulus i j
@@ -95,7 +98,7 @@ solved-column g f witness l S = record {
 -- what an accepting ruling makes ready
 pub record Ready (n : ℕ) (adjacency weights inverse sequence witness work : List ℕ) : Type 0 where
   pub accepts : definition.ruling modulus (over n adjacency weights) (buffers inverse sequence witness work) ≡ decision.accepted
-  pub lent : Lent n adjacency weights
+  pub lent : Complete n adjacency weights
   pub range : Weighted n weights
   pub inverse-fits : n * n ≤ length inverse
   pub sequence-fits : n ≤ length sequence

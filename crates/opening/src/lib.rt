@@ -9,7 +9,7 @@ ghost use Rattle.residue.specs.Modulus.{modulus};
 ghost use Rattle.matching.specs.Graph.{over};
 ghost use Rattle.matching.specs.Pairs.{everything};
 ghost use Rattle.matching.specs.Opening.{Opens, OpenedExactly};
-ghost use Rattle.tutte.specs.Table.{Lent};
+ghost use Rattle.tutte.specs.Table.{Complete};
 ghost use Rattle.elimination.specs.Words.{Below};
 ghost use Rattle.opening.specs.Answers.{opening-of, buffers};
 ghost use Rattle.opening.specs.Solved.{Weighted, Solved, Ready};
@@ -71,7 +71,7 @@ fn solve_over(
     inverse: &mut [u16],
     witness: &mut [u16],
 ) -> Outcome
-    requires { ⌜ Lent n (now adjacency) (now weights) × Weighted n (now weights) ⌝ }
+    requires { ⌜ Complete n (now adjacency) (now weights) × Weighted n (now weights) ⌝ }
     requires { ⌜ (length (now w) ≡ n * n) × (length (now r) ≡ n * n) × (length (now inverse) ≡ n * n) × (length (now witness) ≡ n) ⌝ }
     ensures { λ o. ⌜ Solved (over n (now (adjacency .entry)) (now (weights .entry))) o (now (inverse .exit)) (now (witness .exit)) ⌝ }
 {
@@ -98,7 +98,7 @@ fn solve(
     inverse: &mut [u16],
     witness: &mut [u16],
 ) -> Outcome
-    requires { ⌜ Lent n (now adjacency) (now weights) × Weighted n (now weights) ⌝ }
+    requires { ⌜ Complete n (now adjacency) (now weights) × Weighted n (now weights) ⌝ }
     requires { ⌜ (length (now inverse) ≡ n * n) × (length (now witness) ≡ n) ⌝ }
     ensures { λ o. ⌜ Solved (over n (now (adjacency .entry)) (now (weights .entry))) o (now (inverse .exit)) (now (witness .exit)) ⌝ }
 {

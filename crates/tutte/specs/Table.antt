@@ -11,7 +11,7 @@ use Rattle.matching.specs.Graph.{Graph, over, largest, pair-count, tutte}
 use Rattle.laws.specs.Weights.{index-closed, index-fits}
 
 -- a graph of at most 96 vertices whose tables are long enough
-pub record Lent (n : ℕ) (adjacency weights : List ℕ) : Type 0 where
+pub record Complete (n : ℕ) (adjacency weights : List ℕ) : Type 0 where
   pub size : n ≤ largest
   pub cells : n * n ≤ length adjacency
   pub weights-enough : pair-count n ≤ length weights
@@ -24,7 +24,7 @@ row-of g i = list-of (g .n) (λ j. tutte g modulus i j)
 abbrev pub filled : Graph → List ℕ
 filled g = list-of (g .n * g .n) (λ x. tutte g modulus (x / g .n) (x % g .n))
 
-module _ {n : ℕ} {adjacency weights : List ℕ} (L : Lent n adjacency weights) (i j : ℕ) where
+module _ {n : ℕ} {adjacency weights : List ℕ} (L : Complete n adjacency weights) (i j : ℕ) where
   -- products of indices are small
   pub row-small : i < n → i * n ≤ 9216
   row-small h = mul-le-mul {n₁ = i} {m₁ = n} {n₂ = 96} {m₂ = 96} (omega (arith, L .size)) (L .size)

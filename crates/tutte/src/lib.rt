@@ -5,11 +5,11 @@ ghost use Prim.Native.Nat.{_*_, _<_};
 ghost use lib.ListN.{length};
 ghost use Rattle.matching.specs.Graph.{upper, tutte, over};
 ghost use Rattle.residue.specs.Modulus.{modulus};
-ghost use Rattle.tutte.specs.Table.{Lent, row-of, filled};
+ghost use Rattle.tutte.specs.Table.{Complete, row-of, filled};
 
 // The weight of i < j where they are adjacent, else 0.
 fn upper(n: usize, adjacency: &[u8], weights: &[u16], i: usize, j: usize) -> u16
-    requires { ⌜ Lent n (now adjacency) (now weights) ⌝ }
+    requires { ⌜ Complete n (now adjacency) (now weights) ⌝ }
     requires { ⌜ (i < j) × (j < n) ⌝ }
     ensures { λ r. ⌜ r ≡ upper (over n (now (adjacency .entry)) (now (weights .entry))) i j ⌝ }
 {
@@ -22,7 +22,7 @@ fn upper(n: usize, adjacency: &[u8], weights: &[u16], i: usize, j: usize) -> u16
 
 // Row i, column j of the matrix.
 fn entry(n: usize, adjacency: &[u8], weights: &[u16], i: usize, j: usize) -> u16
-    requires { ⌜ Lent n (now adjacency) (now weights) ⌝ }
+    requires { ⌜ Complete n (now adjacency) (now weights) ⌝ }
     requires { ⌜ (i < n) × (j < n) ⌝ }
     ensures { λ r. ⌜ r ≡ tutte (over n (now (adjacency .entry)) (now (weights .entry))) modulus i j ⌝ }
 {
@@ -39,7 +39,7 @@ fn entry(n: usize, adjacency: &[u8], weights: &[u16], i: usize, j: usize) -> u16
 
 // Row i of the matrix.
 fn fill_row(n: usize, adjacency: &[u8], weights: &[u16], i: usize, row: &mut [u64])
-    requires { ⌜ Lent n (now adjacency) (now weights) ⌝ }
+    requires { ⌜ Complete n (now adjacency) (now weights) ⌝ }
     requires { ⌜ (i < n) × (length (now row) ≡ n) ⌝ }
     ensures { λ _. ⌜ now (row .exit) ≡ row-of (over n (now (adjacency .entry)) (now (weights .entry))) i ⌝ }
 {
@@ -52,7 +52,7 @@ fn fill_row(n: usize, adjacency: &[u8], weights: &[u16], i: usize, row: &mut [u6
 
 // The whole matrix, row by row.
 pub fn fill(n: usize, adjacency: &[u8], weights: &[u16], table: &mut [u64])
-    requires { ⌜ Lent n (now adjacency) (now weights) ⌝ }
+    requires { ⌜ Complete n (now adjacency) (now weights) ⌝ }
     requires { ⌜ length (now table) ≡ n * n ⌝ }
     ensures { λ _. ⌜ now (table .exit) ≡ filled (over n (now (adjacency .entry)) (now (weights .entry))) ⌝ }
 {

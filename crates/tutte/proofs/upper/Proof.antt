@@ -11,8 +11,6 @@ use Rattle.laws.specs.Weights.{index-closed}
 use Rattle.tutte.specs.Table.{row-small, numerator-small, cell-within, weight-within}
 use Rattle.tutte.proofs.upper.Statement.{statement}
 use Rattle.tutte.proofs.upper.Tie as tie
-use Rattle.tutte.proofs.upper.Reads as reads
-use Rattle.tutte.proofs.upper.Lts as lts
 
 mul-if1 : tie.Need-mul-if1
 mul-if1 c = record { fits = omega (arith, row-small (c .pre .0) (c .args .i) (c .args .j) (omega arith)) }
