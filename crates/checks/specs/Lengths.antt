@@ -4,11 +4,10 @@ use mathlib.Core.List.{List, [], _∷_, _++_}
 use Prim.Native.Nat.{ℕ, _*_, _≤_, _<_}
 use native.Mathlib.Omega.{arith}
 use native.Mathlib.Decide.{decLt}
-use Rattle.matching.specs.Decision.{Finding, absent, at, when, because, Refusal, accepted, refused, Cause, judge, unless}
+use Rattle.matching.specs.Decision.{Finding, absent, at, when, because, Refusal, accepted, refused, Cause, judge, unless, then}
 use Rattle.matching.specs.Graph.{largest, pair-count}
 use Rattle.matching.specs.Causes.{Lent, lent-always, lent-besides, or, first-short, too-large, too-short}
 use Rattle.laws.specs.Sound.{when-at, when-absent, judge-accepted, LongEnough, short-absent}
-use Rattle.checks.specs.Answers.{either}
 
 is-short : (length needed number : ℕ) → length < needed → when (decLt length needed) number ≡ at number
 is-short length needed number l = when-at (decLt length needed) number l
@@ -66,10 +65,10 @@ module _ (n witness work : ℕ) where
   pub long-besides : n ≤ witness → n * n ≤ work → judge (too-short (lent-besides n witness work) ∷ []) ≡ accepted
   long-besides g h = rw (is-long witness n 5 g, is-long work (n * n) 6 h)
 
-pub short-then : (buffers : List Lent) (later : List Cause) → judge (too-short buffers ∷ later) ≡ either (judge (too-short buffers ∷ [])) (judge later)
+pub short-then : (buffers : List Lent) (later : List Cause) → judge (too-short buffers ∷ later) ≡ then (judge (too-short buffers ∷ [])) (judge later)
 short-then buffers later = go (first-short buffers)
   where
-    go : (f : Finding) → unless f 2 (judge later) ≡ either (unless f 2 accepted) (judge later)
+    go : (f : Finding) → unless f 2 (judge later) ≡ then (unless f 2 accepted) (judge later)
     go absent = refl
     go (at x) = refl
 

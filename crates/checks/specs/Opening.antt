@@ -3,11 +3,10 @@ use mathlib.Core.Path.{_≡_, sym, _∙_}
 use mathlib.Core.List.{List, [], _∷_}
 use Prim.Native.Nat.{ℕ, _*_, _≤_}
 use lib.ListN.{length}
-use Rattle.matching.specs.Decision.{absent, at, Refusal, because, Ruling, accepted, refused, Cause, judge}
+use Rattle.matching.specs.Decision.{absent, at, Refusal, because, Ruling, accepted, refused, Cause, judge, then}
 use Rattle.matching.specs.Graph.{Graph, largest, pair-count}
 use Rattle.matching.specs.Causes.{Lent, lent-always, lent-besides, too-large, too-short, bad-cell, bad-weight, opening-ruling}
 use Rattle.laws.specs.Sound.{judge-refused, judge-next}
-use Rattle.checks.specs.Answers.{either}
 use Rattle.checks.specs.Lengths.{short-then, lengths-refused, lengths-accepted}
 
 module _ (p : ℕ) (g : Graph) where
@@ -41,7 +40,7 @@ module _ (p : ℕ) (g : Graph) where
     opening-lengths r e = sym (lengths-refused (g .n) before after graph-causes r (sym e))
 
     pub opening-rest : accepted ≡ lengths-judged → (b c : Ruling) → b ≡ judge (too-short after ∷ []) → c ≡ judge graph-causes
-        → either b c ≡ opening-ruling p g inverse sequence witness work
+        → then b c ≡ opening-ruling p g inverse sequence witness work
     unfolding opening-ruling
     opening-rest e b c q r =
         rw (q, r) (sym (short-then after graph-causes)) ∙ sym (lengths-accepted (g .n) before after graph-causes (sym e) .2)

@@ -4,10 +4,10 @@ ghost use mathlib.Core.List.{List, [], _∷_};
 ghost use Prim.Native.Nat.{ℕ, _+_, _*_, _≤_, _<_};
 ghost use lib.ListN.{length};
 ghost use Rattle.residue.specs.Modulus.{modulus};
-ghost use Rattle.matching.specs.Decision.{judge};
+ghost use Rattle.matching.specs.Decision.{judge, then};
 ghost use Rattle.matching.specs.Graph.{largest, pair-count, over, kind-of};
 ghost use Rattle.matching.specs.Causes.{lent-always, lent-besides, first-short, too-large, too-short, bad-cell, bad-weight, opening-ruling};
-ghost use Rattle.checks.specs.Answers.{finding-of, ruling-of, either, InRow, Located};
+ghost use Rattle.checks.specs.Answers.{finding-of, ruling-of, InRow, Located};
 use residue::Residue;
 
 // The most vertices that a graph may have.
@@ -209,7 +209,7 @@ fn judge_besides(n: usize, witness: usize, work: usize) -> Ruling
 
 // The first of two rulings that is a refusal.
 fn earlier(a: Ruling, b: Ruling) -> Ruling
-    ensures { λ r. ⌜ ruling-of r ≡ either (ruling-of a) (ruling-of b) ⌝ }
+    ensures { λ r. ⌜ ruling-of r ≡ then (ruling-of a) (ruling-of b) ⌝ }
 {
     match a {
         Ruling::Accepted => b,

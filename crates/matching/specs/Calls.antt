@@ -8,7 +8,7 @@ use lib.ListN.{length}
 use Rattle.lists.specs.Values.{list-of}
 use Rattle.modular.specs.Prime.{OddPrime}
 use Rattle.skew.specs.Subset.{Subset}
-use Rattle.matching.specs.Decision.{Refusal, Ruling, accepted, refused, judge}
+use Rattle.matching.specs.Decision.{Refusal, Ruling, accepted, refused, judge, then}
 use Rattle.matching.specs.Graph.{Graph, over}
 use Rattle.matching.specs.Pairs.{Pair, Pairs, unmatched, in?, pairs-on, sequence}
 use Rattle.matching.specs.Session.{Session, session, InverseTable, onto}
@@ -41,11 +41,6 @@ with-pairs pairs inverse s = record {
 abbrev pub bit-of : Ruling → ℕ
 bit-of accepted = 1
 bit-of (refused r) = 0
-
--- the later causes where none of the earlier applies
-abbrev pub then : Ruling → Ruling → Ruling
-then accepted v = v
-then (refused r) v = refused r
 
 module _ {p : ℕ} (P : OddPrime p) (adjacency weights : List ℕ) (S : Subset) where
   -- causes 1 to 6, where a call is lent more buffers than these

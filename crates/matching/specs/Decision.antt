@@ -104,6 +104,11 @@ abbrev pub judge : List Cause → Ruling
 judge [] = accepted
 judge (c ∷ later) = unless (c .finding) (c .number) (judge later)
 
+-- the later causes where none of the earlier applies
+abbrev pub then : Ruling → Ruling → Ruling
+then accepted v = v
+then (refused r) v = refused r
+
 abbrev pub Accepted : Ruling → Type 0
 Accepted accepted = Unit {0}
 Accepted (refused r) = ⊥
