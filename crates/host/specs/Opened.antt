@@ -3,7 +3,7 @@ use mathlib.Core.Path.{_≡_, refl, sym, ap, _∙_}
 use mathlib.Core.List.{List}
 use Prim.Native.Nat.{ℕ, _*_, _≤_, _<_}
 use native.Mathlib.Omega.{arith}
-use lib.ListN.{length, getD, take, drop, replicate, length-append, length-replicate}
+use lib.ListN.{length, getD, take, replicate, length-replicate}
 use Rattle.lists.specs.Table.{square-small}
 use Rattle.skew.specs.Subset.{Subset}
 use Rattle.residue.specs.Modulus.{modulus}
@@ -13,6 +13,7 @@ use Rattle.matching.specs.Graph.{Graph, pair-count, over}
 use Rattle.matching.specs.Session.{onto}
 use Rattle.matching.specs.Opening.{Opening, opened, singular, not-opened, Buffers, ruling, with-inverse, with-witness, Opens, refuses-opening, opens, finds-singular}
 use Rattle.matching.specs.Host.{words, bytes-of, opening-number, unpacked, HostOpens}
+use Rattle.laws.specs.Onto.{onto-long}
 use Rattle.laws.specs.Sound.{opening-accepted}
 use Rattle.opening.specs.Answers.{buffers}
 use Rattle.host.specs.Words.{Bytes, stored-front}
@@ -60,9 +61,6 @@ pub record Within (m : ℕ) (left : Buffers) : Type 0 where
   pub inverse : m * m ≤ length (left .inverse)
   pub witness : m ≤ length (left .witness)
   pub work : m * m ≤ length (left .work)
-
-onto-long : (new old : List ℕ) (k : ℕ) → length new ≡ k → k ≤ length (onto new old)
-onto-long new old k e = omega (arith, length-append new (drop (length new) old))
 
 pub opens-within : {p : ℕ} {g : Graph} {S : Subset} {b left : Buffers} {o : Opening} → Opens p g S b o left → Within (extent (g .n) o) left
 opens-within (refuses-opening r e) = record { size = omega arith; inverse = omega arith; witness = omega arith; work = omega arith }

@@ -3,10 +3,10 @@ use mathlib.Core.Path.{_≡_, refl, sym, ap}
 use mathlib.Core.List.{List, [], _∷_}
 use Prim.Native.Nat.{ℕ, zero, suc, _+_, _*_, _/_, _%_, _≤_, _<_}
 use native.Mathlib.Omega.{arith}
-use lib.ListN.{length, getD, take, drop}
-use lib.Seq.{take-at}
+use lib.ListN.{length, getD, take}
 use Rattle.matching.specs.Session.{onto}
 use Rattle.matching.specs.Host.{words, bytes-of}
+use Rattle.laws.specs.Onto.{onto-front}
 
 -- every value is a byte
 abbrev pub Bytes : List ℕ → Type 0
@@ -74,4 +74,4 @@ stored-words (w ∷ new) (a ∷ b ∷ l) B h =
 pub stored-front : (new old l : List ℕ) (k : ℕ) → Bytes l → length new ≡ k → k ≤ length (words l)
     → onto (bytes-of (take k (onto new old))) l ≡ onto (bytes-of (onto new (words l))) l
 stored-front new old l k B e h =
-    rw (take-at new (drop (length new) old) k e) (sym (stored-words new l B (omega arith)))
+    rw (onto-front new old k e) (sym (stored-words new l B (omega arith)))

@@ -2,7 +2,8 @@
 -- The plain model: picks, partners, picks to come; then histories of calls.
 pub mod Facts
 pub mod History
--- What an accepting ruling says.
+-- A buffer whose first words are new, and what an accepting ruling says.
+pub mod Onto
 pub mod Sound
 -- Every call has exactly one outcome.
 pub mod Determined
