@@ -22,6 +22,11 @@ abbrev pub ruling-of : Ruling → decision.Ruling
 ruling-of Accepted = accepted
 ruling-of (Refused r) = refused (because (r .cause) (r .place))
 
+-- the first of two rulings that is a refusal
+abbrev pub then : decision.Ruling → decision.Ruling → decision.Ruling
+then accepted v = v
+then (refused r) v = refused r
+
 -- what the scan of one row from the diagonal on says
 pub record FaultInRow (g : Graph) (i : ℕ) (f : Fault) : Type 0 where
   pub row : f .row ≡ i

@@ -1,27 +1,36 @@
 -- Laws of the size and of the lengths of the lent buffers. Assumes nothing.
-use mathlib.Core.Path.{_≡_, refl, sym, ap, _∙_}
+use mathlib.Core.Path.{_≡_, refl, ap, _∙_}
 use mathlib.Core.List.{List, [], _∷_, _++_}
 use Prim.Native.Nat.{ℕ, _*_, _≤_, _<_}
 use native.Mathlib.Omega.{arith}
 use native.Mathlib.Decide.{decLt}
-use Rattle.matching.specs.Decision.{Finding, absent, at, when, because, Refusal, accepted, refused, Cause, judge, unless, then}
+use Rattle.skew.specs.Choose.{choose, choose-yes, choose-no}
+use Rattle.matching.specs.Decision.{Finding, absent, at, when, because, Refusal, Ruling, accepted, refused, Cause, judge, unless}
 use Rattle.matching.specs.Graph.{largest, pair-count}
-use Rattle.matching.specs.Causes.{Lent, lent-always, lent-besides, or, first-short, too-large, too-short}
+use Rattle.matching.specs.Causes.{Lent, lent-always, lent-besides, first-short, too-large, too-short}
 use Rattle.laws.specs.Sound.{when-at, when-absent, judge-accepted, LongEnough, short-absent}
+use Rattle.checks.specs.Answers.{then}
 
-is-short : (length needed number : ℕ) → length < needed → when (decLt length needed) number ≡ at number
-is-short length needed number l = when-at (decLt length needed) number l
-
-is-long : (length needed number : ℕ) → needed ≤ length → when (decLt length needed) number ≡ absent
-is-long length needed number l = when-absent (decLt length needed) number .1 (λ h. omega arith)
-
-or-or : (e f g : Finding) → or (or e f) g ≡ or e (or f g)
-or-or absent f g = refl
-or-or (at x) f g = refl
+-- the first of two findings
+abbrev or : Finding → Finding → Finding
+or absent f = f
+or (at x) f = at x
 
 short-append : (a b : List Lent) → first-short (a ++ b) ≡ or (first-short a) (first-short b)
 short-append [] b = refl
-short-append (x ∷ a) b = ap (or (when (decLt (x .length) (x .needed)) (x .number))) (short-append a b) ∙ sym (or-or (when (decLt (x .length) (x .needed)) (x .number)) (first-short a) (first-short b))
+short-append (x ∷ a) b = go (decLt (x .length) (x .needed)) (short-append a b)
+  where
+    go : (d : Dec (x .length < x .needed)) → first-short (a ++ b) ≡ or (first-short a) (first-short b)
+        → choose d (at (x .number)) (first-short (a ++ b)) ≡ or (choose d (at (x .number)) (first-short a)) (first-short b)
+    go (yes _) e = refl
+    go (no _) e = e
+
+-- a buffer that is too short, and one that is not
+is-short : (length needed number : ℕ) (later : Finding) → length < needed → choose (decLt length needed) (at number) later ≡ at number
+is-short length needed number later l = choose-yes (decLt length needed) (at number) later l
+
+is-long : (length needed number : ℕ) (later : Finding) → needed ≤ length → choose (decLt length needed) (at number) later ≡ later
+is-long length needed number later l = choose-no (decLt length needed) (at number) later (λ h. omega arith)
 
 -- the size, and the buffers that are always lent, case by case
 module _ (n adjacency weights inverse sequence : ℕ) where
@@ -29,41 +38,48 @@ module _ (n adjacency weights inverse sequence : ℕ) where
   always = lent-always n adjacency weights inverse sequence
 
   pub short-adjacency : adjacency < n * n → first-short always ≡ at 1
-  short-adjacency h = rw (is-short adjacency (n * n) 1 h)
+  short-adjacency h = is-short adjacency (n * n) 1 _ h
 
   pub short-weights : n * n ≤ adjacency → weights < pair-count n → first-short always ≡ at 2
-  short-weights g h = rw (is-long adjacency (n * n) 1 g, is-short weights (pair-count n) 2 h)
+  short-weights g h = is-long adjacency (n * n) 1 _ g ∙ is-short weights (pair-count n) 2 _ h
 
   pub short-inverse : n * n ≤ adjacency → pair-count n ≤ weights → inverse < n * n → first-short always ≡ at 3
-  short-inverse f g h = rw (is-long adjacency (n * n) 1 f, is-long weights (pair-count n) 2 g, is-short inverse (n * n) 3 h)
+  short-inverse f g h = is-long adjacency (n * n) 1 _ f ∙ is-long weights (pair-count n) 2 _ g ∙ is-short inverse (n * n) 3 _ h
 
   pub short-sequence : n * n ≤ adjacency → pair-count n ≤ weights → n * n ≤ inverse → sequence < n → first-short always ≡ at 4
   short-sequence e f g h =
-      rw (is-long adjacency (n * n) 1 e, is-long weights (pair-count n) 2 f, is-long inverse (n * n) 3 g, is-short sequence n 4 h)
+      is-long adjacency (n * n) 1 _ e ∙ is-long weights (pair-count n) 2 _ f ∙ is-long inverse (n * n) 3 _ g ∙ is-short sequence n 4 _ h
 
   pub long-enough : n * n ≤ adjacency → pair-count n ≤ weights → n * n ≤ inverse → n ≤ sequence → first-short always ≡ absent
   long-enough e f g h =
-      rw (is-long adjacency (n * n) 1 e, is-long weights (pair-count n) 2 f, is-long inverse (n * n) 3 g, is-long sequence n 4 h)
+      is-long adjacency (n * n) 1 _ e ∙ is-long weights (pair-count n) 2 _ f ∙ is-long inverse (n * n) 3 _ g ∙ is-long sequence n 4 _ h
+
+  small-size : n ≤ largest → when (decLt largest n) 0 ≡ absent
+  small-size h = when-absent (decLt largest n) 0 .1 (λ k. omega arith)
 
   pub size-large : largest < n → judge (too-large n ∷ too-short always ∷ []) ≡ refused (because 1 0)
-  size-large h = rw (is-short largest n 0 h)
+  size-large h = rw (when-at (decLt largest n) 0 h)
 
   pub lengths-short : (x : ℕ) → n ≤ largest → at x ≡ first-short always → judge (too-large n ∷ too-short always ∷ []) ≡ refused (because 2 x)
-  lengths-short x h e = rw (is-long largest n 0 h, ← e)
+  lengths-short x h e = rw (small-size h, ← e)
 
   pub lengths-long : n ≤ largest → absent ≡ first-short always → judge (too-large n ∷ too-short always ∷ []) ≡ accepted
-  lengths-long h e = rw (is-long largest n 0 h, ← e)
+  lengths-long h e = rw (small-size h, ← e)
+
+-- cause 2 alone
+abbrev short-ruling : Finding → Ruling
+short-ruling f = unless f 2 accepted
 
 -- the buffers lent to opening alone, case by case, and what comes after them
 module _ (n witness work : ℕ) where
   pub short-witness : witness < n → judge (too-short (lent-besides n witness work) ∷ []) ≡ refused (because 2 5)
-  short-witness h = rw (is-short witness n 5 h)
+  short-witness h = ap short-ruling (is-short witness n 5 _ h)
 
   pub short-work : n ≤ witness → work < n * n → judge (too-short (lent-besides n witness work) ∷ []) ≡ refused (because 2 6)
-  short-work g h = rw (is-long witness n 5 g, is-short work (n * n) 6 h)
+  short-work g h = ap short-ruling (is-long witness n 5 _ g ∙ is-short work (n * n) 6 _ h)
 
   pub long-besides : n ≤ witness → n * n ≤ work → judge (too-short (lent-besides n witness work) ∷ []) ≡ accepted
-  long-besides g h = rw (is-long witness n 5 g, is-long work (n * n) 6 h)
+  long-besides g h = ap short-ruling (is-long witness n 5 _ g ∙ is-long work (n * n) 6 _ h)
 
 pub short-then : (buffers : List Lent) (later : List Cause) → judge (too-short buffers ∷ later) ≡ then (judge (too-short buffers ∷ [])) (judge later)
 short-then buffers later = go (first-short buffers)

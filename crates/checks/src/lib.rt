@@ -4,10 +4,10 @@ ghost use mathlib.Core.List.{List, [], _∷_};
 ghost use Prim.Native.Nat.{ℕ, _+_, _*_, _≤_, _<_};
 ghost use lib.ListN.{length};
 ghost use Rattle.residue.specs.Modulus.{modulus};
-ghost use Rattle.matching.specs.Decision.{judge, then};
+ghost use Rattle.matching.specs.Decision.{judge};
 ghost use Rattle.matching.specs.Graph.{largest, pair-count, over, kind-of};
 ghost use Rattle.matching.specs.Causes.{lent-always, lent-besides, first-short, too-large, too-short, bad-cell, bad-weight, opening-ruling};
-ghost use Rattle.checks.specs.Answers.{finding-of, ruling-of, InRow, Located};
+ghost use Rattle.checks.specs.Answers.{finding-of, ruling-of, then, InRow, Located};
 use residue::Residue;
 
 // The most vertices that a graph may have.
@@ -179,7 +179,7 @@ fn first_outside(n: usize, weights: &[u16]) -> Finding
 }
 
 // Causes 3 and 4, for tables that are long enough.
-pub fn judge_graph(n: usize, adjacency: &[u8], weights: &[u16]) -> Ruling
+fn judge_graph(n: usize, adjacency: &[u8], weights: &[u16]) -> Ruling
     requires { ⌜ (n ≤ largest) × (n * n ≤ length (now adjacency)) × (pair-count n ≤ length (now weights)) ⌝ }
     ensures { λ r. ⌜ ruling-of r ≡ judge (bad-cell (over n (now (adjacency .entry)) (now (weights .entry))) ∷ bad-weight modulus (over n (now (adjacency .entry)) (now (weights .entry))) ∷ []) ⌝ }
 {

@@ -15,10 +15,11 @@ use Rattle.matching.specs.Opening.{Opening, opened, singular, not-opened, Buffe
 use Rattle.matching.specs.Host.{words, bytes-of, opening-number, unpacked, HostOpens}
 use Rattle.laws.specs.Onto.{onto-long}
 use Rattle.laws.specs.Sound.{opening-accepted}
+use Rattle.laws.specs.Numbers as numbers
 use Rattle.opening.specs.Answers.{buffers}
 use Rattle.host.specs.Words.{Bytes, stored-front}
 use Rattle.host.specs.Same.{table-same, singular-same}
-use Rattle.host.specs.Room.{Front, Lends, room-enough, lent-agree, ruling-same, place-small}
+use Rattle.host.specs.Room.{Front, Lends, room-enough, lent-agree, ruling-same}
 
 -- the parts of an answer fit their bits
 abbrev pub Small : Opening → Type 0
@@ -78,7 +79,7 @@ opens-within {p} {g} {S} {b} (finds-singular f witness e l s) = record {
 }
 
 pub opens-small : {p : ℕ} {g : Graph} {S : Subset} {b left : Buffers} {o : Opening} → Opens p g S b o left → Small o
-opens-small {p} {g} {S} {b} (refuses-opening r e) = place-small p g b e
+opens-small {S = S} {b = b} (refuses-opening r e) = numbers.opens-small {S = S} {b = b} (refuses-opening r e) .place-below
 opens-small (opens inverse e l I) = omega arith
 opens-small {p} {g} (finds-singular f witness e l s) =
     omega (arith, s .kernel .below, opening-accepted p g _ _ _ _ .0 e .1 .size)

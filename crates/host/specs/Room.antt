@@ -1,5 +1,5 @@
 -- The room for words in byte slices, and the causes of opening where only the words that matter are lent. Assumes nothing.
-use mathlib.Core.Path.{_≡_, refl, sym, ap, _∙_}
+use mathlib.Core.Path.{_≡_, refl, ap, _∙_}
 use mathlib.Core.Logic.{_↔_}
 use mathlib.Core.List.{List, [], _∷_}
 use Prim.Native.Nat.{ℕ, _+_, _*_, _-_, _≤_, _<_}
@@ -11,9 +11,9 @@ use lib.Seq.{length-take-le, getD-take}
 use Rattle.lists.specs.Part.{length-part}
 use Rattle.lists.specs.Table.{square-small}
 use Rattle.skew.specs.Choose.{choose, choose-yes, choose-no}
-use Rattle.matching.specs.Decision.{Every, First, nowhere, first-at, Finding, absent, at, when, found, because, Refusal, Ruling, accepted, refused, unless, judge}
-use Rattle.matching.specs.Graph.{Graph, largest, pair-count, over}
-use Rattle.matching.specs.Causes.{Lent, lent-to-opening, first-short, or, first-faulty, bad-cell, first-outside, bad-weight, opening-ruling}
+use Rattle.matching.specs.Decision.{Every, Finding, absent, at, unless, judge}
+use Rattle.matching.specs.Graph.{largest, pair-count, over}
+use Rattle.matching.specs.Causes.{Lent, lent-to-opening, first-short, bad-cell, bad-weight, opening-ruling}
 use Rattle.matching.specs.Opening.{Buffers, ruling}
 use Rattle.matching.specs.Host.{words, unpacked}
 use Rattle.laws.specs.Sound.{when-at, when-absent, short-absent}
@@ -46,17 +46,15 @@ pub pairs-small : (n : ℕ) → n ≤ largest → pair-count n ≤ 4560
 pairs-small n h = let k : n * (n - 1) ≤ 9120 = mul-le-mul {n₁ = n} {m₁ = n - 1} {n₂ = 96} {m₂ = 95} h (omega arith) in omega arith
 
 -- two lengths that are enough in the same case
-when-same : (a b needed number : ℕ) → (needed ≤ a) ↔ (needed ≤ b) → when (decLt a needed) number ≡ when (decLt b needed) number
-when-same a b needed number e = go (decLt a needed)
+choice-same : (a b needed number : ℕ) {later later′ : Finding} → (needed ≤ a) ↔ (needed ≤ b) → later ≡ later′
+    → choose (decLt a needed) (at number) later ≡ choose (decLt b needed) (at number) later′
+choice-same a b needed number {later} {later′} e q = go (decLt a needed) (decLt b needed)
   where
-    go : Dec (a < needed) → when (decLt a needed) number ≡ when (decLt b needed) number
-    go (yes l) = when-at (decLt a needed) number l ∙ sym (when-at (decLt b needed) number (l′ (decLt b needed)))
-      where
-        l′ : Dec (b < needed) → b < needed
-        l′ (yes m) = m
-        l′ (no m) = absurd (omega (arith, e .1 (omega arith)))
-    go (no l) =
-        when-absent (decLt a needed) number .1 l ∙ sym (when-absent (decLt b needed) number .1 (λ m. omega (arith, e .0 (omega arith))))
+    go : (c : Dec (a < needed)) (d : Dec (b < needed)) → choose c (at number) later ≡ choose d (at number) later′
+    go (yes _) (yes _) = refl
+    go (yes l) (no m) = absurd (omega (arith, e .1 (omega arith)))
+    go (no l) (yes m) = absurd (omega (arith, e .0 (omega arith)))
+    go (no _) (no _) = q
 
 -- how many weights matter
 abbrev pub needed : ℕ → ℕ
@@ -102,14 +100,12 @@ module _ {n : ℕ} {weights lent : List ℕ} (F : Front n weights lent) {b w : B
       → first-short (lent-to-opening (over n adjacency lent) (length (w .inverse)) (length (w .sequence)) (length (w .witness)) (length (w .work)))
       ≡ first-short (lent-to-opening (over n adjacency (words weights)) (length (words (b .inverse))) (length (b .sequence)) (length (words (b .witness))) (length (words (b .work))))
   short-same h =
-      rw (
-        lent-length,
-        L .sequence,
-        when-same (F .count) (length (words weights)) (pair-count n) 2 (room-enough weights (F .enough) (pair-count n) (omega (arith, needed-all n h))),
-        when-same (length (w .inverse)) (length (words (b .inverse))) (n * n) 3 (room-enough (b .inverse) (L .inverse) (n * n) (square-small n h)),
-        when-same (length (w .witness)) (length (words (b .witness))) n 5 (room-enough (b .witness) (L .witness) n h),
-        when-same (length (w .work)) (length (words (b .work))) (n * n) 6 (room-enough (b .work) (L .work) (n * n) (square-small n h)),
-      )
+      choice-same _ _ (n * n) 1 (λ k. k, λ k. k)
+      (choice-same (length lent) (length (words weights)) (pair-count n) 2 (rw lent-length (room-enough weights (F .enough) (pair-count n) (omega (arith, needed-all n h))))
+      (choice-same _ _ (n * n) 3 (room-enough (b .inverse) (L .inverse) (n * n) (square-small n h))
+      (choice-same (length (w .sequence)) (length (b .sequence)) n 4 (rw (L .sequence) (λ k. k, λ k. k))
+      (choice-same _ _ n 5 (room-enough (b .witness) (L .witness) n h)
+      (choice-same _ _ (n * n) 6 (room-enough (b .work) (L .work) (n * n) (square-small n h)) refl)))))
 
   -- and opening is refused for the same cause
   pub ruling-same : (p : ℕ) → ruling p (over n adjacency lent) w ≡ ruling p (over n adjacency (words weights)) (unpacked b)
@@ -130,59 +126,3 @@ module _ {n : ℕ} {weights lent : List ℕ} (F : Front n weights lent) {b w : B
       go : Dec (largest < n) → ruling p (over n adjacency lent) w ≡ ruling p (over n adjacency (words weights)) (unpacked b)
       go (yes h) = rw (when-at (decLt largest n) 0 h)
       go (no h) = rw (when-absent (decLt largest n) 0 .1 h) (agreed (first-short lents) refl ∙ rw (short-same (omega arith)))
-
--- the place of a refusal is small
-abbrev SmallAt : Finding → Type 0
-SmallAt absent = Unit {0}
-SmallAt (at x) = x < 65536
-
-when-small : {A : Type 0} (d : Dec A) (x : ℕ) → x < 65536 → SmallAt (when d x)
-when-small (yes a) x h = h
-when-small (no a) x h = tt
-
-or-small : (e f : Finding) → SmallAt e → SmallAt f → SmallAt (or e f)
-or-small absent f h k = k
-or-small (at x) f h k = h
-
-found-small : {n : ℕ} {P : ℕ → Type 0} (f : First n P) → n ≤ 65536 → SmallAt (found f)
-found-small (nowhere h) l = tt
-found-small (first-at x m e h) l = omega arith
-
-at-small : {r : Refusal} (k x : ℕ) → x < 65536 → refused (because k x) ≡ refused r → r .place < 65536
-at-small {r} k x h e = let q : because k x ≡ r = cc in rw (← q) h
-
-unless-small : {r : Refusal} (f : Finding) (k : ℕ) (v : Ruling) → SmallAt f → (v ≡ refused r → r .place < 65536) → unless f k v ≡ refused r → r .place < 65536
-unless-small absent k v h later e = later e
-unless-small (at x) k v h later e = at-small k x h e
-
-cell-small : (g : Graph) → g .n ≤ largest → SmallAt (bad-cell g .finding)
-unfolding bad-cell
-cell-small g h = found-small (first-faulty g) (omega (arith, square-small (g .n) h))
-
-weight-small : (p : ℕ) (g : Graph) → g .n ≤ largest → SmallAt (bad-weight p g .finding)
-unfolding bad-weight
-weight-small p g h = found-small (first-outside p g) (omega (arith, pairs-small (g .n) h))
-
-pub place-small : (p : ℕ) (g : Graph) (b : Buffers) {r : Refusal} → ruling p g b ≡ refused r → r .place < 65536
-unfolding opening-ruling
-place-small p g b {r} e = go (decLt largest (g .n))
-  where
-    lents : List Lent
-    lents = lent-to-opening g (length (b .inverse)) (length (b .sequence)) (length (b .witness)) (length (b .work))
-
-    shorts : SmallAt (first-short lents)
-    shorts =
-        or-small (when (decLt (length (g .adjacency)) (g .n * g .n)) 1) _ (when-small (decLt (length (g .adjacency)) (g .n * g .n)) 1 (omega arith))
-        (or-small (when (decLt (length (g .weights)) (pair-count (g .n))) 2) _ (when-small (decLt (length (g .weights)) (pair-count (g .n))) 2 (omega arith))
-        (or-small (when (decLt (length (b .inverse)) (g .n * g .n)) 3) _ (when-small (decLt (length (b .inverse)) (g .n * g .n)) 3 (omega arith))
-        (or-small (when (decLt (length (b .sequence)) (g .n)) 4) _ (when-small (decLt (length (b .sequence)) (g .n)) 4 (omega arith))
-        (or-small (when (decLt (length (b .witness)) (g .n)) 5) _ (when-small (decLt (length (b .witness)) (g .n)) 5 (omega arith))
-        (or-small (when (decLt (length (b .work)) (g .n * g .n)) 6) absent (when-small (decLt (length (b .work)) (g .n * g .n)) 6 (omega arith)) tt)))))
-
-    go : Dec (largest < g .n) → r .place < 65536
-    go (yes h) = at-small 1 0 (omega arith) (rw (when-at (decLt largest (g .n)) 0 h) at e)
-    go (no h) =
-        unless-small (first-short lents) 2 (judge (bad-cell g ∷ bad-weight p g ∷ [])) shorts
-        (unless-small (bad-cell g .finding) 3 (judge (bad-weight p g ∷ [])) (cell-small g (omega arith))
-        (unless-small (bad-weight p g .finding) 4 accepted (weight-small p g (omega arith)) (λ q. absurd (let z : _≡_ {A = ℕ} 0 1 = cc in omega arith))))
-        (rw (when-absent (decLt largest (g .n)) 0 .1 h) at e)

@@ -1,42 +1,39 @@
--- Each session call has exactly one outcome. Assumes nothing.
+-- Each session call, and each list of them, has exactly one outcome; and demand 2's "exactly when" for a hand pick. Assumes nothing.
 use mathlib.Core.Path.{_≡_, refl, sym, ap, ap₂, _∙_}
-use mathlib.Core.List.{List, []}
+use mathlib.Core.Logic.{_↔_}
+use mathlib.Core.List.{List, [], _∷_, _++_}
 use Prim.Native.Nat.{ℕ}
 use native.Mathlib.Omega.{arith}
 use Rattle.modular.specs.Prime.{OddPrime}
 use Rattle.skew.specs.Subset.{Subset}
 use Rattle.matching.specs.Decision.{Ruling, accepted, refused}
-use Rattle.matching.specs.Graph.{Graph}
-use Rattle.matching.specs.Pairs.{sequence}
-use Rattle.matching.specs.Model.{Call, Answer, done, denied, Step, Nonsingular}
-use Rattle.laws.specs.Facts.{step-nonsingular}
+use Rattle.matching.specs.Pairs.{pair-of}
+use Rattle.matching.specs.Session.{State, graph-of, pairs-of, with-pairs}
+use Rattle.matching.specs.Causes.{soundness}
+use Rattle.matching.specs.Model.{Call, pick, Answer, done, denied, Step, Nonsingular, pick-ruling, Allowed, append, step}
+use Rattle.matching.specs.Calls.{Returned, last-state, model-step, Handles, unsound, refuses, carries, PickedExactly, Runs, none, more}
+use Rattle.laws.specs.Facts.{step-nonsingular, allowed-of-accepted, accepted-of-allowed, unlike}
 use Rattle.laws.specs.Sound.{session-accepted}
 use Rattle.laws.specs.Determined.{inverse-table-of, inverse-table-unique}
-use Rattle.matching.specs.Calls.{State, graph-of, pairs-of, with-pairs, soundness, model-step, Handles, unsound, refuses, carries}
 
-module _ {p : ℕ} (P : OddPrime p) (adjacency weights : List ℕ) (S : Subset) where
-  pub handles-some : (s : State) (c : Call) → (a : Answer) × (t : State) × Handles P adjacency weights S s c a t
-  handles-some s c = go (soundness P adjacency weights S s []) refl (model-step P adjacency weights S s c) refl
+module _ {p : ℕ} (P : OddPrime p) (S : Subset) where
+  pub handles-some : (s : State) (c : Call) → (a : Answer) × (t : State) × Handles P S s c a t
+  handles-some s c = go (soundness p S s) refl (model-step P S s c) refl
     where
-      g : Graph
-      g = graph-of s adjacency weights
-
-      go : (v : Ruling) → soundness P adjacency weights S s [] ≡ v → (t : Step) → model-step P adjacency weights S s c ≡ t
-          → (a : Answer) × (t : State) × Handles P adjacency weights S s c a t
+      go : (v : Ruling) → soundness p S s ≡ v → (t : Step) → model-step P S s c ≡ t → (a : Answer) × (t : State) × Handles P S s c a t
       go (refused r) e _ _ = (denied r, s, unsound r e)
       go accepted e t q = by-answer (t .answer) refl
         where
-          by-answer : (a : Answer) → t .answer ≡ a → (a : Answer) × (t : State) × Handles P adjacency weights S s c a t
+          by-answer : (a : Answer) → t .answer ≡ a → (a : Answer) × (t : State) × Handles P S s c a t
           by-answer (denied r) k = (denied r, s, refuses r e (ap (λ u. u .answer) q ∙ k))
           by-answer (done x) k =
-              let I = session-accepted p g S (s .session .made) (s .inverse) (s .sequence) [] .0 e .1 in
-              let J : Nonsingular P g S (t .pairs) =
-              rw q at (step-nonsingular P g S (pairs-of s) c (_, I .as-defined .is-inverse)) in
-              let h = inverse-table-of P g S (J .1) in
+              let I = session-accepted p S s .0 e .1 in
+              let J : Nonsingular P (graph-of s) S (t .pairs) =
+              rw q at (step-nonsingular P (graph-of s) S (pairs-of s) c (_, I .as-defined .is-inverse)) in
+              let h = inverse-table-of P (graph-of s) S (J .1) in
               (done x, with-pairs (t .pairs) (h .0) s, carries x (t .pairs) (h .0) e (q ∙ rw (← k)) (h .1) (h .2))
 
-  pub handles-unique : {s : State} {c : Call} {a a′ : Answer} {t t′ : State} → Handles P adjacency weights S s c a t
-      → Handles P adjacency weights S s c a′ t′ → (a ≡ a′) × (t ≡ t′)
+  pub handles-unique : {s : State} {c : Call} {a a′ : Answer} {t t′ : State} → Handles P S s c a t → Handles P S s c a′ t′ → (a ≡ a′) × (t ≡ t′)
   handles-unique (unsound r e) (unsound r′ e′) = (cc, refl)
   handles-unique (unsound r e) (refuses r′ e′ k′) = absurd (let z : _≡_ {A = ℕ} 0 1 = cc in omega arith)
   handles-unique (unsound r e) (carries y ps h e′ k′ l′ i′) = absurd (let z : _≡_ {A = ℕ} 0 1 = cc in omega arith)
@@ -50,5 +47,57 @@ module _ {p : ℕ} (P : OddPrime p) (adjacency weights : List ℕ) (S : Subset) 
   handles-unique {s} (carries y ps h e k l i) (carries y′ ps′ h′ e′ k′ l′ i′) =
       let a : done y ≡ done y′ = ap (λ u. u .answer) (sym k ∙ k′) in
       let b : ps ≡ ps′ = ap (λ u. u .pairs) (sym k ∙ k′) in
-      let w : h ≡ h′ = inverse-table-unique P (graph-of s adjacency weights) S l l′ i (rw (← b) at i′) in
+      let w : h ≡ h′ = inverse-table-unique P (graph-of s) S l l′ i (rw (← b) at i′) in
       (a, ap₂ (λ qs words. with-pairs qs words s) b w)
+
+  -- a call that is refused hands back the state as it came
+  pub refused-keeps : {s t : State} {c : Call} {a : Answer} → Handles P S s c a t → {r : _} → a ≡ denied r → t ≡ s
+  refused-keeps (unsound _ _) _ = refl
+  refused-keeps (refuses _ _ _) _ = refl
+  refused-keeps (carries e _ _ _ _ _ _) {r} q = absurd (unlike {q = e} {r = r} refl q)
+
+  pub runs-some : (s : State) (calls : List Call) → (returned : List Returned) × Runs P S s calls returned
+  runs-some s [] = ([], none)
+  runs-some s (c ∷ calls) =
+      let h = handles-some s c in
+      let r = runs-some (h .1) calls in
+      (record { answer = h .0; state = h .1 } ∷ r .0, more (h .2) (r .1))
+
+  pub runs-unique : {s : State} {calls : List Call} {a b : List Returned} → Runs P S s calls a → Runs P S s calls b → a ≡ b
+  runs-unique none none = refl
+  runs-unique (more {calls = calls} {r = x} {later = l} h rest) (more {r = y} {later = m} h′ rest′) =
+      let u = handles-unique h h′ in
+      let q : x ≡ y = ap₂ (λ a s. record { answer = a; state = s }) (u .0) (u .1) in
+      ap₂ (λ r later. r ∷ later) q (runs-unique rest (rw (← u .1) at rest′))
+
+  -- one call more at the end
+  pub runs-more : {s t : State} {calls : List Call} {returned : List Returned} {c : Call} {a : Answer} → Runs P S s calls returned
+      → Handles P S (last-state s returned) c a t → Runs P S s (calls ++ c ∷ []) (returned ++ record { answer = a; state = t } ∷ [])
+  unfolding last-state
+  runs-more none h = more h none
+  runs-more (more k rest) h = more k (runs-more rest h)
+
+  -- demand 2, second half
+  pub picked-exactly : {s t : State} {a b : ℕ} {answer : Answer} → Handles P S s (pick a b) answer t → PickedExactly P S s a b answer
+  unfolding step
+  picked-exactly (unsound r e) ok = absurd (let z : _≡_ {A = ℕ} 0 1 = cc in omega arith)
+  picked-exactly {s} {a = a} {b = b} (refuses r e k) ok = go (pick-ruling P (graph-of s) S (pairs-of s) a b) refl k
+    where
+      go : (v : Ruling) → pick-ruling P (graph-of s) S (pairs-of s) a b ≡ v
+          → append P (graph-of s) S (pairs-of s) (pair-of a b) v .answer ≡ denied r
+          → (denied r ≡ done (pair-of a b)) ↔ Allowed P (graph-of s) S (pairs-of s) a b
+      go accepted q k = absurd (unlike {q = pair-of a b} {r = r} refl k)
+      go (refused w) q k = (
+        λ f. absurd (unlike {q = pair-of a b} {r = r} f refl),
+        λ h. absurd (rw q at (accepted-of-allowed P (graph-of s) S (pairs-of s) a b h)),
+      )
+  picked-exactly {s} {a = a} {b = b} (carries x pairs words e k l i) ok = go (pick-ruling P (graph-of s) S (pairs-of s) a b) refl k
+    where
+      go : (v : Ruling) → pick-ruling P (graph-of s) S (pairs-of s) a b ≡ v
+          → append P (graph-of s) S (pairs-of s) (pair-of a b) v ≡ record { answer = done x; pairs = pairs }
+          → (done x ≡ done (pair-of a b)) ↔ Allowed P (graph-of s) S (pairs-of s) a b
+      go accepted q k = (
+        λ _. allowed-of-accepted P (graph-of s) S (pairs-of s) a b (rw q tt),
+        λ _. sym (ap (λ u. u .answer) k),
+      )
+      go (refused w) q k = absurd (unlike {q = x} {r = w} (ap (λ u. u .answer) k) refl)

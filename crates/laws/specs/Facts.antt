@@ -3,7 +3,7 @@
 use mathlib.Core.Path.{_≡_, refl, sym, ap}
 use mathlib.Core.Logic.{_≢_, _↔_}
 use mathlib.Core.List.{List, [], _∷_}
-use Prim.Native.Nat.{ℕ, zero, suc, _+_, _<_}
+use Prim.Native.Nat.{ℕ, zero, suc, _+_, _≤_, _<_}
 use native.Mathlib.Omega.{arith}
 use native.Mathlib.Decide.{ℕ-discrete, decLt}
 use Rattle.modular.specs.Congruence.{Congruent, equals, _⨾_, _⊖_, linear}
@@ -13,10 +13,10 @@ use Rattle.skew.specs.Choose.{choose-yes, choose-no}
 use Rattle.skew.specs.Subset.{Subset, _∈_, _∉_, Member, inside, outside, member?, Without, swap, without, without-same, count, count-of-empty, count-without}
 use Rattle.skew.specs.Inverse.{same-set}
 use Rattle.skew.specs.Matching.{pick-exists}
-use Rattle.matching.specs.Decision.{Refusal, because, First, nowhere, first-at, first?, both?, Ruling, accepted, refused, judge, Accepted, accepted?, Every}
+use Rattle.matching.specs.Decision.{Refusal, because, First, nowhere, first-at, first?, both?, Ruling, accepted, refused, judge, Accepted, accepted?, Every, Lowest}
 use Rattle.matching.specs.Graph.{Graph, cell, upper, tutte, tutte-upper, tutte-lower, tutte-diagonal}
 use Rattle.matching.specs.Pairs.{Pair, pair-of, Pairs, unmatched, in?}
-use Rattle.matching.specs.Model.{Call, pick, automatic, undo, Answer, done, denied, Named, named?, needs, skew, Nonsingular, nonsingular?, Adjacent, adjacent?, pick-ruling, append, remove-last, step, run, OpenPartner, PicksToCome, stopped, picked}
+use Rattle.matching.specs.Model.{Call, pick, automatic, undo, Answer, done, denied, named?, needs, skew, Nonsingular, nonsingular?, Adjacent, adjacent?, pick-ruling, Allowed, append, remove-last, step, pairs-after, OpenPartner, PicksToCome, stopped, picked}
 
 pub pair-of-smaller : (a b : ℕ) → a < b → pair-of a b ≡ record { smaller = a; larger = b }
 unfolding pair-of
@@ -28,21 +28,19 @@ pair-of-larger a b l =
     let h : ¬ (a < b) = λ k. omega arith in
     rw (choose-no (decLt a b) a b h, choose-no (decLt a b) b a h)
 
-place-of : {r t : Refusal} → refused r ≡ refused t → r .place ≡ t .place
-place-of {r} {t} q = let e : r ≡ t = cc in ap (λ u. u .place) e
-
 pub unlike : {a : Answer} {q : Pair} {r : Refusal} → a ≡ done q → a ≡ denied r → ⊥
 unlike u w = let z : _≡_ {A = ℕ} 0 1 = cc in omega arith
 
-module _ {p : ℕ} (P : OddPrime p) (g : Graph) (S : Subset) where
-  -- a hand pick that no cause refuses
-  pub record Allowed (pairs : Pairs) (a b : ℕ) : Type 0 where
-    pub named : Named (g .n) a b
-    pub a-left : a ∈ unmatched S pairs
-    pub b-left : b ∈ unmatched S pairs
-    pub adjacent : Adjacent g (pair-of a b)
-    pub nonsingular : Nonsingular P g S (pair-of a b ∷ pairs)
+-- a refused pick has a cause from 7 to 10, and place 0
+pub record RefusedPick (r : Refusal) : Type 0 where
+  pub from-7 : 7 ≤ r .cause
+  pub to-10 : r .cause ≤ 10
+  pub at-0 : r .place ≡ 0
 
+told : {r : Refusal} (k : ℕ) → 7 ≤ k → k ≤ 10 → refused (because k 0) ≡ refused r → RefusedPick r
+told {r} k l h q = let e : r ≡ because k 0 = cc in rw e (record { from-7 = l; to-10 = h; at-0 = refl })
+
+module _ {p : ℕ} (P : OddPrime p) (g : Graph) (S : Subset) where
   judged : {A B C D E : Type 0} (a : Dec A) (b : Dec B) (c : Dec C) (d : Dec D) (e : Dec E)
       → Accepted (judge (needs 7 a ∷ needs 8 (both? b c) ∷ needs 9 d ∷ needs 10 e ∷ [])) ↔ (A × B × C × D × E)
   judged (no a) b c d e = (λ h. absurd h, λ h. a (h .0))
@@ -54,23 +52,22 @@ module _ {p : ℕ} (P : OddPrime p) (g : Graph) (S : Subset) where
   judged (yes a) (yes b) (yes c) (yes d) (yes e) = (λ _. (a, b, c, d, e), λ _. tt)
 
   placed : {A B C D E : Type 0} {r : Refusal} (a : Dec A) (b : Dec B) (c : Dec C) (d : Dec D) (e : Dec E)
-      → judge (needs 7 a ∷ needs 8 (both? b c) ∷ needs 9 d ∷ needs 10 e ∷ []) ≡ refused r → r .place ≡ 0
-  placed (no a) b c d e q = sym (place-of q)
-  placed (yes a) (no b) (yes c) d e q = sym (place-of q)
-  placed (yes a) (no b) (no c) d e q = sym (place-of q)
-  placed (yes a) (yes b) (no c) d e q = sym (place-of q)
-  placed (yes a) (yes b) (yes c) (no d) e q = sym (place-of q)
-  placed (yes a) (yes b) (yes c) (yes d) (no e) q = sym (place-of q)
+      → judge (needs 7 a ∷ needs 8 (both? b c) ∷ needs 9 d ∷ needs 10 e ∷ []) ≡ refused r → RefusedPick r
+  placed (no a) b c d e q = told 7 (omega arith) (omega arith) q
+  placed (yes a) (no b) (yes c) d e q = told 8 (omega arith) (omega arith) q
+  placed (yes a) (no b) (no c) d e q = told 8 (omega arith) (omega arith) q
+  placed (yes a) (yes b) (no c) d e q = told 8 (omega arith) (omega arith) q
+  placed (yes a) (yes b) (yes c) (no d) e q = told 9 (omega arith) (omega arith) q
+  placed (yes a) (yes b) (yes c) (yes d) (no e) q = told 10 (omega arith) (omega arith) q
   placed (yes a) (yes b) (yes c) (yes d) (yes e) q = absurd (let z : _≡_ {A = ℕ} 0 1 = cc in omega arith)
 
-  -- the place of a refused pick is 0
-  pub refused-place : (pairs : Pairs) (a b : ℕ) {r : Refusal} → pick-ruling P g S pairs a b ≡ refused r → r .place ≡ 0
+  pub refused-pick : (pairs : Pairs) (a b : ℕ) {r : Refusal} → pick-ruling P g S pairs a b ≡ refused r → RefusedPick r
   unfolding pick-ruling
-  refused-place pairs a b {r} q =
+  refused-pick pairs a b {r} q =
       placed {r = r} (named? (g .n) a b) (in? (unmatched S pairs) a) (in? (unmatched S pairs) b)
       (adjacent? g (pair-of a b)) (nonsingular? P g S (pair-of a b ∷ pairs)) q
 
-  pub allowed-of-accepted : (pairs : Pairs) (a b : ℕ) → Accepted (pick-ruling P g S pairs a b) → Allowed pairs a b
+  pub allowed-of-accepted : (pairs : Pairs) (a b : ℕ) → Accepted (pick-ruling P g S pairs a b) → Allowed P g S pairs a b
   unfolding pick-ruling
   allowed-of-accepted pairs a b h =
       let r =
@@ -78,7 +75,7 @@ module _ {p : ℕ} (P : OddPrime p) (g : Graph) (S : Subset) where
       (adjacent? g (pair-of a b)) (nonsingular? P g S (pair-of a b ∷ pairs)) .0 h in
       record { named = r .0; a-left = r .1; b-left = r .2; adjacent = r .3; nonsingular = r .4 }
 
-  pub accepted-of-allowed : (pairs : Pairs) (a b : ℕ) → Allowed pairs a b → Accepted (pick-ruling P g S pairs a b)
+  pub accepted-of-allowed : (pairs : Pairs) (a b : ℕ) → Allowed P g S pairs a b → Accepted (pick-ruling P g S pairs a b)
   unfolding pick-ruling
   accepted-of-allowed pairs a b h =
       judged (named? (g .n) a b) (in? (unmatched S pairs) a) (in? (unmatched S pairs) b)
@@ -139,41 +136,32 @@ module _ {p : ℕ} (P : OddPrime p) (g : Graph) (S : Subset) where
       )
 
   -- an automatic pick where a vertex is left, and where none is
-  pub record Lowest (pairs : Pairs) (c r : ℕ) : Type 0 where
-    pub c-below : c < g .n
-    pub c-left : c ∈ unmatched S pairs
-    pub c-lowest : Every c (λ k. ¬ (k ∈ unmatched S pairs))
-    pub allowed : Allowed pairs c r
-    pub r-lowest : Every r (λ k. ¬ OpenPartner P g S pairs c k)
-    pub taken : step P g S pairs automatic ≡ record { answer = done (pair-of c r); pairs = pair-of c r ∷ pairs }
-
   pub data Automatic (pairs : Pairs) : Type 0 where
-    picks : (c r : ℕ) → Lowest pairs c r → Automatic pairs
-    none-left : Every (g .n) (λ k. ¬ (k ∈ unmatched S pairs)) → step P g S pairs automatic ≡ record { answer = denied (because 11 0); pairs = pairs }
+    lowest : (c r : ℕ) → Lowest (g .n) (λ k. k ∈ unmatched S pairs) c → Lowest (g .n) (OpenPartner P g S pairs c) r
+        → step P g S pairs automatic ≡ record { answer = done (pair-of c r); pairs = pair-of c r ∷ pairs } → Automatic pairs
+    nobody : Every (g .n) (λ k. ¬ (k ∈ unmatched S pairs)) → step P g S pairs automatic ≡ record { answer = denied (because 11 0); pairs = pairs }
         → Automatic pairs
 
   pub automatic-cases : (pairs : Pairs) → Nonsingular P g S pairs → Automatic pairs
   unfolding step
-  automatic-cases pairs I = lowest (first? (λ c. c ∈ unmatched S pairs) (g .n) (in? (unmatched S pairs))) refl
+  automatic-cases pairs I = first (first? (λ c. c ∈ unmatched S pairs) (g .n) (in? (unmatched S pairs))) refl
     where
-      lowest : (f : First (g .n) (λ c. c ∈ unmatched S pairs))
+      first : (f : First (g .n) (λ c. c ∈ unmatched S pairs))
           → first? (λ c. c ∈ unmatched S pairs) (g .n) (in? (unmatched S pairs)) ≡ f → Automatic pairs
-      lowest (nowhere h) e = none-left h (rw e)
-      lowest (first-at c hc l h) e =
+      first (nowhere h) e = nobody h (rw e)
+      first (first-at c hc l h) e =
           partner (first? (λ r. OpenPartner P g S pairs c r) (g .n) (λ r. accepted? (pick-ruling P g S pairs c r))) refl
         where
           partner : (f : First (g .n) (λ r. OpenPartner P g S pairs c r))
               → first? (λ r. OpenPartner P g S pairs c r) (g .n) (λ r. accepted? (pick-ruling P g S pairs c r)) ≡ f → Automatic pairs
           partner (nowhere no-partner) q =
               let s = open-partner pairs I c hc l in absurd (no-partner (s .0) (s .1) (s .2))
-          partner (first-at r hr a k) q = picks c r (record {
-            c-below = hc;
-            c-left = l;
-            c-lowest = h;
-            allowed = allowed-of-accepted pairs c r a;
-            r-lowest = k;
-            taken = rw (e, q);
-          })
+          partner (first-at r hr a k) q =
+              lowest c r (record { below = hc; holds = l; none-before = h }) (record { below = hr; holds = a; none-before = k }) (rw (e, q))
+
+  -- the pick that it makes is allowed
+  pub lowest-allowed : (pairs : Pairs) (c r : ℕ) → Lowest (g .n) (OpenPartner P g S pairs c) r → Allowed P g S pairs c r
+  lowest-allowed pairs c r R = allowed-of-accepted pairs c r (R .holds)
 
   -- a call keeps the inverse, and so does a list of calls
   pub step-nonsingular : (pairs : Pairs) (c : Call) → Nonsingular P g S pairs → Nonsingular P g S (step P g S pairs c .pairs)
@@ -186,8 +174,8 @@ module _ {p : ℕ} (P : OddPrime p) (g : Graph) (S : Subset) where
   step-nonsingular pairs automatic I = go (automatic-cases pairs I)
     where
       go : Automatic pairs → Nonsingular P g S (step P g S pairs automatic .pairs)
-      go (picks c r L) = rw (L .taken) (L .allowed .nonsingular)
-      go (none-left _ e) = rw e I
+      go (lowest c r C R t) = rw t (lowest-allowed pairs c r R .nonsingular)
+      go (nobody _ e) = rw e I
   step-nonsingular [] undo I = I
   step-nonsingular (e ∷ earlier) undo I = go (nonsingular? P g S earlier)
     where
@@ -195,16 +183,16 @@ module _ {p : ℕ} (P : OddPrime p) (g : Graph) (S : Subset) where
       go (yes J) = J
       go (no _) = I
 
-  pub run-nonsingular : (pairs : Pairs) (calls : List Call) → Nonsingular P g S pairs → Nonsingular P g S (run P g S pairs calls .pairs)
-  unfolding run
-  run-nonsingular pairs [] I = I
-  run-nonsingular pairs (c ∷ calls) I = run-nonsingular (step P g S pairs c .pairs) calls (step-nonsingular pairs c I)
+  pub after-nonsingular : (pairs : Pairs) (calls : List Call) (k : ℕ) → Nonsingular P g S pairs → Nonsingular P g S (pairs-after P g S pairs calls k)
+  unfolding pairs-after
+  after-nonsingular pairs calls zero I = I
+  after-nonsingular pairs [] (suc k) I = I
+  after-nonsingular pairs (c ∷ calls) (suc k) I = after-nonsingular (step P g S pairs c .pairs) calls k (step-nonsingular pairs c I)
 
-  -- an automatic pick leaves two vertices fewer
-  fewer : (pairs : Pairs) (c r : ℕ) → Lowest pairs c r
+  -- an allowed pick leaves two vertices fewer
+  fewer : (pairs : Pairs) (c r : ℕ) → Allowed P g S pairs c r
       → count (g .n) (unmatched S pairs) ≡ suc (suc (count (g .n) (unmatched S (pair-of c r ∷ pairs))))
-  fewer pairs c r L =
-      let a = L .allowed in
+  fewer pairs c r a =
       count-without (g .n) (unmatched-without pairs c r (a .named .2) (a .a-left) (a .b-left)) (a .named .0) (a .named .1)
 
   none-counted : (pairs : Pairs) → Every (g .n) (λ k. ¬ (k ∈ unmatched S pairs)) → count (g .n) (unmatched S pairs) ≡ 0
@@ -219,30 +207,30 @@ module _ {p : ℕ} (P : OddPrime p) (g : Graph) (S : Subset) where
   picks-to-come zero pairs I e = go (automatic-cases pairs I)
     where
       go : Automatic pairs → PicksToCome P g S pairs 0
-      go (none-left h t) = stopped {r = because 11 0} (ap (λ s. s .answer) t)
-      go (picks c r L) = absurd (omega (arith, fewer pairs c r L))
+      go (nobody h t) = stopped {r = because 11 0} (ap (λ s. s .answer) t)
+      go (lowest c r C R t) = absurd (omega (arith, fewer pairs c r (lowest-allowed pairs c r R)))
   picks-to-come (suc m) pairs I e = go (automatic-cases pairs I) (λ q J f. picks-to-come m q J f)
     where
       go : Automatic pairs → ((q : Pairs) → Nonsingular P g S q → count (g .n) (unmatched S q) ≡ m + m → PicksToCome P g S q m)
           → PicksToCome P g S pairs (suc m)
-      go (none-left h t) _ = absurd (omega (arith, none-counted pairs h))
-      go (picks c r L) next =
+      go (nobody h t) _ = absurd (omega (arith, none-counted pairs h))
+      go (lowest c r C R t) next =
           let rest : PicksToCome P g S (pair-of c r ∷ pairs) m =
-          next (pair-of c r ∷ pairs) (L .allowed .nonsingular) (omega (arith, fewer pairs c r L)) in
-          picked {m = m} {e = pair-of c r} (ap (λ s. s .answer) (L .taken)) (rw (L .taken) rest)
+          next (pair-of c r ∷ pairs) (lowest-allowed pairs c r R .nonsingular) (omega (arith, fewer pairs c r (lowest-allowed pairs c r R))) in
+          picked {m = m} {e = pair-of c r} (ap (λ s. s .answer) t) (rw t rest)
 
   pub picks-to-come-half : (m : ℕ) (pairs : Pairs) → Nonsingular P g S pairs → PicksToCome P g S pairs m → count (g .n) (unmatched S pairs) ≡ m + m
   picks-to-come-half m pairs I (stopped {r = why} e) = go (automatic-cases pairs I)
     where
       go : Automatic pairs → count (g .n) (unmatched S pairs) ≡ 0
-      go (none-left h t) = none-counted pairs h
-      go (picks c r L) = absurd (unlike {r = why} (ap (λ s. s .answer) (L .taken)) e)
+      go (nobody h t) = none-counted pairs h
+      go (lowest c r C R t) = absurd (unlike {r = why} (ap (λ s. s .answer) t) e)
   picks-to-come-half (suc m) pairs I (picked {e = e} a rest) =
       go (automatic-cases pairs I) (picks-to-come-half m (step P g S pairs automatic .pairs) (step-nonsingular pairs automatic I) rest)
     where
       go : Automatic pairs → count (g .n) (unmatched S (step P g S pairs automatic .pairs)) ≡ m + m
           → count (g .n) (unmatched S pairs) ≡ suc m + suc m
-      go (none-left h t) _ = absurd (unlike {q = e} a (ap (λ s. s .answer) t))
-      go (picks c r L) k =
-          let k' : count (g .n) (unmatched S (pair-of c r ∷ pairs)) ≡ m + m = rw (L .taken) at k in
-          omega (arith, fewer pairs c r L)
+      go (nobody h t) _ = absurd (unlike {q = e} a (ap (λ s. s .answer) t))
+      go (lowest c r C R t) k =
+          let k' : count (g .n) (unmatched S (pair-of c r ∷ pairs)) ≡ m + m = rw t at k in
+          omega (arith, fewer pairs c r (lowest-allowed pairs c r R))

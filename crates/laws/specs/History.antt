@@ -1,24 +1,18 @@
--- What a history of calls on the plain model keeps: every pair was appended to exactly the pairs below it, and is valid there; so
--- a take-back gives back the pairs from before its pick, and when no vertex is left each stands in exactly one pair. Assumes nothing.
-use mathlib.Core.Path.{_≡_, refl, ap, _∙_}
-use mathlib.Core.List.{List, [], _∷_, _++_, append-assoc, append-nil}
-use Prim.Native.Nat.{ℕ, _+_, _<_}
+-- What calls on the plain model keep: each appends one valid pair, removes the newest, or changes nothing; so every pair that stands was
+-- appended to exactly the pairs below it. Assumes nothing.
+use mathlib.Core.Path.{_≡_, refl, sym, ap, _∙_}
+use mathlib.Core.List.{[], _∷_, _++_}
+use Prim.Native.Nat.{ℕ, zero, suc, _≤_, _<_}
 use native.Mathlib.Omega.{arith}
-use native.Mathlib.Decide.{ℕ-discrete, decLt}
+use native.Mathlib.Decide.{decLt}
+use lib.ListN.{length, length-append}
 use Rattle.modular.specs.Prime.{OddPrime}
-use Rattle.skew.specs.Choose.{choose, choose-yes, choose-no}
-use Rattle.skew.specs.Subset.{Subset, _∈_, _∉_, bit, remove, remove-same, remove-other}
+use Rattle.skew.specs.Subset.{Subset, _∈_}
 use Rattle.matching.specs.Decision.{because, Ruling, accepted, refused}
 use Rattle.matching.specs.Graph.{Graph}
 use Rattle.matching.specs.Pairs.{Pair, pair-of, Pairs, unmatched}
-use Rattle.matching.specs.Model.{Call, pick, automatic, undo, done, denied, Step, Nonsingular, nonsingular?, Adjacent, pick-ruling, append, remove-last, step, run}
-use Rattle.laws.specs.Facts.{pair-of-smaller, pair-of-larger, Allowed, allowed-of-accepted, refused-place, Automatic, picks, none-left, automatic-cases, step-nonsingular, run-nonsingular}
-
--- how many of the pairs a vertex stands in
-unfoldable pub times : ℕ → Pairs → ℕ
-unfolding ℕ-discrete
-times v [] = 0
-times v (e ∷ earlier) = choose (ℕ-discrete v (e .smaller)) 1 0 + choose (ℕ-discrete v (e .larger)) 1 0 + times v earlier
+use Rattle.matching.specs.Model.{Call, pick, automatic, undo, done, denied, Step, Nonsingular, nonsingular?, Adjacent, pick-ruling, Allowed, append, remove-last, step}
+use Rattle.laws.specs.Facts.{pair-of-smaller, pair-of-larger, allowed-of-accepted, refused-pick, Automatic, lowest, nobody, automatic-cases, lowest-allowed}
 
 -- the smaller vertex first, both among those left by the earlier pairs, and adjacent
 pub record Fits {p : ℕ} (P : OddPrime p) (g : Graph) (S : Subset) (e : Pair) (earlier : Pairs) : Type 0 where
@@ -51,39 +45,6 @@ module _ {p : ℕ} (P : OddPrime p) (g : Graph) (S : Subset) where
           (record { ordered = l; below = h .named .0; smaller-left = h .b-left; larger-left = h .a-left; adjacent = rw (pair-of-larger a b l) at k })
       go (no d) (no e) k = absurd (h .named .2 (omega arith))
 
-  -- a vertex of the set that is left stands in no pair, every other in exactly one
-  pub once : (pairs : Pairs) → Valid P g S pairs → (v : ℕ) → v ∈ S → times v pairs + bit (unmatched S pairs v) ≡ 1
-  unfolding times unmatched
-  once [] nil v h = omega (arith, ap bit h)
-  once (e ∷ earlier) (cons f rest) v h = go (ℕ-discrete v (e .smaller)) (ℕ-discrete v (e .larger)) (once earlier rest v h)
-    where
-      go : Dec (v ≡ e .smaller) → Dec (v ≡ e .larger) → times v earlier + bit (unmatched S earlier v) ≡ 1
-          → times v (e ∷ earlier) + bit (unmatched S (e ∷ earlier) v) ≡ 1
-      go (yes q) (yes q') k = absurd (omega (arith, f .ordered))
-      go (yes q) (no d) k =
-          omega (
-            arith,
-            choose-yes {B = ℕ} (ℕ-discrete v (e .smaller)) 1 0 q,
-            choose-no {B = ℕ} (ℕ-discrete v (e .larger)) 1 0 d,
-            ap bit (ap (unmatched S earlier) q ∙ f .smaller-left),
-            ap bit (remove-other (remove (unmatched S earlier) (e .smaller)) (e .larger) v d ∙ ap (remove (unmatched S earlier) (e .smaller)) q ∙ remove-same (unmatched S earlier) (e .smaller)),
-          )
-      go (no d) (yes q) k =
-          omega (
-            arith,
-            choose-no {B = ℕ} (ℕ-discrete v (e .smaller)) 1 0 d,
-            choose-yes {B = ℕ} (ℕ-discrete v (e .larger)) 1 0 q,
-            ap bit (ap (unmatched S earlier) q ∙ f .larger-left),
-            ap bit (ap (remove (remove (unmatched S earlier) (e .smaller)) (e .larger)) q ∙ remove-same (remove (unmatched S earlier) (e .smaller)) (e .larger)),
-          )
-      go (no d) (no d') k =
-          omega (
-            arith,
-            choose-no {B = ℕ} (ℕ-discrete v (e .smaller)) 1 0 d,
-            choose-no {B = ℕ} (ℕ-discrete v (e .larger)) 1 0 d',
-            ap bit (remove-other (remove (unmatched S earlier) (e .smaller)) (e .larger) v d' ∙ remove-other (unmatched S earlier) (e .smaller) v d),
-          )
-
   -- every call appends one pair, removes the newest, or changes nothing
   pub change : (pairs : Pairs) (c : Call) → Nonsingular P g S pairs → Change P g S pairs (step P g S pairs c)
   unfolding step
@@ -92,12 +53,13 @@ module _ {p : ℕ} (P : OddPrime p) (g : Graph) (S : Subset) where
       go : (v : Ruling) → pick-ruling P g S pairs a b ≡ v → Change P g S pairs (append P g S pairs (pair-of a b) v)
       go accepted e =
           let h = allowed-of-accepted P g S pairs a b (rw e tt) in appended (pair-of a b) (fits pairs a b h) (h .nonsingular)
-      go (refused r) e = let q : r ≡ because (r .cause) 0 = rw (← refused-place P g S pairs a b {r = r} e) in rw q (unchanged (r .cause))
+      go (refused r) e = let q : r ≡ because (r .cause) 0 = rw (← refused-pick P g S pairs a b {r = r} e .at-0) in rw q (unchanged (r .cause))
   change pairs automatic I = go (automatic-cases P g S pairs I)
     where
       go : Automatic P g S pairs → Change P g S pairs (step P g S pairs automatic)
-      go (picks c r L) = rw (L .taken) (appended (pair-of c r) (fits pairs c r (L .allowed)) (L .allowed .nonsingular))
-      go (none-left _ e) = rw e (unchanged 11)
+      go (lowest c r C R t) =
+          let a = lowest-allowed P g S pairs c r R in rw t (appended (pair-of c r) (fits pairs c r a) (a .nonsingular))
+      go (nobody _ e) = rw e (unchanged 11)
   change [] undo I = unchanged 11
   change (e ∷ earlier) undo I = go (nonsingular? P g S earlier)
     where
@@ -113,96 +75,41 @@ module _ {p : ℕ} (P : OddPrime p) (g : Graph) (S : Subset) where
       tail (cons _ w) = w
   change-valid pairs _ (unchanged k) v = v
 
-  -- after any list of calls the pairs are valid
-  pub run-valid : (pairs : Pairs) (calls : List Call) → Nonsingular P g S pairs → Valid P g S pairs → Valid P g S (run P g S pairs calls .pairs)
-  unfolding run
-  run-valid pairs [] I v = v
-  run-valid pairs (c ∷ calls) I v =
-      run-valid (step P g S pairs c .pairs) calls (step-nonsingular P g S pairs c I) (change-valid pairs _ (change pairs c I) v)
+-- lists of pairs one after another, each with one pair more than the last, or without its newest, or the same
+pub data Moves (a b : Pairs) : Type 0 where
+  grows : (e : Pair) → b ≡ e ∷ a → Moves a b
+  shrinks : (e : Pair) → a ≡ e ∷ b → Moves a b
+  stays : b ≡ a → Moves a b
 
-  -- when no vertex of the set is left, each stands in exactly one pair
-  pub perfect : (pairs : Pairs) → Valid P g S pairs → (v : ℕ) → v ∈ S → v ∉ unmatched S pairs → times v pairs ≡ 1
-  perfect pairs w v h o = omega (arith, once pairs w v h, ap bit o)
+pub change-moves : {p : ℕ} {P : OddPrime p} {g : Graph} {S : Subset} {pairs : Pairs} (s : Step) → Change P g S pairs s → Moves pairs (s .pairs)
+change-moves _ (appended e _ _) = grows e refl
+change-moves _ (removed e earlier q _) = shrinks e q
+change-moves _ (unchanged k) = stays refl
 
-  pub run-append : (pairs : Pairs) (calls : List Call) (c : Call)
-      → run P g S pairs (calls ++ c ∷ []) .pairs ≡ step P g S (run P g S pairs calls .pairs) c .pairs
-  unfolding run
-  run-append pairs [] c = refl
-  run-append pairs (d ∷ calls) c = run-append (step P g S pairs d .pairs) calls c
+tails : {a b : Pair} {s t : Pairs} → a ∷ s ≡ b ∷ t → s ≡ t
+tails w = cc
 
-  -- among these calls, made from no pairs on, is one that appended e to exactly the earlier pairs
-  pub record Appended (calls : List Call) (e : Pair) (earlier : Pairs) : Type 0 where
-    pub before : List Call
-    pub call : Call
-    pub after : List Call
-    pub split : calls ≡ before ++ call ∷ after
-    pub state : run P g S [] before .pairs ≡ earlier
-    pub append : step P g S earlier call ≡ record { answer = done e; pairs = e ∷ earlier }
+module _ (at : ℕ → Pairs) (moves : (k : ℕ) → Moves (at k) (at (suc k))) where
+  -- e was appended to exactly the earlier pairs, before k
+  pub record Appended (k : ℕ) (e : Pair) (earlier : Pairs) : Type 0 where
+    pub time : ℕ
+    pub before : time < k
+    pub found : at time ≡ earlier
+    pub leaves : at (suc time) ≡ e ∷ earlier
 
-  -- so it is for every pair that stands
-  abbrev pub Accounted : List Call → Pairs → Type 0
-  Accounted calls pairs = (more : Pairs) (e : Pair) (earlier : Pairs) → pairs ≡ more ++ e ∷ earlier → Appended calls e earlier
+  later : {k : ℕ} {e : Pair} {earlier : Pairs} → Appended k e earlier → Appended (suc k) e earlier
+  later a = record { time = a .time; before = omega (arith, a .before); found = a .found; leaves = a .leaves }
 
-  later : {calls : List Call} {e : Pair} {earlier : Pairs} (c : Call) → Appended calls e earlier → Appended (calls ++ c ∷ []) e earlier
-  later c a = record {
-    before = a .before;
-    call = a .call;
-    after = a .after ++ c ∷ [];
-    split = rw (a .split) (append-assoc (a .before) (a .call ∷ a .after) (c ∷ []));
-    state = a .state;
-    append = a .append;
-  }
-
-  heads : {a b : Pair} {s t : Pairs} → a ∷ s ≡ b ∷ t → a ≡ b
-  heads w = cc
-
-  tails : {a b : Pair} {s t : Pairs} → a ∷ s ≡ b ∷ t → s ≡ t
-  tails w = cc
-
-  account : (calls : List Call) (c : Call) (s : Step) → step P g S (run P g S [] calls .pairs) c ≡ s → Change P g S (run P g S [] calls .pairs) s
-      → Accounted calls (run P g S [] calls .pairs) → Accounted (calls ++ c ∷ []) (s .pairs)
-  account calls c _ q (unchanged k) h more e earlier w = later c (h more e earlier w)
-  account calls c _ q (removed x rest r _) h more e earlier w = later c (h (x ∷ more) e earlier (r ∙ ap (λ l. x ∷ l) w))
-  account calls c _ q (appended x _ _) h [] e earlier w = record {
-    before = calls;
-    call = c;
-    after = [];
-    split = refl;
-    state = tails w;
-    append = let t = tails w in let d = heads w in rw (← t, ← d) q;
-  }
-  account calls c _ q (appended x _ _) h (y ∷ more) e earlier w = later c (h more e earlier (tails w))
-
-  accounted : (calls rest : List Call) → Nonsingular P g S [] → Accounted calls (run P g S [] calls .pairs)
-      → Accounted (calls ++ rest) (run P g S [] (calls ++ rest) .pairs)
-  accounted calls [] I h = rw append-nil h
-  accounted calls (c ∷ rest) I h =
-      rw (← append-assoc calls (c ∷ []) rest)
-      (accounted (calls ++ c ∷ []) rest I
-      (rw (run-append [] calls c) (account calls c _ refl (change _ c (run-nonsingular P g S [] calls I)) h)))
-
-  -- where the newest pair is e, a call of the list appended it to what a take-back gives back
-  pub undo-restores : (calls : List Call) (e : Pair) (earlier : Pairs) → Nonsingular P g S [] → run P g S [] calls .pairs ≡ e ∷ earlier
-      → Appended calls e earlier
-  unfolding run
-  undo-restores calls e earlier I w = accounted [] calls I (λ more e earlier w. absurd (no-cons e earlier more w)) [] e earlier w
+  -- so was every pair that stands above those at the start
+  pub appended-once : (k : ℕ) (more : Pairs) (e : Pair) (earlier : Pairs) → length (at 0) ≤ length earlier → at k ≡ more ++ e ∷ earlier → Appended k e earlier
+  appended-once zero more e earlier l q = absurd (omega (arith, ap length q, length-append more (e ∷ earlier)))
+  appended-once (suc k) more e earlier l q = go (moves k) more q (λ xs r. appended-once k xs e earlier l r)
     where
-      no-cons : (e : Pair) (earlier more : Pairs) → [] ≡ more ++ e ∷ earlier → ⊥
-      no-cons e earlier [] w = let z : _≡_ {A = ℕ} 0 1 = cc in omega arith
-      no-cons e earlier (x ∷ more) w = let z : _≡_ {A = ℕ} 0 1 = cc in omega arith
-
-  -- so a take-back that has a pair to remove is never refused on a run
-  pub undo-accepted : (calls : List Call) (e : Pair) (earlier : Pairs) → Nonsingular P g S [] → run P g S [] calls .pairs ≡ e ∷ earlier
-      → step P g S (e ∷ earlier) undo ≡ record { answer = done e; pairs = earlier }
-  unfolding step
-  undo-accepted calls e earlier I w = go (nonsingular? P g S earlier)
-    where
-      A : Appended calls e earlier
-      A = undo-restores calls e earlier I w
-
-      J : Nonsingular P g S earlier
-      J = rw (A .state) at (run-nonsingular P g S [] (A .before) I)
-
-      go : (d : Dec (Nonsingular P g S earlier)) → remove-last P g S e earlier d ≡ record { answer = done e; pairs = earlier }
-      go (yes _) = refl
-      go (no d) = absurd (d J)
+      go : Moves (at k) (at (suc k)) → (more : Pairs) → at (suc k) ≡ more ++ e ∷ earlier → ((xs : Pairs) → at k ≡ xs ++ e ∷ earlier → Appended k e earlier)
+          → Appended (suc k) e earlier
+      go (stays r) more q next = later (next more (sym r ∙ q))
+      go (shrinks x r) more q next = later (next (x ∷ more) (r ∙ ap (λ l. x ∷ l) q))
+      go (grows x r) [] q next =
+          let t = tails (sym r ∙ q) in
+          record { time = k; before = omega arith; found = t; leaves = q }
+      go (grows x r) (y ∷ more) q next = later (next more (tails (sym r ∙ q)))

@@ -1,18 +1,24 @@
 -- What is proved of the definitions of document 01, in reading order.
--- The plain model: picks, partners, picks to come; then histories of calls.
+-- The plain model: picks, partners, picks to come; its rules; what calls keep.
 pub mod Facts
+pub mod Rules
 pub mod History
 -- A buffer whose first words are new, and what an accepting ruling says.
 pub mod Onto
 pub mod Sound
+pub mod Faults
+-- The bytes of a sequence of pairs.
+pub mod Sequence
 -- Every call has exactly one outcome.
 pub mod Determined
 pub mod Carried
+-- Demand 3.
+pub mod Demand
+pub mod Fresh
+-- The reader, and one outcome for open row, the reader and the listing.
+pub mod Reading
 pub mod Outcomes
--- A record's number and width.
-pub mod Reads
--- The bytes of a sequence of pairs, and demand 3.
-pub mod Sequence
-pub mod Runs
+-- The host.
+pub mod Numbers
 -- Where a weight stands.
 pub mod Weights

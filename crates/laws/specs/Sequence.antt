@@ -1,14 +1,15 @@
 -- The sequence of bytes that valid pairs make: it gives the pairs back, and it is well formed. Assumes nothing.
 use mathlib.Core.Path.{_≡_, refl, sym, ap, _∙_}
 use mathlib.Core.Logic.{_≢_}
+use mathlib.Core.Bool.{Bool, true, false}
 use mathlib.Core.List.{List, [], _∷_, _++_, append-assoc}
-use Prim.Native.Nat.{ℕ, _+_, _-_, _≤_, _<_}
+use Prim.Native.Nat.{ℕ, zero, suc, _+_, _-_, _≤_, _<_}
 use native.Mathlib.Omega.{arith}
-use native.Mathlib.Decide.{ℕ-discrete}
-use lib.ListN.{length, getD, replicate, length-append, length-replicate, getD-replicate, List·getD-append}
-use lib.Seq.{getD-append-seam, getD-append-add}
+use native.Mathlib.Decide.{ℕ-discrete, decLt}
+use lib.ListN.{length, getD, take, replicate, length-append, length-replicate, getD-replicate, List·getD-append}
+use lib.Seq.{getD-append-seam, getD-append-add, take-suc, length-take-le, getD-take, ext-getD}
 use Rattle.modular.specs.Prime.{OddPrime}
-use Rattle.skew.specs.Subset.{Subset, _∈_, _∉_, clash, Without, without, smaller, count, count-without}
+use Rattle.skew.specs.Subset.{Subset, _∈_, _∉_, clash, Without, without, smaller, bit, remove, remove-other, count, count-none, count-suc, count-without}
 use Rattle.matching.specs.Decision.{Every}
 use Rattle.matching.specs.Graph.{Graph, cell}
 use Rattle.matching.specs.Pairs.{Pair, Pairs, unused, bytes, sequence, pairs-on, unmatched}
@@ -124,10 +125,18 @@ module _ {p : ℕ} (P : OddPrime p) (g : Graph) (S : Subset) where
       omega
       (arith, count-left earlier v, count-without (g .n) (fits-without e earlier f) (omega (arith, f .ordered, f .below)) (f .below))
 
+pub count-most : (n : ℕ) (L : Subset) → count n L ≤ n
+count-most zero L = omega (arith, count-none L)
+count-most (suc n) L = simp count-suc (omega (arith, count-most n L, at-most-one (L n)))
+  where
+    at-most-one : (b : Bool) → bit b ≤ 1
+    at-most-one true = omega arith
+    at-most-one false = omega arith
+
 -- the sequence of valid pairs of a graph, whatever stands after it, is well formed
-module _ {p : ℕ} (P : OddPrime p) (g : Graph) (S : Subset) (few : count (g .n) S ≤ g .n) where
+module _ {p : ℕ} (P : OddPrime p) (g : Graph) (S : Subset) where
   half : (pairs : Pairs) → Valid P g S pairs → length pairs + length pairs ≤ g .n
-  half pairs v = omega (arith, count-left P g S pairs v)
+  half pairs v = omega (arith, count-left P g S pairs v, count-most (g .n) S)
 
   pub length-sequence : (pairs : Pairs) → Valid P g S pairs → length (sequence (g .n) pairs) ≡ g .n
   unfolding sequence
@@ -166,3 +175,101 @@ module _ {p : ℕ} (P : OddPrime p) (g : Graph) (S : Subset) (few : count (g .n)
   pub pairs-on-sequence : (pairs : Pairs) (rest : List ℕ) → pairs-on (sequence (g .n) pairs ++ rest) (length pairs) ≡ pairs
   unfolding sequence
   pairs-on-sequence pairs rest = rw append-assoc (pairs-on-bytes pairs (replicate (g .n - (length pairs + length pairs)) unused ++ rest))
+
+-- a well-formed sequence is that of the pairs read off it
+pub length-pairs-on : (s : List ℕ) (k : ℕ) → length (pairs-on s k) ≡ k
+unfolding pairs-on
+length-pairs-on s zero = refl
+length-pairs-on s (suc k) = ap suc (length-pairs-on s k)
+
+bytes-on : (s : List ℕ) (k : ℕ) → k + k ≤ length s → bytes (pairs-on s k) ≡ take (k + k) s
+unfolding pairs-on bytes
+bytes-on s zero l = refl
+bytes-on s (suc k) l =
+    let e : suc k + suc k ≡ suc (suc (k + k)) = omega arith in
+    let f : k + k + 1 ≡ suc (k + k) = omega arith in
+    rw (e, f, take-suc s (suc (k + k)) 0 (omega arith), take-suc s (k + k) 0 (omega arith), bytes-on s k (omega arith))
+    (sym (append-assoc (take (k + k) s) (getD s (k + k) 0 ∷ []) (getD s (suc (k + k)) 0 ∷ [])))
+
+pub sequence-on : (g : Graph) (made : ℕ) (s : List ℕ) → g .n ≤ length s → WellFormed g made s → sequence (g .n) (pairs-on s made) ≡ take (g .n) s
+unfolding sequence
+sequence-on g made s l W =
+    rw (length-pairs-on s made, bytes-on s made (omega (arith, W .few)))
+    (ext-getD 0 (take (made + made) s ++ replicate (g .n - (made + made)) unused) (take (g .n) s)
+    (length-append (take (made + made) s) (replicate (g .n - (made + made)) unused)
+    ∙ omega (arith, front, length-replicate (g .n - (made + made)) unused, length-take-le (g .n) s l, W .few))
+    (λ x h. at x (omega (arith, length-append (take (made + made) s) (replicate (g .n - (made + made)) unused), front, length-replicate (g .n - (made + made)) unused, W .few)) (decLt x (made + made))))
+  where
+    front : length (take (made + made) s) ≡ made + made
+    front = length-take-le (made + made) s (omega (arith, W .few))
+
+    at : (x : ℕ) → x < g .n → Dec (x < made + made)
+        → getD (take (made + made) s ++ replicate (g .n - (made + made)) unused) x 0 ≡ getD (take (g .n) s) x 0
+    at x h (yes k) =
+        List·getD-append (take (made + made) s) _ 0 x (omega (arith, front))
+        ∙ getD-take (made + made) s x 0 k
+        ∙ sym (getD-take (g .n) s x 0 h)
+    at x h (no k) =
+        let d = x - (made + made) in
+        let e : x ≡ length (take (made + made) s) + d = omega (arith, front) in
+        ap (λ y. getD (take (made + made) s ++ replicate (g .n - (made + made)) unused) y 0) e
+        ∙ getD-append-add (take (made + made) s) _ d 0
+        ∙ getD-replicate (g .n - (made + made)) d unused 0 (omega arith)
+        ∙ sym (getD-take (g .n) s x 0 h ∙ W .rest x h (omega arith))
+
+-- the vertices of its pairs are in play
+abbrev pub Inside : Subset → ℕ → List ℕ → Type 0
+Inside S made s = Every (made + made) (λ x. getD s x 0 ∈ S)
+
+-- a vertex in play that is none of the first bytes is left
+left-on : (S : Subset) (s : List ℕ) (v k : ℕ) → v ∈ S → Every (k + k) (λ x. getD s x 0 ≢ v) → v ∈ unmatched S (pairs-on s k)
+unfolding pairs-on unmatched
+left-on S s v zero m d = m
+left-on S s v (suc k) m d =
+    remove-other (remove (unmatched S (pairs-on s k)) (getD s (k + k) 0)) (getD s (k + k + 1) 0) v (λ e. d (k + k + 1) (omega arith) (sym e))
+    ∙ remove-other (unmatched S (pairs-on s k)) (getD s (k + k) 0) v (λ e. d (k + k) (omega arith) (sym e))
+    ∙ left-on S s v k m (λ x l. d x (omega arith))
+
+module _ {p : ℕ} (P : OddPrime p) (g : Graph) (S : Subset) (made : ℕ) (s : List ℕ) (W : WellFormed g made s) (I : Inside S made s) where
+  valid-up-to : (k : ℕ) → k ≤ made → Valid P g S (pairs-on s k)
+  unfolding pairs-on
+  valid-up-to zero l = nil
+  valid-up-to (suc k) l =
+      cons
+      (record {
+        ordered = W .ordered k (omega arith);
+        below = W .below k (omega arith);
+        smaller-left = left-on S s _ k (I (k + k) (omega arith)) (λ x h. W .different (k + k) (omega arith) x h);
+        larger-left = left-on S s _ k (I (k + k + 1) (omega arith)) (λ x h. W .different (k + k + 1) (omega arith) x (omega arith));
+        adjacent = W .adjacent k (omega arith);
+      })
+      (valid-up-to k (omega arith))
+
+  pub valid-on : Valid P g S (pairs-on s made)
+  valid-on = valid-up-to made (omega arith)
+
+-- a vertex in play that is not left stands among the bytes
+place-of : (S : Subset) (pairs : Pairs) (rest : List ℕ) (v : ℕ) → v ∈ S → v ∉ unmatched S pairs
+    → (x : ℕ) × (x < length pairs + length pairs) × (getD (bytes pairs ++ rest) x 0 ≡ v)
+unfolding unmatched
+place-of S [] rest v m o = clash m o
+place-of S (e ∷ earlier) rest v m o =
+    rw (newest e earlier rest) (go (ℕ-discrete v (e .smaller)) (ℕ-discrete v (e .larger)) (place-of S earlier (e .smaller ∷ e .larger ∷ rest) v m))
+  where
+    xs : List ℕ
+    xs = bytes earlier ++ e .smaller ∷ e .larger ∷ rest
+
+    Placed : ℕ → Type 0
+    Placed k = (x : ℕ) × (x < k + k) × (getD xs x 0 ≡ v)
+
+    go : Dec (v ≡ e .smaller) → Dec (v ≡ e .larger) → (v ∉ unmatched S earlier → Placed (length earlier)) → Placed (suc (length earlier))
+    go (yes q) _ r = (length earlier + length earlier, omega arith, at-smaller earlier (e .smaller) (e .larger) rest ∙ sym q)
+    go (no _) (yes q) r = (length earlier + length earlier + 1, omega arith, at-larger earlier (e .smaller) (e .larger) rest ∙ sym q)
+    go (no c) (no d) r =
+        let h = r (sym (remove-other (unmatched S earlier) (e .smaller) v c) ∙ sym (remove-other (remove (unmatched S earlier) (e .smaller)) (e .larger) v d) ∙ o) in
+        (h .0, omega (arith, h .1), h .2)
+
+pub place-in : (n : ℕ) (S : Subset) (pairs : Pairs) (rest : List ℕ) (v : ℕ) → v ∈ S → v ∉ unmatched S pairs
+    → (x : ℕ) × (x < length pairs + length pairs) × (getD (sequence n pairs ++ rest) x 0 ≡ v)
+unfolding sequence
+place-in n S pairs rest v m o = rw append-assoc (place-of S pairs (replicate (n - (length pairs + length pairs)) unused ++ rest) v m o)

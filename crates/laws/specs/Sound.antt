@@ -6,13 +6,14 @@ use Prim.Native.Nat.{ℕ, _*_, _/_, _%_, _≤_, _<_}
 use native.Mathlib.Omega.{arith}
 use native.Mathlib.Decide.{ℕ-discrete, decLt}
 use lib.ListN.{length}
+use Rattle.skew.specs.Choose.{choose}
 use Rattle.skew.specs.Subset.{Subset}
 use Rattle.matching.specs.Decision.{because, refused, Every, not?, First, nowhere, first-at, Finding, absent, at, when, found, Cause, accepted, judge, unless}
 use Rattle.matching.specs.Graph.{Graph, largest, pair-count, fault, InRange}
-use Rattle.matching.specs.Session.{InverseTable, WellFormed}
-use Rattle.matching.specs.Pairs.{unmatched, pairs-on}
+use Rattle.matching.specs.Session.{State, graph-of, pairs-of, InverseTable, WellFormed}
+use Rattle.matching.specs.Pairs.{unmatched}
 use Rattle.matching.specs.Decided.{inverse-table?, well-formed?}
-use Rattle.matching.specs.Causes.{Lent, lent-to-opening, opening-causes, lent-to-session, session-causes, too-large, or, first-short, first-faulty, bad-cell, in-range?, first-outside, bad-weight, ill-formed, not-inverse, opening-ruling, session-ruling}
+use Rattle.matching.specs.Causes.{Lent, lent-to-opening, opening-causes, lent-to-session, session-causes, too-large, first-short, first-faulty, bad-cell, in-range?, first-outside, bad-weight, ill-formed, not-inverse, opening-ruling, soundness}
 
 clash : {A : Type 0} {x : ℕ} → at x ≡ absent → A
 clash e = absurd (let z : _≡_ {A = ℕ} 0 1 = cc in omega arith)
@@ -73,7 +74,7 @@ short-absent [] = (λ _. tt, λ _. refl)
 short-absent (b ∷ later) = go (decLt (b .length) (b .needed)) (short-absent later)
   where
     go : (d : Dec (b .length < b .needed)) → (first-short later ≡ absent) ↔ LongEnough later
-        → (or (when d (b .number)) (first-short later) ≡ absent) ↔ ((b .needed ≤ b .length) × LongEnough later)
+        → (choose d (at (b .number)) (first-short later) ≡ absent) ↔ ((b .needed ≤ b .length) × LongEnough later)
     go (yes l) r = (λ e. clash e, λ h. absurd (omega (arith, h .0)))
     go (no l) r = (λ e. (omega arith, r .0 e), λ h. r .1 (h .1))
 
@@ -104,53 +105,50 @@ weights-ok p g =
     let r = found-absent (first-outside p g) in
     (λ e x l. stable (in-range? p g x) (r .0 e x l), λ h. r .1 (λ x l d. d (h x l)))
 
--- opening is not refused exactly when the buffers are long enough and the graph is in order
+-- none of opening's causes applies exactly when the buffers are long enough and the graph is in order
+pub graph-in-order : (p : ℕ) (g : Graph) (buffers : List Lent) → NoneApplies (opening-causes p g buffers) ↔ (LongEnough buffers × InOrder p g)
+graph-in-order p g buffers =
+    let s = short-absent buffers in (
+      λ a. (
+        s .0 (a .1 .0),
+        record { size = size-ok (g .n) .0 (a .0); cells = cells-ok g .0 (a .1 .1 .0); weights = weights-ok p g .0 (a .1 .1 .1 .0) },
+      ),
+      λ h. (size-ok (g .n) .1 (h .1 .size), (s .1 (h .0), (cells-ok g .1 (h .1 .cells), (weights-ok p g .1 (h .1 .weights), tt)))),
+    )
+
 pub opening-accepted : (p : ℕ) (g : Graph) (inverse sequence witness work : ℕ)
     → (opening-ruling p g inverse sequence witness work ≡ accepted)
     ↔ (LongEnough (lent-to-opening g inverse sequence witness work) × InOrder p g)
 unfolding opening-ruling
 opening-accepted p g inverse sequence witness work =
     let r = judge-accepted (opening-causes p g (lent-to-opening g inverse sequence witness work)) in
-    let s = short-absent (lent-to-opening g inverse sequence witness work) in (
-      λ e.
-          let a = r .0 e in (
-            s .0 (a .1 .0),
-            record { size = size-ok (g .n) .0 (a .0); cells = cells-ok g .0 (a .1 .1 .0); weights = weights-ok p g .0 (a .1 .1 .1 .0) },
-          ),
-      λ h. r .1 (size-ok (g .n) .1 (h .1 .size), (s .1 (h .0), (cells-ok g .1 (h .1 .cells), (weights-ok p g .1 (h .1 .weights), tt)))),
-    )
+    let o = graph-in-order p g (lent-to-opening g inverse sequence witness work) in
+    (λ e. o .0 (r .0 e), λ h. r .1 (o .1 h))
 
 -- a sound session over a graph in order
-pub record Sound (p : ℕ) (g : Graph) (S : Subset) (made : ℕ) (inverse sequence : List ℕ) : Type 0 where
-  pub in-order : InOrder p g
-  pub well-formed : WellFormed g made sequence
-  pub as-defined : InverseTable p g (unmatched S (pairs-on sequence made)) inverse
+pub record Sound (p : ℕ) (S : Subset) (s : State) : Type 0 where
+  pub in-order : InOrder p (graph-of s)
+  pub well-formed : WellFormed (graph-of s) (s .session .made) (s .sequence)
+  pub as-defined : InverseTable p (graph-of s) (unmatched S (pairs-of s)) (s .inverse)
 
-pub session-accepted : (p : ℕ) (g : Graph) (S : Subset) (made : ℕ) (inverse sequence : List ℕ) (more : List Lent)
-    → (session-ruling p g S made inverse sequence more ≡ accepted)
-    ↔ (LongEnough (lent-to-session g inverse sequence more) × Sound p g S made inverse sequence)
-unfolding session-ruling ill-formed not-inverse
-session-accepted p g S made inverse sequence more =
-    let r = judge-accepted (session-causes p g S made inverse sequence (lent-to-session g inverse sequence more)) in
-    let s = short-absent (lent-to-session g inverse sequence more) in
-    let w = unless-absent (well-formed? g made sequence) 0 in
-    let h = unless-absent (inverse-table? p g (unmatched S (pairs-on sequence made)) inverse) 0 in (
-      λ e.
-          let a = r .0 e in (
-            s .0 (a .1 .0),
-            record {
-              in-order = record { size = size-ok (g .n) .0 (a .0); cells = cells-ok g .0 (a .1 .1 .0); weights = weights-ok p g .0 (a .1 .1 .1 .0) };
-              well-formed = w .0 (a .1 .1 .1 .1 .0);
-              as-defined = h .0 (a .1 .1 .1 .1 .1 .0);
-            },
-          ),
+pub session-in-order : (p : ℕ) (S : Subset) (s : State) (more : List Lent)
+    → NoneApplies (session-causes p S s more) ↔ (LongEnough (lent-to-session s more) × Sound p S s)
+unfolding ill-formed not-inverse
+session-in-order p S s more =
+    let o = graph-in-order p (graph-of s) (lent-to-session s more) in
+    let w = unless-absent (well-formed? (graph-of s) (s .session .made) (s .sequence)) 0 in
+    let h = unless-absent (inverse-table? p (graph-of s) (unmatched S (pairs-of s)) (s .inverse)) 0 in (
+      λ a.
+          let k = o .0 (a .0, (a .1 .0, (a .1 .1 .0, (a .1 .1 .1 .0, tt)))) in
+          (k .0, record { in-order = k .1; well-formed = w .0 (a .1 .1 .1 .1 .0); as-defined = h .0 (a .1 .1 .1 .1 .1 .0) }),
       λ c.
-          let o = c .1 .in-order in
-          r .1 (
-            size-ok (g .n) .1 (o .size),
-            (
-              s .1 (c .0),
-              (cells-ok g .1 (o .cells), (weights-ok p g .1 (o .weights), (w .1 (c .1 .well-formed), (h .1 (c .1 .as-defined), tt)))),
-            ),
-          ),
+          let k = o .1 (c .0, c .1 .in-order) in
+          (k .0, (k .1 .0, (k .1 .1 .0, (k .1 .1 .1 .0, (w .1 (c .1 .well-formed), (h .1 (c .1 .as-defined), tt)))))),
     )
+
+pub session-accepted : (p : ℕ) (S : Subset) (s : State) → (soundness p S s ≡ accepted) ↔ (LongEnough (lent-to-session s []) × Sound p S s)
+unfolding soundness
+session-accepted p S s =
+    let r = judge-accepted (session-causes p S s []) in
+    let o = session-in-order p S s [] in
+    (λ e. o .0 (r .0 e), λ h. r .1 (o .1 h))

@@ -4,10 +4,12 @@ use mathlib.Core.List.{List, [], _∷_, _++_}
 use Prim.Native.Nat.{ℕ, _*_, _/_, _%_}
 use native.Mathlib.Decide.{ℕ-discrete, decLt}
 use lib.ListN.{length, getD}
+use Rattle.skew.specs.Choose.{choose}
 use Rattle.skew.specs.Subset.{Subset}
 use Rattle.matching.specs.Decision.{both?, not?, First, first?, Finding, absent, at, when, found, Cause, Ruling, judge}
 use Rattle.matching.specs.Graph.{Graph, largest, pair-count, fault, Faulty, InRange}
-use Rattle.matching.specs.Pairs.{unmatched, pairs-on}
+use Rattle.matching.specs.Pairs.{unmatched}
+use Rattle.matching.specs.Session.{State, graph-of, pairs-of}
 use Rattle.matching.specs.Decided.{inverse-table?, well-formed?}
 
 -- a lent buffer: its number in the table, how long it is, and how much of it the call needs
@@ -55,14 +57,9 @@ lent-besides n witness work = lent-witness n witness ∷ lent-work n work ∷ []
 abbrev pub too-large : ℕ → Cause
 too-large n = record { number = 1; finding = when (decLt largest n) 0 }
 
--- the first of two findings
-abbrev pub or : Finding → Finding → Finding
-or absent f = f
-or (at x) f = at x
-
 abbrev pub first-short : List Lent → Finding
 first-short [] = absent
-first-short (b ∷ later) = or (when (decLt (b .length) (b .needed)) (b .number)) (first-short later)
+first-short (b ∷ later) = choose (decLt (b .length) (b .needed)) (at (b .number)) (first-short later)
 
 -- 2: a lent buffer too short, at the number of the first of them
 abbrev pub too-short : List Lent → Cause
@@ -111,22 +108,19 @@ unfoldable pub opening-ruling : ℕ → Graph → (inverse sequence witness work
 unfolding bad-cell bad-weight
 opening-ruling p g inverse sequence witness work = judge (opening-causes p g (lent-to-opening g inverse sequence witness work))
 
--- what every session call is lent, and what it looks at first: 1 to 6, whether the session is sound
-abbrev pub lent-to-session : Graph → (inverse sequence : List ℕ) → List Lent → List Lent
-lent-to-session g inverse sequence more =
-    lent-always (g .n) (length (g .adjacency)) (length (g .weights)) (length inverse) (length sequence) ++ more
+-- what a session call is lent, with the buffers `more` that it is lent besides, and what it looks at first: 1 to 6, whether the session is
+-- sound for a set S of vertices in play; in document 01 it is `everything`
+abbrev pub lent-to-session : State → List Lent → List Lent
+lent-to-session s more =
+    lent-always (s .session .size) (length (s .adjacency)) (length (s .weights)) (length (s .inverse)) (length (s .sequence)) ++ more
 
-abbrev pub session-causes : ℕ → Graph → Subset → ℕ → (inverse sequence : List ℕ) → List Lent → List Cause
-session-causes p g S made inverse sequence buffers =
-    too-large (g .n)
-    ∷ too-short buffers
-    ∷ bad-cell g
-    ∷ bad-weight p g
-    ∷ ill-formed g made sequence
-    ∷ not-inverse p g (unmatched S (pairs-on sequence made)) inverse
+abbrev pub session-causes : ℕ → Subset → State → List Lent → List Cause
+session-causes p S s more =
+    opening-causes p (graph-of s) (lent-to-session s more)
+    ++ ill-formed (graph-of s) (s .session .made) (s .sequence)
+    ∷ not-inverse p (graph-of s) (unmatched S (pairs-of s)) (s .inverse)
     ∷ []
 
-unfoldable pub session-ruling : ℕ → Graph → Subset → ℕ → (inverse sequence : List ℕ) → List Lent → Ruling
+unfoldable pub soundness : ℕ → Subset → State → Ruling
 unfolding bad-cell bad-weight ill-formed not-inverse
-session-ruling p g S made inverse sequence more =
-    judge (session-causes p g S made inverse sequence (lent-to-session g inverse sequence more))
+soundness p S s = judge (session-causes p S s [])

@@ -1,7 +1,7 @@
 -- What an example says, and that a claim over a list of examples is proved by computing. Assumes nothing.
-use mathlib.Core.Path.{_≡_, refl, subst}
+use mathlib.Core.Path.{_≡_, refl, ap, subst}
 use mathlib.Core.List.{List, [], _∷_, _++_}
-use Prim.Native.Nat.{ℕ, _*_, _<_}
+use Prim.Native.Nat.{ℕ, _*_, _/_, _<_}
 use native.Mathlib.Decide.{decLt}
 use lib.ListN.{length, getD, take, replicate}
 use Rattle.lists.specs.Table.{vector}
@@ -10,15 +10,17 @@ use Rattle.skew.specs.Decide.{first-dependent?}
 use Rattle.matching.specs.Decision.{Refusal, every?, accepted, refused}
 use Rattle.matching.specs.Graph.{Graph, over, pair-count, tutte}
 use Rattle.matching.specs.Pairs.{Pair, everything, unmatched}
-use Rattle.matching.specs.Session.{Session, session, InverseTable, onto}
+use Rattle.matching.specs.Session.{Session, session, State, graph-of, with-pairs, InverseTable, onto}
 use Rattle.matching.specs.Decided.{inverse-table?, witness?}
+use Rattle.matching.specs.Causes.{soundness}
 use Rattle.matching.specs.Opening.{Opening, opened, singular, not-opened, Buffers, Singular, Opens, opens, refuses-opening, finds-singular, with-inverse, with-witness, ruling}
 use Rattle.matching.specs.Display.{Part, display}
-use Rattle.matching.specs.Model.{Call, automatic, Answer, denied, skew, Nonsingular, nonsingular?, run, PicksToCome}
-use Rattle.matching.specs.Calls.{State, soundness, model-step, Handles, unsound, refuses, row-ruling, open-row, ShowsRow, shows, refuses-row}
-use Rattle.matching.specs.Records.{Reading, sheet, unread, read, cells, graph, Read, graph-read, not-read, room, Fills, lacks-room, fills}
+use Rattle.matching.specs.Model.{Call, automatic, Answer, done, denied, skew, Nonsingular, nonsingular?, run, PicksToCome}
+use Rattle.matching.specs.Calls.{Returned, model-step, Handles, unsound, refuses, carries, Runs, none, more, row-ruling, open-row, ShowsRow, shows, row-refused}
+use Rattle.matching.specs.Records.{Reading, sheet, unread, ReadsAs, cells, graph, Read, graph-read, not-read, room, Fills, lacks-room, fills}
+use Rattle.matching.specs.Computed.{read}
 use Rattle.matching.specs.Listing.{input-limit, first-line, pair-lines, witness-lines, line-full, line-none, refused-line, Lists, refuses-sheet, pairs-up, shows-witness}
-use Rattle.matching.specs.Host.{opening-number, answer-number, words, bytes-of}
+use Rattle.matching.specs.Host.{opening-number, answer-number, words, bytes-of, unpacked-state, state-stored, HostHandles}
 
 -- n vertices with these edges and weights
 abbrev pub linked : ℕ → List Pair → List ℕ → Graph
@@ -26,6 +28,16 @@ linked n edges weights = over n (cells n edges) weights
 
 abbrev pub edge : ℕ → ℕ → Pair
 edge a b = record { smaller = a; larger = b }
+
+-- a session over a graph, with these buffers
+abbrev pub on : Graph → ℕ → (inverse sequence : List ℕ) → State
+on g made inverse sequence = record {
+  session = record { size = g .n; made = made };
+  adjacency = g .adjacency;
+  weights = g .weights;
+  inverse = inverse;
+  sequence = sequence;
+}
 
 -- every weight is 1
 abbrev pub ones : ℕ → List ℕ
@@ -57,21 +69,25 @@ pub data Claim : Type 0 where
   -- a graph that opens, and the inverse after the calls
   afterwards : Graph → List Call → List ℕ → Claim
   -- this session is sound, and the call on it is refused
-  by-hand : State → Graph → Call → Refusal → Claim
+  by-hand : State → Call → Refusal → Claim
   -- this session is not sound, and the call on it is refused
-  spoiled : State → Graph → Call → Refusal → Claim
+  spoiled : State → Call → Refusal → Claim
+  -- the call on this session is accepted with this pair, and hands back this state
+  handled : State → Call → Pair → State → Claim
+  -- the calls on this session, all of them sound, return these
+  ran : State → List Call → List Returned → Claim
   -- the open row of a vertex, and the row buffer before and after
-  row : State → Graph → ℕ → List ℕ → List ℕ → Claim
+  row : State → ℕ → List ℕ → List ℕ → Claim
   -- an open row that is refused
-  row-refused : State → Graph → ℕ → List ℕ → Refusal → Claim
+  no-row : State → ℕ → List ℕ → Refusal → Claim
   -- the part that is displayed
   displayed : ℕ → List ℕ → List ℕ → Part → Claim
   -- these bytes are read so
   reads : List ℕ → Reading → Claim
   -- reading these bytes into an adjacency table and weights gives this answer, and leaves these
   filling : List ℕ → List ℕ → List ℕ → Read → List ℕ → List ℕ → Claim
-  -- this input opens, is paired up in so many picks, and is listed so
-  lists : List ℕ → ℕ → List ℕ → Claim
+  -- this input opens, is paired up, and is listed so
+  lists : List ℕ → List ℕ → Claim
   -- this input has this witness, and is listed so
   lists-witness : List ℕ → ℕ → List ℕ → List ℕ → Claim
   -- this input is refused, and is listed so
@@ -82,6 +98,8 @@ pub data Claim : Type 0 where
   -- the words of a byte slice, and the bytes of words over a byte slice
   host-words : List ℕ → List ℕ → Claim
   host-bytes : List ℕ → List ℕ → List ℕ → Claim
+  -- a call through the host on a state of bytes is accepted with this pair: the words that it leaves, the number, and the bytes afterwards
+  host-handled : State → Call → Pair → State → ℕ → State → Claim
 
 -- buffers of just the length that is needed, full of something else
 abbrev pub before : ℕ → Buffers
@@ -92,10 +110,6 @@ before n =
 abbrev pub full : ℕ → List ℕ → List ℕ → Buffers
 full n inverse words =
     record { inverse = inverse; sequence = replicate n 255; witness = words; work = replicate (n * n) 0 }
-
--- the adjacency table and the weights of the graph are lent to a session
-abbrev sound : State → Graph → Type 0
-sound s g = soundness modulus-prime (g .adjacency) (g .weights) everything s [] ≡ accepted
 
 unfoldable pub Holds : Claim → Type 0
 Holds (opening g inverse) =
@@ -109,22 +123,23 @@ Holds (afterwards g calls inverse) =
     Nonsingular modulus-prime g everything []
     × (length inverse ≡ g .n * g .n)
     × InverseTable modulus g (unmatched everything (run modulus-prime g everything [] calls .pairs)) inverse
-Holds (by-hand s g c r) = sound s g × Handles modulus-prime (g .adjacency) (g .weights) everything s c (denied r) s
-Holds (spoiled s g c r) =
-    (soundness modulus-prime (g .adjacency) (g .weights) everything s [] ≡ refused r)
-    × Handles modulus-prime (g .adjacency) (g .weights) everything s c (denied r) s
-Holds (row s g a old new) = ShowsRow modulus-prime (g .adjacency) (g .weights) everything s a old accepted (s .session) new
-Holds (row-refused s g a old r) = ShowsRow modulus-prime (g .adjacency) (g .weights) everything s a old (refused r) (s .session) old
+Holds (by-hand s c r) = (soundness modulus everything s ≡ accepted) × Handles modulus-prime everything s c (denied r) s
+Holds (spoiled s c r) = (soundness modulus everything s ≡ refused r) × Handles modulus-prime everything s c (denied r) s
+Holds (handled s c e t) = Handles modulus-prime everything s c (done e) t
+Holds (ran s calls returned) = Runs modulus-prime everything s calls returned
+Holds (row s a old new) = ShowsRow modulus-prime everything s a old accepted s new
+Holds (no-row s a old r) = ShowsRow modulus-prime everything s a old (refused r) s old
 Holds (displayed n inverse words part) = display n inverse words ≡ part
-Holds (reads bytes r) = read bytes ≡ r
-Holds (filling bytes adjacency weights o adjacency′ weights′) = Fills (read bytes) adjacency weights o adjacency′ weights′
-Holds (lists input m text) = Lists input text
+Holds (reads bytes r) = ReadsAs bytes r
+Holds (filling bytes adjacency weights o adjacency′ weights′) = Fills bytes adjacency weights o adjacency′ weights′
+Holds (lists input text) = Lists input text
 Holds (lists-witness input f words text) = Lists input text
 Holds (lists-refusal input r text) = Lists input text
 Holds (host-opening o k) = opening-number o ≡ k
 Holds (host-answer a s k) = answer-number a s ≡ k
 Holds (host-words bytes ws) = words bytes ≡ ws
 Holds (host-bytes ws old new) = onto (bytes-of ws) old ≡ new
+Holds (host-handled s c e left k after) = HostHandles modulus-prime everything s c k after
 
 -- every claim of a list
 abbrev pub All : (Claim → Type 0) → List Claim → Type 0
@@ -155,19 +170,68 @@ shown-singular g f words e = record {
   kernel = decided (witness? modulus (g .n) (tutte g modulus) everything f (vector words)) (e .2);
 }
 
-unfoldable pub ShownListed : Reading → ℕ → List ℕ → Type 0
-ShownListed (unread r) m text = ⊥
-ShownListed (sheet n weights edges) m text =
-    IsYes (nonsingular? modulus-prime (graph n weights edges) everything [])
-    × PicksToCome modulus-prime (graph n weights edges) everything [] m
-    × (first-line n (length edges) ++ pair-lines (run modulus-prime (graph n weights edges) everything [] (replicate m automatic) .pairs) ++ line-full ≡ text)
+-- an accepted call: the first words of the state handed back are the inverse
+unfoldable pub ShownHandled : State → Call → Pair → State → Type 0
+ShownHandled s c e t =
+    let size = s .session .size in
+    let pairs = model-step modulus-prime everything s c .pairs in
+    let inverse = take (size * size) (t .inverse) in
+    (soundness modulus everything s ≡ accepted)
+    × (model-step modulus-prime everything s c .answer ≡ done e)
+    × (length inverse ≡ size * size)
+    × IsYes (inverse-table? modulus (graph-of s) (unmatched everything pairs) inverse)
+    × (with-pairs pairs inverse s ≡ t)
 
-listed : (input : List ℕ) (m : ℕ) (text : List ℕ) (r : Reading) → read (take input-limit input) ≡ r → ShownListed r m text → Lists input text
+shown-handled : (s : State) (c : Call) (e : Pair) (t : State) → ShownHandled s c e t → Handles modulus-prime everything s c (done e) t
+unfolding ShownHandled
+shown-handled s c e t h =
+    subst (λ (u : State). Handles modulus-prime everything s c (done e) u) (h .4)
+    (carries e (model-step modulus-prime everything s c .pairs) _ (h .0) (ap (λ a. record { answer = a; pairs = model-step modulus-prime everything s c .pairs }) (h .1)) (h .2) (decided (inverse-table? modulus (graph-of s) _ _) (h .3)))
+
+unfoldable pub ShownReturned : State → Call → Answer → State → Type 0
+ShownReturned s c (done e) t = ShownHandled s c e t
+ShownReturned s c (denied r) t =
+    (soundness modulus everything s ≡ accepted) × (model-step modulus-prime everything s c .answer ≡ denied r) × (s ≡ t)
+
+shown-returned : (s : State) (c : Call) (a : Answer) (t : State) → ShownReturned s c a t → Handles modulus-prime everything s c a t
+unfolding ShownReturned
+shown-returned s c (done e) t h = shown-handled s c e t h
+shown-returned s c (denied r) t h =
+    subst (λ (u : State). Handles modulus-prime everything s c (denied r) u) (h .2) (refuses r (h .0) (h .1))
+
+unfoldable pub ShownRun : State → List Call → List Returned → Type 0
+unfolding ShownReturned
+ShownRun s [] [] = Unit {0}
+ShownRun s [] (r ∷ later) = ⊥
+ShownRun s (c ∷ calls) [] = ⊥
+ShownRun s (c ∷ calls) (r ∷ later) = ShownReturned s c (r .answer) (r .state) × ShownRun (r .state) calls later
+
+shown-run : (s : State) (calls : List Call) (returned : List Returned) → ShownRun s calls returned → Runs modulus-prime everything s calls returned
+unfolding ShownRun
+shown-run s [] [] h = none
+shown-run s [] (r ∷ later) h = absurd h
+shown-run s (c ∷ calls) [] h = absurd h
+shown-run s (c ∷ calls) (r ∷ later) h =
+    more (shown-returned s c (r .answer) (r .state) (h .0)) (shown-run (r .state) calls later (h .1))
+
+-- what is computed of the bytes is what they are read as
+shown-read : (bytes : List ℕ) {r : Reading} → read bytes .reading ≡ r → ReadsAs bytes r
+shown-read bytes e = subst (λ (q : Reading). ReadsAs bytes q) e (read bytes .reads)
+
+-- automatic picks to the end are half of the vertices
+unfoldable pub ShownListed : Reading → List ℕ → Type 0
+ShownListed (unread r) text = ⊥
+ShownListed (sheet n weights edges) text =
+    IsYes (nonsingular? modulus-prime (graph n weights edges) everything [])
+    × PicksToCome modulus-prime (graph n weights edges) everything [] (n / 2)
+    × (first-line n (length edges) ++ pair-lines (run modulus-prime (graph n weights edges) everything [] (replicate (n / 2) automatic) .pairs) ++ line-full ≡ text)
+
+listed : (input text : List ℕ) (r : Reading) → read (take input-limit input) .reading ≡ r → ShownListed r text → Lists input text
 unfolding ShownListed
-listed input m text (unread r) q e = absurd e
-listed input m text (sheet n weights edges) q e =
+listed input text (unread r) q e = absurd e
+listed input text (sheet n weights edges) q e =
     subst (λ (t : List ℕ). Lists input t) (e .2)
-    (pairs-up n weights edges m q (decided (nonsingular? modulus-prime (graph n weights edges) everything []) (e .0)) (e .1))
+    (pairs-up (shown-read (take input-limit input) q) (decided (nonsingular? modulus-prime (graph n weights edges) everything []) (e .0)) (e .1))
 
 unfoldable pub ShownWitness : Reading → ℕ → List ℕ → List ℕ → Type 0
 ShownWitness (unread r) f words text = ⊥
@@ -176,13 +240,13 @@ ShownWitness (sheet n weights edges) f words text =
     × ShownSingular (graph n weights edges) f words
     × (first-line n (length edges) ++ witness-lines 0 words ++ line-none ≡ text)
 
-listed-witness : (input : List ℕ) (f : ℕ) (words text : List ℕ) (r : Reading) → read (take input-limit input) ≡ r → ShownWitness r f words text
+listed-witness : (input : List ℕ) (f : ℕ) (words text : List ℕ) (r : Reading) → read (take input-limit input) .reading ≡ r → ShownWitness r f words text
     → Lists input text
 unfolding ShownWitness
 listed-witness input f words text (unread r) q e = absurd e
 listed-witness input f words text (sheet n weights edges) q e =
     subst (λ (t : List ℕ). Lists input t) (e .2)
-    (shows-witness n weights edges f words q (e .0) (shown-singular (graph n weights edges) f words (e .1)))
+    (shows-witness (shown-read (take input-limit input) q) (e .0) (shown-singular (graph n weights edges) f words (e .1)))
 
 unfoldable pub ShownFilling : Reading → List ℕ → List ℕ → Read → List ℕ → List ℕ → Type 0
 ShownFilling (unread r) adjacency weights o adjacency′ weights′ = ⊥
@@ -194,14 +258,14 @@ ShownFilling (sheet n drawn edges) adjacency weights (graph-read m k) adjacency�
     × (onto (cells n edges) adjacency ≡ adjacency′)
     × (onto drawn weights ≡ weights′)
 
-filled : (r : Reading) (adjacency weights : List ℕ) (o : Read) (adjacency′ weights′ : List ℕ) → ShownFilling r adjacency weights o adjacency′ weights′
-    → Fills r adjacency weights o adjacency′ weights′
+filled : (bytes adjacency weights : List ℕ) (o : Read) (adjacency′ weights′ : List ℕ) (r : Reading) → read bytes .reading ≡ r
+    → ShownFilling r adjacency weights o adjacency′ weights′ → Fills bytes adjacency weights o adjacency′ weights′
 unfolding ShownFilling
-filled (unread r) adjacency weights o adjacency′ weights′ e = absurd e
-filled (sheet n drawn edges) adjacency weights (not-read r) adjacency′ weights′ e =
-    rw (← e .1, ← e .2) (lacks-room n drawn edges r refl (e .0))
-filled (sheet n drawn edges) adjacency weights (graph-read m k) adjacency′ weights′ e =
-    rw (← e .1, ← e .2, ← e .3) (fills n drawn edges refl (e .0))
+filled bytes adjacency weights o adjacency′ weights′ (unread r) q e = absurd e
+filled bytes adjacency weights (not-read r) adjacency′ weights′ (sheet n drawn edges) q e =
+    rw (← e .1, ← e .2) (lacks-room (shown-read bytes q) (e .0))
+filled bytes adjacency weights (graph-read m k) adjacency′ weights′ (sheet n drawn edges) q e =
+    rw (← e .1, ← e .2, ← e .3) (fills (shown-read bytes q) (e .0))
 
 unfoldable pub Shown : Claim → Type 0
 Shown (opening g inverse) =
@@ -222,22 +286,25 @@ Shown (afterwards g calls inverse) =
     IsYes (nonsingular? modulus-prime g everything [])
     × (length inverse ≡ g .n * g .n)
     × IsYes (inverse-table? modulus g (unmatched everything (run modulus-prime g everything [] calls .pairs)) inverse)
-Shown (by-hand s g c r) = sound s g × (model-step modulus-prime (g .adjacency) (g .weights) everything s c .answer ≡ denied r)
-Shown (spoiled s g c r) = soundness modulus-prime (g .adjacency) (g .weights) everything s [] ≡ refused r
-Shown (row s g a old new) =
-    (row-ruling modulus-prime (g .adjacency) (g .weights) everything s a old ≡ accepted)
-    × (onto (open-row modulus-prime (g .adjacency) (g .weights) everything s a) old ≡ new)
-Shown (row-refused s g a old r) = row-ruling modulus-prime (g .adjacency) (g .weights) everything s a old ≡ refused r
+Shown (by-hand s c r) = (soundness modulus everything s ≡ accepted) × (model-step modulus-prime everything s c .answer ≡ denied r)
+Shown (spoiled s c r) = soundness modulus everything s ≡ refused r
+Shown (handled s c e t) = ShownHandled s c e t
+Shown (ran s calls returned) = ShownRun s calls returned
+Shown (row s a old new) =
+    (row-ruling modulus-prime everything s a old ≡ accepted) × (onto (open-row modulus-prime everything s a) old ≡ new)
+Shown (no-row s a old r) = row-ruling modulus-prime everything s a old ≡ refused r
 Shown (displayed n inverse words part) = display n inverse words ≡ part
-Shown (reads bytes r) = read bytes ≡ r
-Shown (filling bytes adjacency weights o adjacency′ weights′) = ShownFilling (read bytes) adjacency weights o adjacency′ weights′
-Shown (lists input m text) = ShownListed (read (take input-limit input)) m text
-Shown (lists-witness input f words text) = ShownWitness (read (take input-limit input)) f words text
-Shown (lists-refusal input r text) = (read (take input-limit input) ≡ unread r) × (refused-line r ≡ text)
+Shown (reads bytes r) = read bytes .reading ≡ r
+Shown (filling bytes adjacency weights o adjacency′ weights′) = ShownFilling (read bytes .reading) adjacency weights o adjacency′ weights′
+Shown (lists input text) = ShownListed (read (take input-limit input) .reading) text
+Shown (lists-witness input f words text) = ShownWitness (read (take input-limit input) .reading) f words text
+Shown (lists-refusal input r text) = (read (take input-limit input) .reading ≡ unread r) × (refused-line r ≡ text)
 Shown (host-opening o k) = opening-number o ≡ k
 Shown (host-answer a s k) = answer-number a s ≡ k
 Shown (host-words bytes ws) = words bytes ≡ ws
 Shown (host-bytes ws old new) = onto (bytes-of ws) old ≡ new
+Shown (host-handled s c e left k after) =
+    ShownHandled (unpacked-state s) c e left × (k ≡ answer-number (done e) (left .session)) × (after ≡ state-stored (done e) left s)
 
 enough : (c : Claim) → Shown c → Holds c
 unfolding Shown Holds
@@ -252,24 +319,26 @@ enough (model g calls given) e = e
 enough (answers g calls given) e = (decided (nonsingular? modulus-prime g everything []) (e .0), e .1)
 enough (afterwards g calls inverse) e =
     (decided (nonsingular? modulus-prime g everything []) (e .0), e .1, decided (inverse-table? modulus g _ inverse) (e .2))
-enough (by-hand s g c r) e = (e .0, refuses r (e .0) (e .1))
-enough (spoiled s g c r) e = (e, unsound r e)
-enough (row s g a old new) e =
-    subst
-    (λ (after : List ℕ).
-    ShowsRow modulus-prime (g .adjacency) (g .weights) everything s a old accepted (s .session) after)
-    (e .1) (shows (e .0))
-enough (row-refused s g a old r) e = refuses-row r e
+enough (by-hand s c r) e = (e .0, refuses r (e .0) (e .1))
+enough (spoiled s c r) e = (e, unsound r e)
+enough (handled s c x t) e = shown-handled s c x t e
+enough (ran s calls returned) e = shown-run s calls returned e
+enough (row s a old new) e =
+    subst (λ (after : List ℕ). ShowsRow modulus-prime everything s a old accepted s after) (e .1) (shows (e .0))
+enough (no-row s a old r) e = row-refused r e
 enough (displayed n inverse words part) e = e
-enough (reads bytes r) e = e
-enough (filling bytes adjacency weights o adjacency′ weights′) e = filled (read bytes) adjacency weights o adjacency′ weights′ e
-enough (lists input m text) e = listed input m text (read (take input-limit input)) refl e
-enough (lists-witness input f words text) e = listed-witness input f words text (read (take input-limit input)) refl e
-enough (lists-refusal input r text) e = subst (λ (t : List ℕ). Lists input t) (e .1) (refuses-sheet r (e .0))
+enough (reads bytes r) e = shown-read bytes e
+enough (filling bytes adjacency weights o adjacency′ weights′) e = filled bytes adjacency weights o adjacency′ weights′ (read bytes .reading) refl e
+enough (lists input text) e = listed input text (read (take input-limit input) .reading) refl e
+enough (lists-witness input f words text) e = listed-witness input f words text (read (take input-limit input) .reading) refl e
+enough (lists-refusal input r text) e =
+    subst (λ (t : List ℕ). Lists input t) (e .1) (refuses-sheet (shown-read (take input-limit input) (e .0)))
 enough (host-opening o k) e = e
 enough (host-answer a s k) e = e
 enough (host-words bytes ws) e = e
 enough (host-bytes ws old new) e = e
+enough (host-handled s c x left k after) e =
+    record { given = done x; left = left; outcome = shown-handled (unpacked-state s) c x left (e .0); numbered = e .1; stored = e .2 }
 
 pub all : (claims : List Claim) → All Shown claims → All Holds claims
 all [] _ = tt

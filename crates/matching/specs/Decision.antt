@@ -52,6 +52,12 @@ pub data First (n : ℕ) (P : ℕ → Type 0) : Type 0 where
   nowhere : Every n (λ k. ¬ P k) → First n P
   first-at : (x : ℕ) → x < n → P x → Every x (λ k. ¬ P k) → First n P
 
+-- x is the lowest number below n with the property
+pub record Lowest (n : ℕ) (P : ℕ → Type 0) (x : ℕ) : Type 0 where
+  pub below : x < n
+  pub holds : P x
+  pub none-before : Every x (λ k. ¬ P k)
+
 unfoldable pub first? : (P : ℕ → Type 0) (n : ℕ) → ((k : ℕ) → Dec (P k)) → First n P
 unfolding one-more
 first? P zero d = nowhere (λ k l. absurd (omega arith))
@@ -103,11 +109,6 @@ pub record Cause : Type 0 where
 abbrev pub judge : List Cause → Ruling
 judge [] = accepted
 judge (c ∷ later) = unless (c .finding) (c .number) (judge later)
-
--- the later causes where none of the earlier applies
-abbrev pub then : Ruling → Ruling → Ruling
-then accepted v = v
-then (refused r) v = refused r
 
 abbrev pub Accepted : Ruling → Type 0
 Accepted accepted = Unit {0}

@@ -1,17 +1,18 @@
 -- What crosses to the host: words as bytes, and the one 64-bit number that each call returns (document 01, "For the host";
 -- docs/HOST.md says it in words). Assumes nothing.
-use mathlib.Core.Path.{_≡_, _∙_}
+use mathlib.Core.Path.{_≡_}
 use mathlib.Core.Logic.{_↔_}
 use mathlib.Core.List.{List, [], _∷_}
-use Prim.Native.Nat.{ℕ, _+_, _*_, _/_, _%_, _^_, _<_}
-use native.Mathlib.Nat.{add-mul-mod-self-left, mod-eq-of-lt}
+use Prim.Native.Nat.{ℕ, _+_, _*_, _/_, _%_, _^_}
+use Rattle.modular.specs.Prime.{OddPrime}
 use Rattle.skew.specs.Subset.{Subset}
 use Rattle.skew.specs.Inverse.{Invertible}
-use Rattle.matching.specs.Decision.{Refusal, accepted}
+use Rattle.matching.specs.Decision.{Refusal, Ruling, accepted, refused}
 use Rattle.matching.specs.Graph.{over, tutte}
-use Rattle.matching.specs.Session.{Session, session, onto}
-use Rattle.matching.specs.Model.{Answer, done, denied}
+use Rattle.matching.specs.Session.{Session, session, State, onto}
+use Rattle.matching.specs.Model.{Call, Answer, done, denied}
 use Rattle.matching.specs.Opening.{Opening, opened, singular, not-opened, Buffers, ruling, Opens}
+use Rattle.matching.specs.Calls.{Handles, ShowsRow}
 
 -- the words of a byte slice, low byte first; an odd last byte is none
 unfoldable pub words : List ℕ → List ℕ
@@ -24,29 +25,29 @@ unfoldable pub bytes-of : List ℕ → List ℕ
 bytes-of [] = []
 bytes-of (w ∷ rest) = w % 256 ∷ w / 256 % 256 ∷ bytes-of rest
 
--- bits 0 to 7: the cause, 0 when none; 8 to 15: the kind of answer; 16 to 23 and 24 to 31: two values; 32 to 39: the pairs made
-abbrev pub number : ℕ → ℕ → ℕ → ℕ → ℕ → ℕ
-number cause kind first second made = cause + 2 ^ 8 * (kind + 2 ^ 8 * (first + 2 ^ 8 * (second + 2 ^ 8 * made)))
+-- the one number of a call. Bits 0 to 7: the cause, 0 when none; 8 to 15: the kind of answer; 16 to 31: a value; from 32 on: the pairs made
+abbrev pub number : (cause kind value made : ℕ) → ℕ
+number cause kind value made = cause + 2 ^ 8 * kind + 2 ^ 16 * value + 2 ^ 32 * made
 
--- a refusal: its place in bits 16 to 31
+-- a refusal, with its place
 abbrev pub refusal-number : Refusal → ℕ
-refusal-number r = number (r .cause) 0 (r .place) 0 0
+refusal-number r = number (r .cause) 0 (r .place) 0
 
--- kind 1: opened, with the session's pairs; kind 2: the first dependent column
+-- kind 1: opened, with the session's pairs; kind 2: singular, with the first dependent column
 abbrev pub opening-number : Opening → ℕ
-opening-number (opened s) = number 0 1 0 0 (s .made)
-opening-number (singular f) = number 0 2 f 0 0
+opening-number (opened s) = number 0 1 0 (s .made)
+opening-number (singular f) = number 0 2 f 0
 opening-number (not-opened r) = refusal-number r
 
--- kind 3: a pair appended or removed, the smaller vertex first, with the session's pairs
+-- kind 3: a pair appended or removed, the smaller vertex in the low byte of the value, with the pairs of the session handed back
 abbrev pub answer-number : Answer → Session → ℕ
-answer-number (done e) s = number 0 3 (e .smaller) (e .larger) (s .made)
+answer-number (done e) s = number 0 3 (e .smaller + 2 ^ 8 * e .larger) (s .made)
 answer-number (denied r) s = refusal-number r
 
--- the low byte is the cause
-pub low-byte : (cause kind first second made : ℕ) → cause < 256 → number cause kind first second made % 256 ≡ cause
-low-byte cause kind first second made h =
-    add-mul-mod-self-left cause 256 (kind + 256 * (first + 256 * (second + 256 * made))) ∙ mod-eq-of-lt h
+-- kind 4: a row written
+abbrev pub row-number : Ruling → Session → ℕ
+row-number accepted s = number 0 4 0 (s .made)
+row-number (refused r) s = refusal-number r
 
 -- the host's bytes read as words; the sequence is bytes already
 abbrev pub unpacked : Buffers → Buffers
@@ -80,3 +81,40 @@ abbrev pub HostOpenedExactly : ℕ → ℕ → (adjacency weights : List ℕ) �
 HostOpenedExactly p n adjacency weights S b answer =
     ruling p (over n adjacency (words weights)) (unpacked b) ≡ accepted
     → ((answer ≡ opening-number (opened (session n []))) ↔ Invertible p n (tutte (over n adjacency (words weights)) p) S)
+
+-- a session's state whose weights and inverse are the host's bytes, read as words
+abbrev pub unpacked-state : State → State
+unpacked-state s = record {
+  session = s .session;
+  adjacency = s .adjacency;
+  weights = words (s .weights);
+  inverse = words (s .inverse);
+  sequence = s .sequence;
+}
+
+-- the state left, stored over the host's bytes; the weights are not written. On a refusal all is as it came
+abbrev pub state-stored : Answer → State → State → State
+state-stored (done e) left s = record {
+  session = left .session;
+  adjacency = left .adjacency;
+  weights = s .weights;
+  inverse = onto (bytes-of (left .inverse)) (s .inverse);
+  sequence = left .sequence;
+}
+state-stored (denied r) left s = s
+
+module _ {p : ℕ} (P : OddPrime p) (S : Subset) where
+  -- hand pick, automatic pick and take-back through the host: the number, and the session and every byte afterwards
+  pub record HostHandles (s : State) (c : Call) (answer : ℕ) (after : State) : Type 0 where
+    pub given : Answer
+    pub left : State
+    pub outcome : Handles P S (unpacked-state s) c given left
+    pub numbered : answer ≡ answer-number given (left .session)
+    pub stored : after ≡ state-stored given left s
+
+  -- open row through the host: the number, the state, which is as it came, and the row's bytes afterwards
+  pub record HostShowsRow (s : State) (a : ℕ) (row : List ℕ) (answer : ℕ) (after : State) (row′ : List ℕ) : Type 0 where
+    pub verdict : Ruling
+    pub outcome : ShowsRow P S (unpacked-state s) a row verdict (unpacked-state s) row′
+    pub numbered : answer ≡ row-number verdict (s .session)
+    pub same : after ≡ s

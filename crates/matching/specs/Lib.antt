@@ -7,6 +7,7 @@ pub mod Opening
 pub mod Display
 pub mod Model
 pub mod Calls
+pub mod Demand
 pub mod Records
 pub mod Causes
 pub mod Listing
@@ -14,6 +15,7 @@ pub mod Host
 -- Decisions that the definitions go by.
 pub mod Decision
 pub mod Decided
+pub mod Computed
 -- Examples.
 pub mod Claims
 pub mod Marked

@@ -10,7 +10,7 @@ use Rattle.matching.specs.Decision.{Refusal}
 use Rattle.matching.specs.Pairs.{Pair, Pairs, everything}
 use Rattle.matching.specs.Model.{automatic, Nonsingular, run, PicksToCome}
 use Rattle.matching.specs.Opening.{Singular}
-use Rattle.matching.specs.Records.{sheet, unread, read, graph}
+use Rattle.matching.specs.Records.{sheet, unread, ReadsAs, graph}
 
 -- the most bytes that the program reads
 abbrev pub input-limit : ℕ
@@ -94,12 +94,12 @@ refused-line r = text-refused ++ decimal (r .cause) ++ text-at ++ decimal (r .pl
 
 -- what is printed for an input: the refusal, or automatic picks to the end, or the witness
 pub data Lists (input : List ℕ) : List ℕ → Type 0 where
-  refuses-sheet : (r : Refusal) → read (take input-limit input) ≡ unread r → Lists input (refused-line r)
-  pairs-up : (n : ℕ) (weights : List ℕ) (edges : List Pair) (m : ℕ) → read (take input-limit input) ≡ sheet n weights edges
+  refuses-sheet : {r : Refusal} → ReadsAs (take input-limit input) (unread r) → Lists input (refused-line r)
+  pairs-up : {n m : ℕ} {weights : List ℕ} {edges : List Pair} → ReadsAs (take input-limit input) (sheet n weights edges)
       → Nonsingular modulus-prime (graph n weights edges) everything []
       → PicksToCome modulus-prime (graph n weights edges) everything [] m
       → Lists input
       (first-line n (length edges) ++ pair-lines (run modulus-prime (graph n weights edges) everything [] (replicate m automatic) .pairs) ++ line-full)
-  shows-witness : (n : ℕ) (weights : List ℕ) (edges : List Pair) (f : ℕ) (words : List ℕ) → read (take input-limit input) ≡ sheet n weights edges
+  shows-witness : {n f : ℕ} {weights words : List ℕ} {edges : List Pair} → ReadsAs (take input-limit input) (sheet n weights edges)
       → length words ≡ n → Singular modulus (graph n weights edges) everything f words
       → Lists input (first-line n (length edges) ++ witness-lines 0 words ++ line-none)

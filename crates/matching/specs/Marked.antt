@@ -8,13 +8,14 @@ use Rattle.matching.specs.Decision.{because, every?, first?}
 use Rattle.matching.specs.Graph.{tutte}
 use Rattle.matching.specs.Pairs.{unmatched, pairs-on}
 use Rattle.matching.specs.Decided.{inverse-table?, witness?}
-use Rattle.matching.specs.Causes.{opening-ruling, session-ruling}
+use Rattle.matching.specs.Causes.{opening-ruling, soundness}
 use Rattle.matching.specs.Display.{display}
 use Rattle.matching.specs.Model.{pick, automatic, undo, done, denied, nonsingular?, step, run}
 use Rattle.matching.specs.Calls.{row-ruling, open-row}
-use Rattle.matching.specs.Records.{read, cells, graph}
+use Rattle.matching.specs.Records.{cells, graph}
+use Rattle.matching.specs.Computed.{read}
 use Rattle.matching.specs.Listing.{digits, pair-lines, witness-lines}
-use Rattle.matching.specs.Claims.{linked, edge, ones, path, complete, ring, Claim, opening, witness, answers, afterwards, by-hand, Holds, All, ShownSingular, ShownListed, ShownWitness, Shown, all}
+use Rattle.matching.specs.Claims.{linked, on, edge, ones, path, complete, ring, Claim, opening, witness, answers, afterwards, by-hand, Holds, All, ShownSingular, ShownListed, ShownWitness, Shown, all}
 
 pub marked : List Claim
 marked =
@@ -30,9 +31,9 @@ marked =
     ∷ afterwards complete (pick 0 1 ∷ []) (0 ∷ 0 ∷ 0 ∷ 0 ∷ 0 ∷ 0 ∷ 0 ∷ 0 ∷ 0 ∷ 0 ∷ 0 ∷ 65520 ∷ 0 ∷ 0 ∷ 1 ∷ 0 ∷ [])
     ∷ answers path (pick 0 1 ∷ pick 2 3 ∷ automatic ∷ pick 0 1 ∷ []) (denied (because 10 0) ∷ denied (because 9 0) ∷ done (edge 0 2) ∷ denied (because 8 0) ∷ [])
     ∷ witness ring 2 (65520 ∷ 0 ∷ 1 ∷ 0 ∷ [])
-    ∷ by-hand (record { session = record { size = 4; made = 1 }; inverse = 0 ∷ 0 ∷ 0 ∷ 0 ∷ 0 ∷ 0 ∷ 0 ∷ 0 ∷ 0 ∷ 0 ∷ 0 ∷ 65520 ∷ 0 ∷ 0 ∷ 1 ∷ 0 ∷ []; sequence = 0 ∷ 1 ∷ 255 ∷ 255 ∷ [] }) ring undo (because 10 0)
+    ∷ by-hand (on ring 1 (0 ∷ 0 ∷ 0 ∷ 0 ∷ 0 ∷ 0 ∷ 0 ∷ 0 ∷ 0 ∷ 0 ∷ 0 ∷ 65520 ∷ 0 ∷ 0 ∷ 1 ∷ 0 ∷ []) (0 ∷ 1 ∷ 255 ∷ 255 ∷ [])) undo (because 10 0)
     ∷ []
 
 pub marked-hold : All Holds marked
-unfolding marked Shown ShownSingular ShownListed ShownWitness modulus-prime run step nonsingular? inverse-table? witness? first-dependent? first? every? tutte opening-ruling session-ruling row-ruling open-row display cells unmatched pairs-on decLt read digits pair-lines witness-lines graph
+unfolding marked Shown ShownSingular ShownListed ShownWitness modulus-prime run step nonsingular? inverse-table? witness? first-dependent? first? every? tutte opening-ruling soundness row-ruling open-row display cells unmatched pairs-on decLt read digits pair-lines witness-lines graph
 marked-hold = all marked ((refl, refl, refl, tt), ((tt, refl), ((refl, refl, refl, (tt, tt, tt)), ((refl, refl, refl, (tt, tt, tt)), ((refl, refl, refl, tt), ((refl, refl, refl, (tt, tt, tt)), ((refl, refl, refl, (tt, tt, tt)), ((refl, refl, refl, tt), ((tt, refl), ((tt, refl, tt), ((tt, refl), ((refl, refl, refl, (tt, tt, tt)), ((refl, refl), tt)))))))))))))

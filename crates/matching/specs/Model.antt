@@ -2,14 +2,14 @@
 use mathlib.Core.Path.{_≡_}
 use mathlib.Core.Logic.{_≢_}
 use mathlib.Core.List.{List, [], _∷_}
-use Prim.Native.Nat.{ℕ, suc, _<_}
+use Prim.Native.Nat.{ℕ, zero, suc, _<_}
 use native.Mathlib.Omega.{arith}
 use native.Mathlib.Decide.{ℕ-discrete, decLt}
 use Rattle.modular.specs.Prime.{OddPrime}
 use Rattle.skew.specs.Subset.{Subset, _∈_}
 use Rattle.skew.specs.Inverse.{Skew, Invertible}
 use Rattle.skew.specs.Decide.{invertible?}
-use Rattle.matching.specs.Decision.{Refusal, because, both?, not?, First, nowhere, first-at, first?, when, Cause, Ruling, accepted, refused, judge, Accepted, accepted?}
+use Rattle.matching.specs.Decision.{Refusal, because, both?, not?, First, nowhere, first-at, first?, when, Cause, Ruling, accepted, refused, judge, Accepted, accepted?, Every, Lowest}
 use Rattle.matching.specs.Graph.{Graph, cell, tutte, tutte-skew}
 use Rattle.matching.specs.Pairs.{Pair, pair-of, Pairs, unmatched, in?}
 
@@ -82,13 +82,38 @@ module _ {p : ℕ} (P : OddPrime p) (g : Graph) (S : Subset) where
       ∷ needs 10 (nonsingular? (pair-of a b ∷ pairs))
       ∷ [])
 
+  -- demand 2, second half: a hand pick is accepted exactly where the two are different vertices, unmatched (loose) and adjacent (may
+  -- share), and leave a matrix with an inverse (laws, Facts)
+  pub record Allowed (pairs : Pairs) (a b : ℕ) : Type 0 where
+    pub named : Named (g .n) a b
+    pub a-left : a ∈ unmatched S pairs
+    pub b-left : b ∈ unmatched S pairs
+    pub adjacent : Adjacent g (pair-of a b)
+    pub nonsingular : Nonsingular (pair-of a b ∷ pairs)
+
+  -- r is an open partner of a
+  abbrev pub OpenPartner : Pairs → ℕ → ℕ → Type 0
+  OpenPartner pairs a r = Accepted (pick-ruling pairs a r)
+
+  -- the rules, one for each case: with these pairs the call is answered so, and leaves those
+  pub data Rule (pairs : Pairs) : Call → Answer → Pairs → Type 0 where
+    picks : {a b : ℕ} → pick-ruling pairs a b ≡ accepted → Rule pairs (pick a b) (done (pair-of a b)) (pair-of a b ∷ pairs)
+    pick-refused : {a b : ℕ} {r : Refusal} → pick-ruling pairs a b ≡ refused r → Rule pairs (pick a b) (denied r) pairs
+    picks-lowest : {c r : ℕ} → Lowest (g .n) (λ k. k ∈ unmatched S pairs) c → Lowest (g .n) (OpenPartner pairs c) r
+        → Rule pairs automatic (done (pair-of c r)) (pair-of c r ∷ pairs)
+    none-left : Every (g .n) (λ k. ¬ (k ∈ unmatched S pairs)) → Rule pairs automatic (denied (because 11 0)) pairs
+    no-pair : pairs ≡ [] → Rule pairs undo (denied (because 11 0)) pairs
+    undo-refused : {e : Pair} {earlier : Pairs} → pairs ≡ e ∷ earlier → ¬ Nonsingular earlier → Rule pairs undo (denied (because 10 0)) pairs
+    undoes : {e : Pair} {earlier : Pairs} → pairs ≡ e ∷ earlier → Nonsingular earlier → Rule pairs undo (done e) earlier
+
+  -- the same computed; wherever the vertices left have an inverse, `step` follows the rules, and they leave no choice (laws, Rules)
   -- the pair is appended where no cause applies
   abbrev pub append : Pairs → Pair → Ruling → Step
   append pairs e accepted = record { answer = done e; pairs = e ∷ pairs }
   append pairs e (refused r) = record { answer = denied r; pairs = pairs }
 
-  -- c with the lowest r whose hand pick with c is accepted. There is one wherever the vertices left have an inverse (laws, Facts,
-  -- automatic-cases), so the second case is never met
+  -- c with the lowest r whose hand pick with c is accepted. There is one wherever the vertices left have an inverse, so the second case is
+  -- then not met
   abbrev pub with-lowest : (pairs : Pairs) (c : ℕ) → First (g .n) (λ r. Accepted (pick-ruling pairs c r)) → Step
   with-lowest pairs c (first-at r _ _ _) = record { answer = done (pair-of c r); pairs = pair-of c r ∷ pairs }
   with-lowest pairs c (nowhere _) = record { answer = denied (because 11 0); pairs = pairs }
@@ -110,6 +135,13 @@ module _ {p : ℕ} (P : OddPrime p) (g : Graph) (S : Subset) where
   step [] undo = record { answer = denied (because 11 0); pairs = [] }
   step (e ∷ earlier) undo = remove-last e earlier (nonsingular? earlier)
 
+  -- the pairs after the first k of these calls
+  unfoldable pub pairs-after : Pairs → List Call → ℕ → Pairs
+  unfolding step
+  pairs-after pairs calls zero = pairs
+  pairs-after pairs [] (suc k) = pairs
+  pairs-after pairs (c ∷ calls) (suc k) = pairs-after (step pairs c .pairs) calls k
+
   -- one call after the other
   unfoldable pub run : Pairs → List Call → Run
   unfolding step
@@ -118,10 +150,6 @@ module _ {p : ℕ} (P : OddPrime p) (g : Graph) (S : Subset) where
       let s = step pairs c in
       let r = run (s .pairs) calls in
       record { answers = s .answer ∷ r .answers; pairs = r .pairs }
-
-  -- r is an open partner of a
-  abbrev pub OpenPartner : Pairs → ℕ → ℕ → Type 0
-  OpenPartner pairs a r = Accepted (pick-ruling pairs a r)
 
   -- so many automatic picks in a row are accepted before one is refused (picks to come)
   pub data PicksToCome : Pairs → ℕ → Type 0 where

@@ -2,8 +2,8 @@
 -- and 2 when the whole sheet has been read (document 01, "Sheet records"). Assumes nothing.
 use mathlib.Core.Path.{_≡_}
 use mathlib.Core.List.{List, [], _∷_}
-use Prim.Native.Nat.{ℕ, zero, suc, _+_, _*_, _/_, _%_}
-use native.Mathlib.Decide.{ℕ-discrete, decLt}
+use Prim.Native.Nat.{ℕ, _+_, _*_, _/_, _%_, _≤_, _<_}
+use native.Mathlib.Decide.{ℕ-discrete}
 use lib.ListN.{length}
 use Rattle.lists.specs.Values.{list-of}
 use Rattle.draws.specs.Draws.{draws}
@@ -12,7 +12,7 @@ use Rattle.matching.specs.Decision.{Refusal, because, both?, Ruling, acc
 use Rattle.matching.specs.Graph.{Graph, over, largest, pair-count}
 use Rattle.matching.specs.Pairs.{Pair, pair-of}
 use Rattle.matching.specs.Session.{onto}
-use Rattle.matching.specs.Model.{named?}
+use Rattle.matching.specs.Model.{Named}
 use Rattle.matching.specs.Causes.{lent-graph, too-short}
 
 -- one of four kinds of record, with its body: the size; two vertices that are adjacent (may share), in either order; the seed; the end
@@ -40,56 +40,26 @@ width end = 1
 abbrev pub four : ℕ → ℕ → ℕ → ℕ → ℕ
 four a b c d = a + 256 * (b + 256 * (c + 256 * d))
 
--- a record and the bytes after it; or the data stops inside its body
-pub data Body : Type 0 where
-  whole : Record → List ℕ → Body
-  cut : Body
+-- these bytes begin with the record, and go on with the rest
+pub data Begins : Record → (bytes rest : List ℕ) → Type 0 where
+  begins-size : {n : ℕ} {rest : List ℕ} → Begins (size n) (1 ∷ n ∷ rest) rest
+  begins-share : {a b : ℕ} {rest : List ℕ} → Begins (share a b) (2 ∷ a ∷ b ∷ rest) rest
+  begins-seed : {a b c d : ℕ} {rest : List ℕ} → Begins (seed (four a b c d)) (3 ∷ a ∷ b ∷ c ∷ d ∷ rest) rest
+  begins-end : {rest : List ℕ} → Begins end (4 ∷ rest) rest
 
-abbrev pub size-body : List ℕ → Body
-size-body [] = cut
-size-body (n ∷ rest) = whole (size n) rest
+-- how far a sheet has been read: nothing; the size; size, weights and the edges (links) so far, the newest first; all of it
+pub data Progress : Type 0 where
+  start : Progress
+  sized : ℕ → Progress
+  seeded : ℕ → (weights : List ℕ) (edges : List Pair) → Progress
+  ended : ℕ → (weights : List ℕ) (edges : List Pair) → Progress
 
-abbrev pub share-body : List ℕ → Body
-share-body [] = cut
-share-body (a ∷ []) = cut
-share-body (a ∷ b ∷ rest) = whole (share a b) rest
-
-abbrev pub seed-body : List ℕ → Body
-seed-body [] = cut
-seed-body (a ∷ []) = cut
-seed-body (a ∷ b ∷ []) = cut
-seed-body (a ∷ b ∷ c ∷ []) = cut
-seed-body (a ∷ b ∷ c ∷ d ∷ rest) = whole (seed (four a b c d)) rest
-
--- where a record is due, it is read, or the reader stops
-pub data Next : Type 0 where
-  reads : Record → List ℕ → Next
-  stops : Refusal → Next
-
--- all bytes are those of a sheet of `len` bytes
-module _ (len : ℕ) where
-  abbrev pub from-body : Body → Next
-  from-body (whole r rest) = reads r rest
-  from-body cut = stops (because 13 len)
-
-  -- 13 where the data stops, 12 at the offset of a kind that is unknown or not due
-  abbrev pub next-size : ℕ → List ℕ → Next
-  next-size at [] = stops (because 13 len)
-  next-size at (k ∷ body) = choose (ℕ-discrete k 1) (from-body (size-body body)) (stops (because 12 at))
-
-  abbrev pub next-seed : ℕ → List ℕ → Next
-  next-seed at [] = stops (because 13 len)
-  next-seed at (k ∷ body) = choose (ℕ-discrete k 3) (from-body (seed-body body)) (stops (because 12 at))
-
-  abbrev pub next-edge : ℕ → List ℕ → Next
-  next-edge at [] = stops (because 13 len)
-  next-edge at (k ∷ body) =
-      choose (ℕ-discrete k 2) (from-body (share-body body)) (choose (ℕ-discrete k 4) (reads end body) (stops (because 12 at)))
-
--- a whole sheet: the size, the weights and the edges (links), the newest first; or a refusal
-pub data Reading : Type 0 where
-  sheet : ℕ → List ℕ → List Pair → Reading
-  unread : Refusal → Reading
+-- which kinds are due: size first, seed second, then any number of share records, then the end, then nothing
+pub data Due : Progress → ℕ → Type 0 where
+  size-due : Due start 1
+  seed-due : {n : ℕ} → Due (sized n) 3
+  share-due : {n : ℕ} {weights : List ℕ} {edges : List Pair} → Due (seeded n weights edges) 2
+  end-due : {n : ℕ} {weights : List ℕ} {edges : List Pair} → Due (seeded n weights edges) 4
 
 abbrev pub Same : Pair → Pair → Type 0
 Same e f = (e .smaller ≡ f .smaller) × (e .larger ≡ f .larger)
@@ -103,56 +73,41 @@ unfolding ℕ-discrete
 among e [] = 0
 among e (f ∷ edges) = choose (same? e f) 1 (among e edges)
 
-module _ (len : ℕ) where
-  -- after the end nothing: 12 at the byte that is there
-  abbrev pub finish : ℕ → List ℕ → List Pair → ℕ → List ℕ → Reading
-  finish n weights edges at [] = sheet n weights edges
-  finish n weights edges at (b ∷ rest) = unread (because 12 at)
+-- what a record that is due and taken makes of it: the seed's draws are the weights
+pub data Takes : Progress → Record → Progress → Type 0 where
+  takes-size : {n : ℕ} → n ≤ largest → Takes start (size n) (sized n)
+  takes-seed : {n s : ℕ} → Takes (sized n) (seed s) (seeded n (draws s (pair-count n)) [])
+  takes-share : {n a b : ℕ} {weights : List ℕ} {edges : List Pair} → Named n a b → among (pair-of a b) edges ≡ 0
+      → Takes (seeded n weights edges) (share a b) (seeded n weights (pair-of a b ∷ edges))
+  takes-end : {n : ℕ} {weights : List ℕ} {edges : List Pair} → Takes (seeded n weights edges) end (ended n weights edges)
 
-  -- share records and then the end, from offset `at` on; 14 for what is not two vertices, 15 for two that stood already. The bound on
-  -- the records is never below the number of bytes left, so it runs out only where the data does: 13. The last two cases are never met
-  unfoldable pub read-edges : ℕ → ℕ → List ℕ → List Pair → ℕ → List ℕ → Reading
-  unfolding among pair-of decLt ℕ-discrete
-  read-edges zero n weights edges at bytes = unread (because 13 len)
-  read-edges (suc more) n weights edges at bytes =
-      elim (next-edge len at bytes) as (λ _. Reading) [
-        | stops r ↦ unread r
-        | reads (share a b) rest ↦
-            choose (named? n a b)
-            (choose (ℕ-discrete (among (pair-of a b) edges) 0) (read-edges more n weights (pair-of a b ∷ edges) (at + 3) rest) (unread (because 15 at)))
-            (unread (because 14 at))
-        | reads end rest ↦ finish n weights edges (at + 1) rest
-        | reads (size _) _ ↦ unread (because 12 at)
-        | reads (seed _) _ ↦ unread (because 12 at)
-      ]
+-- the cause for which one that is due is refused: 1 for a size above 96, 14 for what is not two vertices, 15 for two that stood already
+pub data Rejects : Progress → Record → ℕ → Type 0 where
+  too-large-size : {n : ℕ} → largest < n → Rejects start (size n) 1
+  not-two : {n a b : ℕ} {weights : List ℕ} {edges : List Pair} → ¬ Named n a b → Rejects (seeded n weights edges) (share a b) 14
+  stood-already : {n a b : ℕ} {weights : List ℕ} {edges : List Pair} → Named n a b → among (pair-of a b) edges ≡ 1
+      → Rejects (seeded n weights edges) (share a b) 15
 
-  -- the seed record, second, at offset 2: its draws are the weights
-  unfoldable pub read-seed : ℕ → List ℕ → Reading
-  unfolding read-edges draws ℕ-discrete
-  read-seed n bytes =
-      elim (next-seed len 2 bytes) as (λ _. Reading) [
-        | stops r ↦ unread r
-        | reads (seed s) rest ↦ read-edges (length rest) n (draws s (pair-count n)) [] 7 rest
-        | reads (size _) _ ↦ unread (because 12 2)
-        | reads (share _ _) _ ↦ unread (because 12 2)
-        | reads end _ ↦ unread (because 12 2)
-      ]
+-- a whole sheet: the size, the weights and the edges; or a refusal
+pub data Reading : Type 0 where
+  sheet : ℕ → List ℕ → List Pair → Reading
+  unread : Refusal → Reading
 
-  -- the size record, first; 1 above 96
-  unfoldable pub read-size : List ℕ → Reading
-  unfolding read-seed decLt ℕ-discrete
-  read-size bytes =
-      elim (next-size len 0 bytes) as (λ _. Reading) [
-        | stops r ↦ unread r
-        | reads (size n) rest ↦ choose (decLt largest n) (unread (because 1 0)) (read-seed n rest)
-        | reads (share _ _) _ ↦ unread (because 12 0)
-        | reads (seed _) _ ↦ unread (because 12 0)
-        | reads end _ ↦ unread (because 12 0)
-      ]
+-- from offset `at` of `len` bytes on, these are left and are read so: 12 at a byte that is no kind which is due; 13 where the data stops
+-- before the end record or inside a body; a record's own cause at its offset; else on behind it
+pub data Reads (len : ℕ) : Progress → (at : ℕ) (bytes : List ℕ) → Reading → Type 0 where
+  whole : {n at : ℕ} {weights : List ℕ} {edges : List Pair} → Reads len (ended n weights edges) at [] (sheet n weights edges)
+  not-due : {q : Progress} {at k : ℕ} {rest : List ℕ} → ¬ Due q k → Reads len q at (k ∷ rest) (unread (because 12 at))
+  stops : {q : Progress} {at k : ℕ} → Due q k → Reads len q at [] (unread (because 13 len))
+  cut : {q : Progress} {at k : ℕ} {body : List ℕ} → Due q k → ((r : Record) (rest : List ℕ) → ¬ Begins r (k ∷ body) rest)
+      → Reads len q at (k ∷ body) (unread (because 13 len))
+  rejected : {q : Progress} {at cause : ℕ} {bytes rest : List ℕ} {r : Record} → Begins r bytes rest → Rejects q r cause
+      → Reads len q at bytes (unread (because cause at))
+  goes-on : {q next : Progress} {at : ℕ} {bytes rest : List ℕ} {r : Record} {result : Reading} → Begins r bytes rest → Takes q r next
+      → Reads len next (at + width r) rest result → Reads len q at bytes result
 
-unfoldable pub read : List ℕ → Reading
-unfolding read-size
-read bytes = read-size (length bytes) bytes
+abbrev pub ReadsAs : List ℕ → Reading → Type 0
+ReadsAs bytes r = Reads (length bytes) start 0 bytes r
 
 -- the adjacency table of these edges: 1 in both cells of each edge, 0 elsewhere
 unfoldable pub cells : ℕ → List Pair → List ℕ
@@ -176,9 +131,9 @@ room n adjacency weights =
     judge (too-short (lent-graph g) ∷ [])
 
 -- the answer, and the adjacency table and the weights afterwards
-pub data Fills (r : Reading) (adjacency weights : List ℕ) : Read → List ℕ → List ℕ → Type 0 where
-  refuses-records : (why : Refusal) → r ≡ unread why → Fills r adjacency weights (not-read why) adjacency weights
-  lacks-room : (n : ℕ) (drawn : List ℕ) (edges : List Pair) (why : Refusal) → r ≡ sheet n drawn edges → room n adjacency weights ≡ refused why
-      → Fills r adjacency weights (not-read why) adjacency weights
-  fills : (n : ℕ) (drawn : List ℕ) (edges : List Pair) → r ≡ sheet n drawn edges → room n adjacency weights ≡ accepted
-      → Fills r adjacency weights (graph-read n (length edges)) (onto (cells n edges) adjacency) (onto drawn weights)
+pub data Fills (bytes adjacency weights : List ℕ) : Read → List ℕ → List ℕ → Type 0 where
+  refuses-records : {why : Refusal} → ReadsAs bytes (unread why) → Fills bytes adjacency weights (not-read why) adjacency weights
+  lacks-room : {n : ℕ} {drawn : List ℕ} {edges : List Pair} {why : Refusal} → ReadsAs bytes (sheet n drawn edges) → room n adjacency weights ≡ refused why
+      → Fills bytes adjacency weights (not-read why) adjacency weights
+  fills : {n : ℕ} {drawn : List ℕ} {edges : List Pair} → ReadsAs bytes (sheet n drawn edges) → room n adjacency weights ≡ accepted
+      → Fills bytes adjacency weights (graph-read n (length edges)) (onto (cells n edges) adjacency) (onto drawn weights)

@@ -8,8 +8,8 @@ use Rattle.lists.specs.Table.{table}
 use Rattle.skew.specs.Subset.{Subset}
 use Rattle.skew.specs.Inverse.{Inverse}
 use Rattle.matching.specs.Decision.{Every}
-use Rattle.matching.specs.Graph.{Graph, cell, tutte}
-use Rattle.matching.specs.Pairs.{Pairs, unused}
+use Rattle.matching.specs.Graph.{Graph, over, cell, tutte}
+use Rattle.matching.specs.Pairs.{Pairs, unused, pairs-on, sequence}
 
 -- a buffer whose first words are new and whose excess is as it was
 abbrev pub onto : List ℕ → List ℕ → List ℕ
@@ -23,6 +23,33 @@ pub record Session : Type 0 where
 -- that of a graph of n vertices with these pairs made
 abbrev pub session : ℕ → Pairs → Session
 session n pairs = record { size = n; made = length pairs }
+
+-- what a session call is handed: the session, the adjacency table (share table), the weights (draws), the inverse (held) and the sequence
+-- of pairs (strip)
+pub record State : Type 0 where
+  pub session : Session
+  pub adjacency : List ℕ
+  pub weights : List ℕ
+  pub inverse : List ℕ
+  pub sequence : List ℕ
+
+-- the graph as the session's size reads the two tables
+abbrev pub graph-of : State → Graph
+graph-of s = over (s .session .size) (s .adjacency) (s .weights)
+
+-- the pairs made
+abbrev pub pairs-of : State → Pairs
+pairs-of s = pairs-on (s .sequence) (s .session .made)
+
+-- the state with these pairs, and these words as the inverse; the tables and the excess are as they were
+abbrev pub with-pairs : Pairs → List ℕ → State → State
+with-pairs pairs inverse s = record {
+  session = session (s .session .size) pairs;
+  adjacency = s .adjacency;
+  weights = s .weights;
+  inverse = onto inverse (s .inverse);
+  sequence = onto (sequence (s .session .size) pairs) (s .sequence);
+}
 
 -- the first n times n words, each below p, are the inverse of the Tutte matrix on a set of vertices (document 01: held)
 pub record InverseTable (p : ℕ) (g : Graph) (L : Subset) (words : List ℕ) : Type 0 where

@@ -1,7 +1,7 @@
 -- Worked examples of the causes with their places and order, of open rows, the displayed part, records, the listing and the host's
 -- numbers: one list, and one claim over it. Assumes nothing.
 use mathlib.Core.Path.{refl}
-use mathlib.Core.List.{List, [], _∷_}
+use mathlib.Core.List.{List, [], _∷_, _++_}
 use Prim.Native.Nat.{ℕ}
 use native.Mathlib.Decide.{decLt}
 use lib.ListN.{replicate}
@@ -10,17 +10,19 @@ use Rattle.residue.specs.Modulus.{modulus-prime}
 use Rattle.skew.specs.Decide.{first-dependent?}
 use Rattle.matching.specs.Decision.{because, every?, first?}
 use Rattle.matching.specs.Graph.{Graph, over, tutte}
-use Rattle.matching.specs.Pairs.{unmatched, pairs-on}
+use Rattle.matching.specs.Pairs.{Pair, unmatched, sequence, pairs-on}
+use Rattle.matching.specs.Session.{State}
 use Rattle.matching.specs.Decided.{inverse-table?, witness?}
-use Rattle.matching.specs.Causes.{opening-ruling, session-ruling}
+use Rattle.matching.specs.Causes.{opening-ruling, soundness}
 use Rattle.matching.specs.Opening.{opened, singular, not-opened, Buffers}
 use Rattle.matching.specs.Display.{of-inverse, of-witness, display}
 use Rattle.matching.specs.Model.{pick, automatic, undo, done, denied, nonsingular?, step, run, picked, stopped}
-use Rattle.matching.specs.Calls.{State, row-ruling, open-row}
-use Rattle.matching.specs.Records.{sheet, unread, read, cells, graph, graph-read, not-read}
+use Rattle.matching.specs.Calls.{Returned, row-ruling, open-row}
+use Rattle.matching.specs.Records.{sheet, unread, cells, graph, graph-read, not-read}
+use Rattle.matching.specs.Computed.{read}
 use Rattle.matching.specs.Host.{words, bytes-of}
 use Rattle.matching.specs.Listing.{digits, pair-lines, witness-lines}
-use Rattle.matching.specs.Claims.{linked, edge, ones, path, complete, ring, Claim, witness, not-opening, model, answers, by-hand, spoiled, row, displayed, reads, lists, lists-witness, lists-refusal, host-opening, host-answer, before, Holds, All, ShownSingular, ShownListed, ShownWitness, Shown, all, row-refused, filling, host-words, host-bytes, ShownFilling}
+use Rattle.matching.specs.Claims.{linked, on, edge, ones, path, complete, ring, Claim, witness, not-opening, model, answers, by-hand, spoiled, handled, ran, row, no-row, displayed, reads, filling, lists, lists-witness, lists-refusal, host-opening, host-answer, host-words, host-bytes, host-handled, before, Holds, All, ShownSingular, ShownHandled, ShownReturned, ShownRun, ShownListed, ShownWitness, ShownFilling, Shown, all}
 
 -- two vertices, whose adjacency table and weights are as lent
 abbrev two : List ℕ → List ℕ → Graph
@@ -33,15 +35,37 @@ in-order = 0 ∷ 1 ∷ 1 ∷ 0 ∷ []
 abbrev lengths : ℕ → ℕ → ℕ → ℕ → Buffers
 lengths a b c d = record { inverse = replicate a 9; sequence = replicate b 9; witness = replicate c 9; work = replicate d 9 }
 
-abbrev four-vertices : ℕ → List ℕ → List ℕ → State
-four-vertices made inverse sequence = record { session = record { size = 4; made = made }; inverse = inverse; sequence = sequence }
-
 -- the inverse for vertices 2 and 3 of the complete graph
 abbrev last-two : List ℕ
 last-two = 0 ∷ 0 ∷ 0 ∷ 0 ∷ 0 ∷ 0 ∷ 0 ∷ 0 ∷ 0 ∷ 0 ∷ 0 ∷ 65520 ∷ 0 ∷ 0 ∷ 1 ∷ 0 ∷ []
 
 abbrev first-pair : List ℕ
 first-pair = 0 ∷ 1 ∷ 255 ∷ 255 ∷ []
+
+abbrev zeros : List ℕ
+zeros = replicate 16 0
+
+-- the complete graph over tables with an excess, and its sessions with none, one and two pairs, over buffers with an excess
+abbrev complete-longer : Graph
+complete-longer = over 4 (complete .adjacency ++ 5 ∷ []) (complete .weights ++ 0 ∷ [])
+
+abbrev no-pairs : State
+no-pairs =
+    on complete-longer 0 (0 ∷ 65520 ∷ 1 ∷ 65520 ∷ 1 ∷ 0 ∷ 65520 ∷ 1 ∷ 65520 ∷ 1 ∷ 0 ∷ 65520 ∷ 1 ∷ 65520 ∷ 1 ∷ 0 ∷ 7 ∷ [])
+    (255 ∷ 255 ∷ 255 ∷ 255 ∷ 9 ∷ 8 ∷ [])
+
+abbrev one-pair : State
+one-pair = on complete-longer 1 (last-two ++ 7 ∷ []) (0 ∷ 1 ∷ 255 ∷ 255 ∷ 9 ∷ 8 ∷ [])
+
+abbrev two-pairs : State
+two-pairs = on complete-longer 2 (zeros ++ 7 ∷ []) (0 ∷ 1 ∷ 2 ∷ 3 ∷ 9 ∷ 8 ∷ [])
+
+-- a call answered with a pair, and one refused, with the state handed back
+abbrev gives : Pair → State → Returned
+gives e s = record { answer = done e; state = s }
+
+abbrev stays : ℕ → State → Returned
+stays k s = record { answer = denied (because k 0); state = s }
 
 pub worked : List Claim
 worked =
@@ -59,26 +83,45 @@ worked =
     ∷ not-opening (two (2 ∷ 1 ∷ 0 ∷ 1 ∷ []) (0 ∷ [])) (lengths 4 2 2 4) (because 3 0)
     ∷ not-opening (two in-order (0 ∷ [])) (lengths 4 2 2 4) (because 4 0)
     ∷ not-opening (linked 3 [] (1 ∷ 65520 ∷ 65521 ∷ [])) (before 3) (because 4 2)
-    -- causes 5 and 6 before the vertices named; then 7, 8, 9 and 10, and 11 before 10
-    ∷ spoiled (four-vertices 3 last-two first-pair) complete (pick 300 300) (because 5 0)
-    ∷ spoiled (four-vertices 0 last-two first-pair) complete undo (because 5 0)
-    ∷ spoiled (four-vertices 1 last-two (1 ∷ 0 ∷ 255 ∷ 255 ∷ [])) complete undo (because 5 0)
-    ∷ spoiled (four-vertices 1 last-two (0 ∷ 1 ∷ 255 ∷ 2 ∷ [])) complete undo (because 5 0)
-    ∷ spoiled (four-vertices 1 last-two first-pair) (linked 4 (edge 2 3 ∷ []) (ones 4)) undo (because 5 0)
-    ∷ spoiled (four-vertices 1 (65521 ∷ 0 ∷ 0 ∷ 0 ∷ 0 ∷ 0 ∷ 0 ∷ 0 ∷ 0 ∷ 0 ∷ 0 ∷ 65520 ∷ 0 ∷ 0 ∷ 1 ∷ 0 ∷ []) first-pair) complete (pick 0 0) (because 6 0)
-    ∷ spoiled (four-vertices 1 (0 ∷ 0 ∷ 0 ∷ 0 ∷ 0 ∷ 0 ∷ 0 ∷ 0 ∷ 0 ∷ 0 ∷ 0 ∷ 1 ∷ 0 ∷ 0 ∷ 65520 ∷ 0 ∷ []) first-pair) complete automatic (because 6 0)
-    ∷ by-hand (four-vertices 1 last-two first-pair) complete (pick 0 0) (because 7 0)
-    ∷ by-hand (four-vertices 1 last-two first-pair) complete (pick 2 256) (because 7 0)
-    ∷ by-hand (four-vertices 1 last-two first-pair) complete (pick 3 0) (because 8 0)
+    -- a session call looks at 1 to 4 first, and at 5 and 6 before the vertices named
+    ∷ spoiled (on (over 97 [] []) 0 [] []) undo (because 1 0)
+    ∷ spoiled (on (over 4 (complete .adjacency) []) 3 zeros first-pair) undo (because 2 2)
+    ∷ spoiled (on complete 1 (0 ∷ []) first-pair) undo (because 2 3)
+    ∷ spoiled (on complete 1 last-two (0 ∷ 1 ∷ 255 ∷ [])) undo (because 2 4)
+    ∷ spoiled (on (over 4 (1 ∷ zeros) (ones 4)) 3 last-two first-pair) (pick 9 9) (because 3 0)
+    ∷ spoiled (on (over 4 (complete .adjacency) (1 ∷ 1 ∷ 1 ∷ 1 ∷ 1 ∷ 65521 ∷ [])) 3 last-two first-pair) automatic (because 4 5)
+    ∷ spoiled (on complete 3 last-two first-pair) (pick 300 300) (because 5 0)
+    ∷ spoiled (on complete 0 last-two first-pair) undo (because 5 0)
+    ∷ spoiled (on complete 1 last-two (1 ∷ 0 ∷ 255 ∷ 255 ∷ [])) undo (because 5 0)
+    ∷ spoiled (on complete 1 last-two (0 ∷ 1 ∷ 255 ∷ 2 ∷ [])) undo (because 5 0)
+    ∷ spoiled (on complete 1 last-two (0 ∷ 200 ∷ 255 ∷ 255 ∷ [])) undo (because 5 0)
+    ∷ spoiled (on complete 1 last-two (0 ∷ 6 ∷ 255 ∷ 255 ∷ [])) undo (because 5 0)
+    ∷ spoiled (on complete 2 zeros (0 ∷ 1 ∷ 1 ∷ 2 ∷ [])) undo (because 5 0)
+    ∷ spoiled (on (linked 4 (edge 2 3 ∷ []) (ones 4)) 1 last-two first-pair) undo (because 5 0)
+    ∷ spoiled (on complete 1 (65521 ∷ 0 ∷ 0 ∷ 0 ∷ 0 ∷ 0 ∷ 0 ∷ 0 ∷ 0 ∷ 0 ∷ 0 ∷ 65520 ∷ 0 ∷ 0 ∷ 1 ∷ 0 ∷ []) first-pair) (pick 0 0) (because 6 0)
+    ∷ spoiled (on complete 1 (0 ∷ 0 ∷ 0 ∷ 0 ∷ 0 ∷ 0 ∷ 0 ∷ 0 ∷ 0 ∷ 0 ∷ 0 ∷ 1 ∷ 0 ∷ 0 ∷ 65520 ∷ 0 ∷ []) first-pair) automatic (because 6 0)
+    -- then 7, 8, 9 and 10, and 11 before 10
+    ∷ by-hand no-pairs (pick 4 0) (because 7 0)
+    ∷ by-hand (on complete 1 last-two first-pair) (pick 0 0) (because 7 0)
+    ∷ by-hand (on complete 1 last-two first-pair) (pick 2 256) (because 7 0)
+    ∷ by-hand (on complete 1 last-two first-pair) (pick 3 0) (because 8 0)
     ∷ answers path (pick 0 3 ∷ automatic ∷ pick 0 3 ∷ pick 2 2 ∷ []) (denied (because 9 0) ∷ done (edge 0 2) ∷ denied (because 8 0) ∷ denied (because 7 0) ∷ [])
     ∷ model ring (undo ∷ []) (denied (because 11 0) ∷ [])
     ∷ answers complete (undo ∷ automatic ∷ pick 3 2 ∷ automatic ∷ undo ∷ undo ∷ undo ∷ []) (denied (because 11 0) ∷ done (edge 0 1) ∷ done (edge 2 3) ∷ denied (because 11 0) ∷ done (edge 2 3) ∷ done (edge 0 1) ∷ denied (because 11 0) ∷ [])
+    -- accepted calls, and runs, with all that they hand back
+    ∷ handled no-pairs (pick 1 0) (edge 0 1) one-pair
+    ∷ handled one-pair automatic (edge 2 3) two-pairs
+    ∷ handled two-pairs undo (edge 2 3) one-pair
+    ∷ ran no-pairs (undo ∷ pick 1 0 ∷ pick 0 2 ∷ automatic ∷ automatic ∷ undo ∷ undo ∷ [])
+    (stays 11 no-pairs ∷ gives (edge 0 1) one-pair ∷ stays 8 one-pair ∷ gives (edge 2 3) two-pairs ∷ stays 11 two-pairs ∷ gives (edge 2 3) one-pair ∷ gives (edge 0 1) no-pairs ∷ [])
+    ∷ ran (on ring 1 last-two first-pair) (automatic ∷ undo ∷ undo ∷ [])
+    (gives (edge 2 3) (on ring 2 zeros (0 ∷ 1 ∷ 2 ∷ 3 ∷ [])) ∷ gives (edge 2 3) (on ring 1 last-two first-pair) ∷ stays 10 (on ring 1 last-two first-pair) ∷ [])
     -- open rows: of the path from the start, where only 0 with 2 and 1 with 3 leave an inverse; and with an excess byte
-    ∷ row (four-vertices 0 (0 ∷ 0 ∷ 65520 ∷ 0 ∷ 0 ∷ 0 ∷ 0 ∷ 65520 ∷ 1 ∷ 0 ∷ 0 ∷ 1 ∷ 0 ∷ 1 ∷ 65520 ∷ 0 ∷ []) (255 ∷ 255 ∷ 255 ∷ 255 ∷ [])) path 0 (9 ∷ 9 ∷ 9 ∷ 9 ∷ 9 ∷ []) (0 ∷ 0 ∷ 1 ∷ 0 ∷ 9 ∷ [])
-    ∷ row (four-vertices 1 last-two first-pair) complete 3 (9 ∷ 9 ∷ 9 ∷ 9 ∷ []) (0 ∷ 0 ∷ 1 ∷ 0 ∷ [])
-    ∷ row-refused (four-vertices 1 last-two first-pair) complete 4 (9 ∷ 9 ∷ 9 ∷ 9 ∷ []) (because 7 0)
-    ∷ row-refused (four-vertices 1 last-two first-pair) complete 0 (9 ∷ 9 ∷ 9 ∷ 9 ∷ []) (because 8 0)
-    ∷ row-refused (four-vertices 1 last-two first-pair) complete 4 (9 ∷ 9 ∷ 9 ∷ []) (because 2 7)
+    ∷ row (on path 0 (0 ∷ 0 ∷ 65520 ∷ 0 ∷ 0 ∷ 0 ∷ 0 ∷ 65520 ∷ 1 ∷ 0 ∷ 0 ∷ 1 ∷ 0 ∷ 1 ∷ 65520 ∷ 0 ∷ []) (255 ∷ 255 ∷ 255 ∷ 255 ∷ [])) 0 (9 ∷ 9 ∷ 9 ∷ 9 ∷ 9 ∷ []) (0 ∷ 0 ∷ 1 ∷ 0 ∷ 9 ∷ [])
+    ∷ row (on complete 1 last-two first-pair) 3 (9 ∷ 9 ∷ 9 ∷ 9 ∷ []) (0 ∷ 0 ∷ 1 ∷ 0 ∷ [])
+    ∷ no-row (on complete 1 last-two first-pair) 4 (9 ∷ 9 ∷ 9 ∷ 9 ∷ []) (because 7 0)
+    ∷ no-row (on complete 1 last-two first-pair) 0 (9 ∷ 9 ∷ 9 ∷ 9 ∷ []) (because 8 0)
+    ∷ no-row (on complete 1 last-two first-pair) 4 (9 ∷ 9 ∷ 9 ∷ []) (because 2 7)
     -- the displayed part
     ∷ displayed 2 (0 ∷ 1 ∷ 2 ∷ 0 ∷ 7 ∷ []) (0 ∷ 0 ∷ 5 ∷ []) (of-inverse 4)
     ∷ displayed 2 (0 ∷ 0 ∷ 0 ∷ 0 ∷ []) (1 ∷ 0 ∷ []) (of-witness 2)
@@ -109,11 +152,13 @@ worked =
     ∷ filling (1 ∷ 3 ∷ 3 ∷ 1 ∷ 2 ∷ 0 ∷ 0 ∷ 2 ∷ 2 ∷ 1 ∷ 4 ∷ []) (9 ∷ 9 ∷ 9 ∷ 9 ∷ 9 ∷ 9 ∷ 9 ∷ 9 ∷ []) (9 ∷ 9 ∷ 9 ∷ []) (not-read (because 2 1)) (9 ∷ 9 ∷ 9 ∷ 9 ∷ 9 ∷ 9 ∷ 9 ∷ 9 ∷ []) (9 ∷ 9 ∷ 9 ∷ [])
     ∷ filling (1 ∷ 3 ∷ 3 ∷ 1 ∷ 2 ∷ 0 ∷ 0 ∷ 2 ∷ 2 ∷ 1 ∷ 4 ∷ []) (9 ∷ 9 ∷ 9 ∷ 9 ∷ 9 ∷ 9 ∷ 9 ∷ 9 ∷ 9 ∷ []) (9 ∷ 9 ∷ []) (not-read (because 2 2)) (9 ∷ 9 ∷ 9 ∷ 9 ∷ 9 ∷ 9 ∷ 9 ∷ 9 ∷ 9 ∷ []) (9 ∷ 9 ∷ [])
     ∷ filling (1 ∷ 2 ∷ 3 ∷ 1 ∷ 2 ∷ 0 ∷ 0 ∷ 2 ∷ 1 ∷ 0 ∷ 4 ∷ []) (9 ∷ 9 ∷ 9 ∷ 9 ∷ 9 ∷ []) (9 ∷ 9 ∷ []) (graph-read 2 1) (0 ∷ 1 ∷ 1 ∷ 0 ∷ 9 ∷ []) (draw (next 513) ∷ 9 ∷ [])
-    -- the listed input; one vertex; empty input
-    ∷ lists (1 ∷ 4 ∷ 3 ∷ 0 ∷ 0 ∷ 0 ∷ 0 ∷ 2 ∷ 0 ∷ 1 ∷ 2 ∷ 0 ∷ 2 ∷ 2 ∷ 1 ∷ 3 ∷ 4 ∷ []) 2
+    -- the listed input; one vertex; a witness of five digits; empty input
+    ∷ lists (1 ∷ 4 ∷ 3 ∷ 0 ∷ 0 ∷ 0 ∷ 0 ∷ 2 ∷ 0 ∷ 1 ∷ 2 ∷ 0 ∷ 2 ∷ 2 ∷ 1 ∷ 3 ∷ 4 ∷ [])
     (115 ∷ 108 ∷ 101 ∷ 101 ∷ 118 ∷ 101 ∷ 115 ∷ 32 ∷ 52 ∷ 32 ∷ 108 ∷ 105 ∷ 110 ∷ 107 ∷ 115 ∷ 32 ∷ 51 ∷ 10 ∷ 112 ∷ 97 ∷ 105 ∷ 114 ∷ 32 ∷ 48 ∷ 32 ∷ 50 ∷ 10 ∷ 112 ∷ 97 ∷ 105 ∷ 114 ∷ 32 ∷ 49 ∷ 32 ∷ 51 ∷ 10 ∷ 118 ∷ 101 ∷ 114 ∷ 100 ∷ 105 ∷ 99 ∷ 116 ∷ 32 ∷ 70 ∷ 10 ∷ [])
     ∷ lists-witness (1 ∷ 1 ∷ 3 ∷ 0 ∷ 0 ∷ 0 ∷ 0 ∷ 4 ∷ []) 0 (1 ∷ [])
     (115 ∷ 108 ∷ 101 ∷ 101 ∷ 118 ∷ 101 ∷ 115 ∷ 32 ∷ 49 ∷ 32 ∷ 108 ∷ 105 ∷ 110 ∷ 107 ∷ 115 ∷ 32 ∷ 48 ∷ 10 ∷ 119 ∷ 105 ∷ 116 ∷ 110 ∷ 101 ∷ 115 ∷ 115 ∷ 32 ∷ 48 ∷ 32 ∷ 49 ∷ 10 ∷ 118 ∷ 101 ∷ 114 ∷ 100 ∷ 105 ∷ 99 ∷ 116 ∷ 32 ∷ 78 ∷ 10 ∷ [])
+    ∷ lists-witness (1 ∷ 3 ∷ 3 ∷ 112 ∷ 206 ∷ 0 ∷ 0 ∷ 2 ∷ 0 ∷ 1 ∷ 2 ∷ 2 ∷ 1 ∷ 4 ∷ []) 2 (65520 ∷ 0 ∷ 1 ∷ [])
+    (115 ∷ 108 ∷ 101 ∷ 101 ∷ 118 ∷ 101 ∷ 115 ∷ 32 ∷ 51 ∷ 32 ∷ 108 ∷ 105 ∷ 110 ∷ 107 ∷ 115 ∷ 32 ∷ 50 ∷ 10 ∷ 119 ∷ 105 ∷ 116 ∷ 110 ∷ 101 ∷ 115 ∷ 115 ∷ 32 ∷ 48 ∷ 32 ∷ 54 ∷ 53 ∷ 53 ∷ 50 ∷ 48 ∷ 10 ∷ 119 ∷ 105 ∷ 116 ∷ 110 ∷ 101 ∷ 115 ∷ 115 ∷ 32 ∷ 50 ∷ 32 ∷ 49 ∷ 10 ∷ 118 ∷ 101 ∷ 114 ∷ 100 ∷ 105 ∷ 99 ∷ 116 ∷ 32 ∷ 78 ∷ 10 ∷ [])
     ∷ lists-refusal [] (because 13 0) (114 ∷ 101 ∷ 102 ∷ 117 ∷ 115 ∷ 101 ∷ 100 ∷ 32 ∷ 49 ∷ 51 ∷ 32 ∷ 97 ∷ 116 ∷ 32 ∷ 48 ∷ 10 ∷ [])
     -- the host's numbers
     ∷ host-opening (opened (record { size = 4; made = 0 })) 256
@@ -124,8 +169,13 @@ worked =
     ∷ host-words (1 ∷ 2 ∷ 3 ∷ []) (513 ∷ [])
     ∷ host-words (255 ∷ 255 ∷ 0 ∷ 1 ∷ []) (65535 ∷ 256 ∷ [])
     ∷ host-bytes (513 ∷ 65520 ∷ []) (9 ∷ 9 ∷ 9 ∷ 9 ∷ 9 ∷ []) (1 ∷ 2 ∷ 240 ∷ 255 ∷ 9 ∷ [])
+    -- a pick through the host, with an odd byte
+    ∷ host-handled (on (over 2 in-order (2 ∷ 0 ∷ [])) 0 (0 ∷ 0 ∷ 248 ∷ 127 ∷ 249 ∷ 127 ∷ 0 ∷ 0 ∷ 9 ∷ []) (255 ∷ 255 ∷ [])) (pick 1 0) (edge 0 1)
+    (on (over 2 in-order (2 ∷ [])) 1 (0 ∷ 0 ∷ 0 ∷ 0 ∷ []) (0 ∷ 1 ∷ []))
+    4311745280
+    (on (over 2 in-order (2 ∷ 0 ∷ [])) 1 (0 ∷ 0 ∷ 0 ∷ 0 ∷ 0 ∷ 0 ∷ 0 ∷ 0 ∷ 9 ∷ []) (0 ∷ 1 ∷ []))
     ∷ []
 
 pub worked-hold : All Holds worked
-unfolding worked Shown ShownFilling words bytes-of draws ShownSingular ShownListed ShownWitness modulus-prime run step nonsingular? inverse-table? witness? first-dependent? first? every? tutte opening-ruling session-ruling row-ruling open-row display cells unmatched pairs-on decLt read digits pair-lines witness-lines graph
-worked-hold = all worked (refl, (refl, (refl, (refl, (refl, (refl, (refl, (refl, (refl, (refl, (refl, (refl, (refl, (refl, (refl, (refl, (refl, (refl, (refl, (refl, ((refl, refl), ((refl, refl), ((refl, refl), ((tt, refl), (refl, ((tt, refl), ((refl, refl), ((refl, refl), (refl, (refl, (refl, (refl, (refl, (refl, (refl, (refl, (refl, (refl, (refl, (refl, (refl, (refl, (refl, (refl, (refl, (refl, (refl, (refl, (refl, (refl, (refl, (refl, (refl, (refl, (refl, (refl, ((refl, refl, refl), ((refl, refl, refl), ((refl, refl, refl, refl), ((tt, picked refl (picked refl (stopped refl)), refl), ((refl, (tt, tt, tt), refl), ((refl, refl), (refl, (refl, (refl, (refl, (refl, (refl, (refl, (refl, tt))))))))))))))))))))))))))))))))))))))))))))))))))))))))))))))))))))))
+unfolding worked Shown ShownFilling words bytes-of draws ShownSingular ShownHandled ShownReturned ShownRun ShownListed ShownWitness modulus-prime run step nonsingular? inverse-table? witness? first-dependent? first? every? tutte opening-ruling soundness row-ruling open-row display cells unmatched pairs-on decLt read digits pair-lines witness-lines graph sequence
+worked-hold = all worked (refl, (refl, (refl, (refl, (refl, (refl, (refl, (refl, (refl, (refl, (refl, (refl, (refl, (refl, (refl, (refl, (refl, (refl, (refl, (refl, (refl, (refl, (refl, (refl, (refl, (refl, (refl, (refl, (refl, ((refl, refl), ((refl, refl), ((refl, refl), ((refl, refl), ((tt, refl), (refl, ((tt, refl), ((refl, refl, refl, tt, refl), ((refl, refl, refl, tt, refl), ((refl, refl, refl, tt, refl), (((refl, refl, refl), ((refl, refl, refl, tt, refl), ((refl, refl, refl), ((refl, refl, refl, tt, refl), ((refl, refl, refl), ((refl, refl, refl, tt, refl), ((refl, refl, refl, tt, refl), tt))))))), (((refl, refl, refl, tt, refl), ((refl, refl, refl, tt, refl), ((refl, refl, refl), tt))), ((refl, refl), ((refl, refl), (refl, (refl, (refl, (refl, (refl, (refl, (refl, (refl, (refl, (refl, (refl, (refl, (refl, (refl, (refl, (refl, (refl, (refl, (refl, (refl, (refl, (refl, (refl, (refl, (refl, (refl, (refl, (refl, ((refl, refl, refl), ((refl, refl, refl), ((refl, refl, refl, refl), ((tt, picked refl (picked refl (stopped refl)), refl), ((refl, (tt, tt, tt), refl), ((refl, (tt, tt, tt), refl), ((refl, refl), (refl, (refl, (refl, (refl, (refl, (refl, (refl, (refl, (((refl, refl, refl, tt, refl), refl, refl), tt)))))))))))))))))))))))))))))))))))))))))))))))))))))))))))))))))))))))))))))))))))))))

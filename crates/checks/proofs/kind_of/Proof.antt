@@ -1,7 +1,7 @@
 -- `checks::kind_of` meets its contract: each return is a case of the definition.
 -- Assumes nothing.
 use mathlib.Core.Path.{sym}
-use Rattle.checks.specs.Cells.{kind-large, kind-diagonal-zero, kind-diagonal, kind-equal, kind-unequal}
+use Rattle.laws.specs.Faults.{kind-large, kind-diagonal-zero, kind-diagonal, kind-equal, kind-unequal}
 use Rattle.checks.proofs.kind_of.Statement.{statement}
 use Rattle.checks.proofs.kind_of.Tie as tie
 

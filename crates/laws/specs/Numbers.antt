@@ -1,0 +1,269 @@
+-- The host's number: each field is read back, different answers have different numbers, and the low byte is 0 exactly when a call was
+-- carried out; and every call through the host has exactly one outcome. Assumes nothing.
+use mathlib.Core.Path.{_≡_, refl, sym, ap, ap₂, subst, _∙_}
+use mathlib.Core.List.{List, [], _∷_, _++_}
+use Prim.Native.Nat.{ℕ, zero, suc, _+_, _*_, _-_, _/_, _%_, _^_, _≤_, _<_}
+use native.Mathlib.Omega.{arith}
+use native.Mathlib.Decide.{decLt}
+use lib.ListN.{length, getD}
+use Rattle.lists.specs.Table.{square-small}
+use Rattle.modular.specs.Prime.{OddPrime}
+use Rattle.skew.specs.Choose.{choose}
+use Rattle.skew.specs.Subset.{Subset}
+use Rattle.matching.specs.Decision.{Refusal, because, First, nowhere, first-at, Finding, absent, at, when, found, not?, Cause, Ruling, accepted, refused, unless, judge}
+use Rattle.matching.specs.Graph.{Graph, largest, pair-count}
+use Rattle.matching.specs.Pairs.{Pair, Pairs, unmatched, pairs-on}
+use Rattle.matching.specs.Session.{Session, State, graph-of, pairs-of}
+use Rattle.matching.specs.Causes.{Lent, lent-to-opening, lent-to-session, opening-causes, first-short, too-large, too-short, bad-cell, bad-weight, first-faulty, first-outside, ill-formed, not-inverse, opening-ruling, soundness}
+use Rattle.matching.specs.Decided.{well-formed?, inverse-table?}
+use Rattle.matching.specs.Opening.{Opening, opened, singular, not-opened, Buffers, Opens, refuses-opening, opens, finds-singular}
+use Rattle.matching.specs.Model.{Call, Answer, done, denied, Step, Rule, picks, pick-refused, picks-lowest, none-left, no-pair, undo-refused, undoes}
+use Rattle.matching.specs.Calls.{Handles, unsound, refuses, carries}
+use Rattle.matching.specs.Host.{number, refusal-number, opening-number, answer-number, unpacked-state, state-stored, HostHandles}
+use Rattle.laws.specs.Facts.{refused-pick}
+use Rattle.laws.specs.Rules.{step-rule}
+use Rattle.laws.specs.History.{Change, appended, removed, unchanged, change}
+use Rattle.laws.specs.Sound.{when-absent, opening-accepted, Sound, session-accepted}
+use Rattle.laws.specs.Carried.{handles-some, handles-unique}
+
+module _ (cause kind value made : ℕ) (c : cause < 2 ^ 8) (k : kind < 2 ^ 8) (v : value < 2 ^ 16) where
+  pub cause-field : number cause kind value made % 2 ^ 8 ≡ cause
+  cause-field = omega arith
+
+  pub kind-field : number cause kind value made / 2 ^ 8 % 2 ^ 8 ≡ kind
+  kind-field = omega arith
+
+  pub value-field : number cause kind value made / 2 ^ 16 % 2 ^ 16 ≡ value
+  value-field = omega arith
+
+  pub made-field : number cause kind value made / 2 ^ 32 ≡ made
+  made-field = omega arith
+
+-- the two vertices of a value
+pub smaller-field : (smaller larger : ℕ) → smaller < 2 ^ 8 → (smaller + 2 ^ 8 * larger) % 2 ^ 8 ≡ smaller
+smaller-field smaller larger h = omega arith
+
+pub larger-field : (smaller larger : ℕ) → smaller < 2 ^ 8 → (smaller + 2 ^ 8 * larger) / 2 ^ 8 ≡ larger
+larger-field smaller larger h = omega arith
+
+-- what fits into the fields: a cause is not 0
+pub record Small (r : Refusal) : Type 0 where
+  pub cause-from : 1 ≤ r .cause
+  pub cause-below : r .cause < 2 ^ 8
+  pub place-below : r .place < 2 ^ 16
+
+-- for an opening of n vertices: the size is the one sent
+abbrev pub SmallOpening : ℕ → Opening → Type 0
+SmallOpening n (opened s) = s .size ≡ n
+SmallOpening n (singular f) = f < 2 ^ 16
+SmallOpening n (not-opened r) = Small r
+
+abbrev pub SmallAnswer : Answer → Type 0
+SmallAnswer (done e) = (e .smaller < 2 ^ 8) × (e .larger < 2 ^ 8)
+SmallAnswer (denied r) = Small r
+
+-- the cause, 0 when none
+abbrev pub opening-cause : Opening → ℕ
+opening-cause (opened s) = 0
+opening-cause (singular f) = 0
+opening-cause (not-opened r) = r .cause
+
+abbrev pub answer-cause : Answer → ℕ
+answer-cause (done e) = 0
+answer-cause (denied r) = r .cause
+
+pub opening-low-byte : (n : ℕ) (o : Opening) → SmallOpening n o → opening-number o % 2 ^ 8 ≡ opening-cause o
+opening-low-byte n (opened s) h = omega arith
+opening-low-byte n (singular f) h = omega arith
+opening-low-byte n (not-opened r) h = omega arith
+
+pub answer-low-byte : (a : Answer) (s : Session) → SmallAnswer a → answer-number a s % 2 ^ 8 ≡ answer-cause a
+answer-low-byte (done e) s h = omega arith
+answer-low-byte (denied r) s h = omega arith
+
+same-refusal : {q r : Refusal} → Small q → Small r → refusal-number q ≡ refusal-number r → q ≡ r
+same-refusal {q} {r} a b e =
+    let c : q .cause ≡ r .cause = omega arith in
+    let p : q .place ≡ r .place = omega arith in
+    ap₂ because c p
+
+-- two different openings of n vertices have different numbers
+pub opening-numbers : (n : ℕ) (o o′ : Opening) → SmallOpening n o → SmallOpening n o′ → opening-number o ≡ opening-number o′ → o ≡ o′
+opening-numbers n (opened s) (opened t) h k e =
+    let m : s .made ≡ t .made = omega arith in
+    ap opened (ap₂ (λ x y. record { size = x; made = y }) (h ∙ sym k) m)
+opening-numbers n (opened s) (singular f) h k e = absurd (omega arith)
+opening-numbers n (opened s) (not-opened r) h k e = absurd (omega (arith, k .cause-from, k .cause-below))
+opening-numbers n (singular f) (opened s) h k e = absurd (omega arith)
+opening-numbers n (singular f) (singular g) h k e = ap singular (omega arith)
+opening-numbers n (singular f) (not-opened r) h k e = absurd (omega (arith, k .cause-from, k .cause-below))
+opening-numbers n (not-opened q) (opened s) h k e = absurd (omega (arith, h .cause-from, h .cause-below))
+opening-numbers n (not-opened q) (singular f) h k e = absurd (omega (arith, h .cause-from, h .cause-below))
+opening-numbers n (not-opened q) (not-opened r) h k e = ap not-opened (same-refusal h k e)
+
+-- and so have two different answers
+pub answer-numbers : (a b : Answer) (s t : Session) → SmallAnswer a → SmallAnswer b → answer-number a s ≡ answer-number b t → a ≡ b
+answer-numbers (done x) (done y) s t h k e =
+    let v : x .smaller + 2 ^ 8 * x .larger ≡ y .smaller + 2 ^ 8 * y .larger =
+    sym (value-field 0 3 _ (s .made) (omega arith) (omega arith) (omega arith))
+    ∙ ap (λ z. z / 2 ^ 16 % 2 ^ 16) e
+    ∙ value-field 0 3 _ (t .made) (omega arith) (omega arith) (omega arith) in
+    let p = sym (smaller-field _ _ (h .0)) ∙ ap (λ z. z % 2 ^ 8) v ∙ smaller-field _ _ (k .0) in
+    let q = sym (larger-field _ _ (h .0)) ∙ ap (λ z. z / 2 ^ 8) v ∙ larger-field _ _ (k .0) in
+    ap done (ap₂ (λ u w. record { smaller = u; larger = w }) p q)
+answer-numbers (done x) (denied r) s t h k e = absurd (omega (arith, k .cause-from, k .cause-below))
+answer-numbers (denied q) (done y) s t h k e = absurd (omega (arith, h .cause-from, h .cause-below))
+answer-numbers (denied q) (denied r) s t h k e = ap denied (same-refusal h k e)
+
+-- the first of the causes that applies: its place, or a later one
+data Judged (f : Finding) (k : ℕ) (later : Ruling) (r : Refusal) : Type 0 where
+  here : (x : ℕ) → f ≡ at x → r ≡ because k x → Judged f k later r
+  there : f ≡ absent → later ≡ refused r → Judged f k later r
+
+judged : (f : Finding) (k : ℕ) (later : Ruling) {r : Refusal} → unless f k later ≡ refused r → Judged f k later r
+judged (at x) k later {r} e = here x refl (cc)
+judged absent k later e = there refl e
+
+place-when : {A : Type 0} (d : Dec A) (y : ℕ) {x : ℕ} → when d y ≡ at x → x ≡ y
+place-when (yes _) y e = cc
+place-when (no _) y e = absurd (let z : _≡_ {A = ℕ} 0 1 = cc in omega arith)
+
+place-found : {n x : ℕ} {Q : ℕ → Type 0} (f : First n Q) → found f ≡ at x → x < n
+place-found (nowhere _) e = absurd (let z : _≡_ {A = ℕ} 0 1 = cc in omega arith)
+place-found {x = x} (first-at y l _ _) e = let q : y ≡ x = cc in rw q at l
+
+-- every buffer's number is small
+abbrev SmallNumbers : List Lent → Type 0
+SmallNumbers [] = Unit {0}
+SmallNumbers (b ∷ later) = (b .number < 2 ^ 16) × SmallNumbers later
+
+place-short : (buffers : List Lent) {x : ℕ} → SmallNumbers buffers → first-short buffers ≡ at x → x < 2 ^ 16
+place-short [] h e = absurd (let z : _≡_ {A = ℕ} 0 1 = cc in omega arith)
+place-short (b ∷ later) {x} h e = go (decLt (b .length) (b .needed)) e (λ k. place-short later (h .1) k)
+  where
+    go : (d : Dec (b .length < b .needed)) → choose d (at (b .number)) (first-short later) ≡ at x → (first-short later ≡ at x → x < 2 ^ 16) → x < 2 ^ 16
+    go (yes _) e r = let q : b .number ≡ x = cc in rw q at (h .0)
+    go (no _) e r = r e
+
+small : (k x : ℕ) {r : Refusal} → r ≡ because k x → 1 ≤ k → k < 2 ^ 8 → x < 2 ^ 16 → Small r
+small k x e l h p = rw e (record { cause-from = l; cause-below = h; place-below = p })
+
+-- a refusal by the causes 1 to 4 is small, and so is one by later causes that are
+small-causes : (p : ℕ) (g : Graph) (buffers : List Lent) (later : List Cause) {r : Refusal} → SmallNumbers buffers → (judge later ≡ refused r → Small r)
+    → judge (opening-causes p g buffers ++ later) ≡ refused r → Small r
+unfolding bad-cell bad-weight
+small-causes p g buffers later {r} numbers rest e = size (judged (too-large (g .n) .finding) 1 _ e)
+  where
+    cell-place : g .n ≤ largest → (x : ℕ) → x < g .n * g .n → x < 2 ^ 16
+    cell-place h x l = omega (arith, square-small (g .n) h)
+
+    pairs-few : g .n ≤ largest → (x : ℕ) → x < pair-count (g .n) → x < 2 ^ 16
+    pairs-few h x l = omega (arith, square-small (g .n) h, pairs-below (g .n))
+      where
+        pairs-below : (n : ℕ) → pair-count n ≤ n * n
+        pairs-below zero = omega arith
+        pairs-below (suc n) = let e : suc n - 1 ≡ n = omega arith in rw e (omega arith)
+
+    weights : g .n ≤ largest → Judged (found (first-outside p g)) 4 (judge later) r → Small r
+    weights h (here x q t) = small 4 x t (omega arith) (omega arith) (pairs-few h x (place-found (first-outside p g) q))
+    weights h (there _ t) = rest t
+
+    cells : g .n ≤ largest → Judged (found (first-faulty g)) 3 (judge (bad-weight p g ∷ later)) r → Small r
+    cells h (here x q t) = small 3 x t (omega arith) (omega arith) (cell-place h x (place-found (first-faulty g) q))
+    cells h (there _ t) = weights h (judged _ 4 _ t)
+
+    lengths : g .n ≤ largest → Judged (first-short buffers) 2 (judge (bad-cell g ∷ bad-weight p g ∷ later)) r → Small r
+    lengths h (here x q t) = small 2 x t (omega arith) (omega arith) (place-short buffers numbers q)
+    lengths h (there _ t) = cells h (judged _ 3 _ t)
+
+    size : Judged (too-large (g .n) .finding) 1 (judge (too-short buffers ∷ bad-cell g ∷ bad-weight p g ∷ later)) r → Small r
+    size (here x q t) = small 1 x t (omega arith) (omega arith) (omega (arith, place-when (decLt largest (g .n)) 0 q))
+    size (there q t) =
+        let d : ¬ (largest < g .n) = when-absent (decLt largest (g .n)) 0 .0 q in lengths (omega arith) (judged _ 2 _ t)
+
+-- what opening answers is small
+pub opens-small : {p : ℕ} {g : Graph} {S : Subset} {b left : Buffers} {o : Opening} → Opens p g S b o left → SmallOpening (g .n) o
+unfolding opening-ruling
+opens-small {p} {g} {b = b} (refuses-opening r e) =
+    small-causes p g (lent-to-opening g (length (b .inverse)) (length (b .sequence)) (length (b .witness)) (length (b .work))) [] (numbers (length (b .inverse)) (length (b .sequence)) (length (b .witness)) (length (b .work)))
+    (λ q. absurd (let z : _≡_ {A = ℕ} 0 1 = cc in omega arith)) e
+  where
+    numbers : (i s w k : ℕ) → SmallNumbers (lent-to-opening g i s w k)
+    numbers i s w k = (omega arith, (omega arith, (omega arith, (omega arith, (omega arith, (omega arith, tt))))))
+opens-small (opens inverse e l I) = refl
+opens-small {p} {g} (finds-singular f witness e l s) =
+    omega (arith, s .kernel .below, opening-accepted p g _ _ _ _ .0 e .1 .size)
+
+module _ {p : ℕ} (P : OddPrime p) (S : Subset) where
+  -- and so is what a session call answers
+  unsound-small : (s : State) {r : Refusal} → soundness p S s ≡ refused r → Small r
+  unfolding soundness ill-formed not-inverse
+  unsound-small s {r} e =
+      small-causes p (graph-of s) (lent-to-session s [])
+      (ill-formed (graph-of s) (s .session .made) (s .sequence) ∷ not-inverse p (graph-of s) (unmatched S (pairs-of s)) (s .inverse) ∷ []) (omega arith, (omega arith, (omega arith, (omega arith, tt)))) (λ q. formed (judged _ 5 _ q)) e
+    where
+      table : Judged (when (not? (inverse-table? p (graph-of s) (unmatched S (pairs-of s)) (s .inverse))) 0) 6 accepted r → Small r
+      table (here x q t) = small 6 x t (omega arith) (omega arith) (omega (arith, place-when (not? (inverse-table? p (graph-of s) (unmatched S (pairs-of s)) (s .inverse))) 0 q))
+      table (there _ t) = absurd (let z : _≡_ {A = ℕ} 0 1 = cc in omega arith)
+
+      formed : Judged (when (not? (well-formed? (graph-of s) (s .session .made) (s .sequence))) 0) 5 (judge (not-inverse p (graph-of s) (unmatched S (pairs-of s)) (s .inverse) ∷ [])) r → Small r
+      formed (here x q t) = small 5 x t (omega arith) (omega arith) (omega (arith, place-when (not? (well-formed? (graph-of s) (s .session .made) (s .sequence))) 0 q))
+      formed (there _ t) = table (judged _ 6 _ t)
+
+  rule-small : (g : Graph) {pairs after : Pairs} {c : Call} {a : Answer} {r : Refusal} → Rule P g S pairs c a after → a ≡ denied r → Small r
+  rule-small g {pairs} {r = r} (pick-refused {a} {b} {r = w} e) q =
+      let t = refused-pick P g S pairs a b {r = w} e in
+      let d : w ≡ r = cc in
+      rw d at (the w (record { cause-from = omega (arith, t .from-7); cause-below = omega (arith, t .to-10); place-below = omega (arith, t .at-0) }))
+    where
+      the : (w : Refusal) → Small w → Small w
+      the w h = h
+  rule-small g {r = r} (none-left _) q = small 11 0 (cc) (omega arith) (omega arith) (omega arith)
+  rule-small g {r = r} (no-pair _) q = small 11 0 (cc) (omega arith) (omega arith) (omega arith)
+  rule-small g {r = r} (undo-refused _ _) q = small 10 0 (cc) (omega arith) (omega arith) (omega arith)
+  rule-small g (picks _) q = absurd (let z : _≡_ {A = ℕ} 0 1 = cc in omega arith)
+  rule-small g (picks-lowest _ _) q = absurd (let z : _≡_ {A = ℕ} 0 1 = cc in omega arith)
+  rule-small g (undoes _ _) q = absurd (let z : _≡_ {A = ℕ} 0 1 = cc in omega arith)
+
+  -- the newest pair of a well-formed sequence has vertices below n
+  newest-below : (s : State) → Sound p S s → (made : ℕ) → made ≡ s .session .made → (e : Pair) (earlier : Pairs) → pairs-on (s .sequence) made ≡ e ∷ earlier
+      → (e .smaller < e .larger) × (e .larger < s .session .size)
+  unfolding pairs-on
+  newest-below s W zero m e earlier q = absurd (let z : _≡_ {A = ℕ} 0 1 = cc in omega arith)
+  newest-below s W (suc k) m e earlier q =
+      let d : record { smaller = getD (s .sequence) (k + k) 0; larger = getD (s .sequence) (k + k + 1) 0 } ≡ e = cc in
+      subst (λ (x : Pair). (x .smaller < x .larger) × (x .larger < s .session .size)) d
+      (W .well-formed .ordered k (omega arith), W .well-formed .below k (omega arith))
+
+  pub handles-small : {s t : State} {c : Call} {a : Answer} → Handles P S s c a t → SmallAnswer a
+  handles-small {s} (unsound r e) = unsound-small s e
+  handles-small {s} {c = c} (refuses r e k) =
+      let I = session-accepted p S s .0 e .1 in
+      rule-small (graph-of s) (step-rule P (graph-of s) S (pairs-of s) c (_, I .as-defined .is-inverse)) k
+  handles-small {s} {c = c} (carries x ps words e k l i) = go _ (change P (graph-of s) S (pairs-of s) c (_, I .as-defined .is-inverse)) (ap (λ t. t .answer) k)
+    where
+      I : Sound p S s
+      I = session-accepted p S s .0 e .1
+
+      below : (y : Pair) → y .smaller < y .larger → y .larger < s .session .size → done y ≡ done x → SmallAnswer (done x)
+      below y o b q = let d : y ≡ x = cc in
+          subst (λ (z : Pair). SmallAnswer (done z)) d (omega (arith, I .in-order .size), omega (arith, I .in-order .size))
+
+      go : (t : Step) → Change P (graph-of s) S (pairs-of s) t → t .answer ≡ done x → SmallAnswer (done x)
+      go _ (appended y f _) q = below y (f .ordered) (f .below) q
+      go _ (removed y earlier w _) q =
+          let h = newest-below s I (s .session .made) refl y earlier w in below y (h .0) (h .1) q
+      go _ (unchanged m) q = absurd (let z : _≡_ {A = ℕ} 0 1 = cc in omega arith)
+
+  -- every session call through the host has an outcome, and no other
+  pub host-handles-some : (s : State) (c : Call) → (k : ℕ) × (t : State) × HostHandles P S s c k t
+  host-handles-some s c =
+      let h = handles-some P S (unpacked-state s) c in
+      (_, _, record { given = h .0; left = h .1; outcome = h .2; numbered = refl; stored = refl })
+
+  pub host-handles-unique : {s t t′ : State} {c : Call} {k k′ : ℕ} → HostHandles P S s c k t → HostHandles P S s c k′ t′ → (k ≡ k′) × (t ≡ t′)
+  host-handles-unique {s} H H′ =
+      let u = handles-unique P S (H .outcome) (H′ .outcome) in (
+        H .numbered ∙ ap₂ (λ a left. answer-number a (left .session)) (u .0) (u .1) ∙ sym (H′ .numbered),
+        H .stored ∙ ap₂ (λ a left. state-stored a left s) (u .0) (u .1) ∙ sym (H′ .stored),
+      )

@@ -1,0 +1,145 @@
+-- What a sequence of bytes is read as, computed with its proof. Assumes nothing.
+use mathlib.Core.Path.{_≡_, refl, sym, _∙_}
+use mathlib.Core.Logic.{_≢_}
+use mathlib.Core.List.{List, [], _∷_}
+use Prim.Native.Nat.{ℕ, zero, suc, _+_, _<_}
+use native.Mathlib.Omega.{arith}
+use native.Mathlib.Decide.{ℕ-discrete, decLt}
+use lib.ListN.{length}
+use Rattle.draws.specs.Draws.{draws}
+use Rattle.skew.specs.Choose.{choose}
+use Rattle.matching.specs.Decision.{because}
+use Rattle.matching.specs.Graph.{largest, pair-count}
+use Rattle.matching.specs.Pairs.{Pair, pair-of}
+use Rattle.matching.specs.Model.{Named, named?}
+use Rattle.matching.specs.Records.{Record, size, share, seed, end, kind, width, four, Begins, begins-size, begins-share, begins-seed, begins-end, Progress, start, sized, seeded, ended, Due, size-due, seed-due, share-due, end-due, among, Same, same?, takes-size, takes-seed, takes-share, takes-end, too-large-size, not-two, stood-already, Reading, unread, Reads, whole, not-due, stops, cut, rejected, goes-on}
+
+pub only-size : {k : ℕ} → k ≢ 1 → ¬ Due start k
+only-size d size-due = d refl
+
+pub only-seed : {n k : ℕ} → k ≢ 3 → ¬ Due (sized n) k
+only-seed d seed-due = d refl
+
+pub only-edges : {n k : ℕ} {weights : List ℕ} {edges : List Pair} → k ≢ 2 → k ≢ 4 → ¬ Due (seeded n weights edges) k
+only-edges c d share-due = c refl
+only-edges c d end-due = d refl
+
+pub nothing-due : {n k : ℕ} {weights : List ℕ} {edges : List Pair} → ¬ Due (ended n weights edges) k
+nothing-due = elim [ ]
+
+pub among-bit : (e : Pair) (edges : List Pair) → among e edges ≢ 0 → among e edges ≡ 1
+unfolding among
+among-bit e [] d = absurd (d refl)
+among-bit e (f ∷ edges) d = go (same? e f) d (among-bit e edges)
+  where
+    go : (c : Dec (Same e f)) → choose c 1 (among e edges) ≢ 0 → (among e edges ≢ 0 → among e edges ≡ 1) → choose c 1 (among e edges) ≡ 1
+    go (yes _) _ _ = refl
+    go (no _) d later = later d
+
+-- a record begins with its kind, and takes its width
+pub begins-kind : {k : ℕ} {body rest : List ℕ} {r : Record} → Begins r (k ∷ body) rest → k ≡ kind r
+begins-kind begins-size = refl
+begins-kind begins-share = refl
+begins-kind begins-seed = refl
+begins-kind begins-end = refl
+
+pub begins-width : {bytes rest : List ℕ} {r : Record} → Begins r bytes rest → length bytes ≡ width r + length rest
+begins-width begins-size = omega arith
+begins-width begins-share = omega arith
+begins-width begins-seed = omega arith
+begins-width begins-end = omega arith
+
+pub same-width : (q r : Record) → kind q ≡ kind r → width q ≡ width r
+same-width (size _) (size _) e = refl
+same-width (size _) (share _ _) e = absurd (omega arith)
+same-width (size _) (seed _) e = absurd (omega arith)
+same-width (size _) end e = absurd (omega arith)
+same-width (share _ _) (size _) e = absurd (omega arith)
+same-width (share _ _) (share _ _) e = refl
+same-width (share _ _) (seed _) e = absurd (omega arith)
+same-width (share _ _) end e = absurd (omega arith)
+same-width (seed _) (size _) e = absurd (omega arith)
+same-width (seed _) (share _ _) e = absurd (omega arith)
+same-width (seed _) (seed _) e = refl
+same-width (seed _) end e = absurd (omega arith)
+same-width end (size _) e = absurd (omega arith)
+same-width end (share _ _) e = absurd (omega arith)
+same-width end (seed _) e = absurd (omega arith)
+same-width end end e = refl
+
+pub begins-with : {k : ℕ} {body rest : List ℕ} {r : Record} → k ≡ kind r → Begins r (kind r ∷ body) rest → Begins r (k ∷ body) rest
+begins-with e b = rw e b
+
+-- where there are fewer bytes than a record of this kind takes, none begins
+pub too-few : {k : ℕ} {body : List ℕ} (q : Record) → k ≡ kind q → length body + 1 < width q → (r : Record) (rest : List ℕ) → ¬ Begins r (k ∷ body) rest
+too-few q e l r rest b = omega (arith, same-width q r (sym e ∙ begins-kind b), begins-width b)
+
+-- a reading with its proof
+pub record Result (len : ℕ) (q : Progress) (at : ℕ) (bytes : List ℕ) : Type 0 where
+  pub reading : Reading
+  pub reads : Reads len q at bytes reading
+
+module _ (len : ℕ) where
+  pub cut-at : {q : Progress} {at k : ℕ} {body : List ℕ} (r : Record) → Due q (kind r) → k ≡ kind r → length body + 1 < width r
+      → Reads len q at (k ∷ body) (unread (because 13 len))
+  cut-at {q} {at} {k} {body} r d e l = cut {q = q} {k = k} {body = body} (rw e d) (too-few r e l)
+
+  -- reading on, where fewer than so many bytes are left
+  abbrev Further : ℕ → Type 0
+  Further more = (q : Progress) (at : ℕ) (bytes : List ℕ) → length bytes < more → Result len q at bytes
+
+  abbrev from-size : {more at k : ℕ} → Further more → Dec (k ≡ 1) → (body : List ℕ) → length body < more → Result len start at (k ∷ body)
+  from-size further (no d) body _ = record { reading = _; reads = not-due (only-size d) }
+  from-size further (yes e) [] _ = record { reading = _; reads = cut-at (size 0) size-due e (omega arith) }
+  from-size {at = at} {k = k} further (yes e) (n ∷ rest) l = judged (decLt largest n)
+    where
+      judged : Dec (largest < n) → Result len start at (k ∷ n ∷ rest)
+      judged (yes h) = record { reading = _; reads = rejected (begins-with {r = size n} e begins-size) (too-large-size h) }
+      judged (no h) =
+          let later = further (sized n) (at + 2) rest (omega arith) in
+          record { reading = later .reading; reads = goes-on (begins-with {r = size n} e begins-size) (takes-size {n = n} (omega arith)) (later .reads) }
+
+  abbrev from-seed : {more n at k : ℕ} → Further more → Dec (k ≡ 3) → (body : List ℕ) → length body < more → Result len (sized n) at (k ∷ body)
+  from-seed further (no d) body _ = record { reading = _; reads = not-due (only-seed d) }
+  from-seed further (yes e) [] _ = record { reading = _; reads = cut-at (seed 0) seed-due e (omega arith) }
+  from-seed further (yes e) (a ∷ []) _ = record { reading = _; reads = cut-at (seed 0) seed-due e (omega arith) }
+  from-seed further (yes e) (a ∷ b ∷ []) _ = record { reading = _; reads = cut-at (seed 0) seed-due e (omega arith) }
+  from-seed further (yes e) (a ∷ b ∷ c ∷ []) _ = record { reading = _; reads = cut-at (seed 0) seed-due e (omega arith) }
+  from-seed {n = n} {at = at} further (yes e) (a ∷ b ∷ c ∷ d ∷ rest) l =
+      let later = further (seeded n (draws (four a b c d) (pair-count n)) []) (at + 5) rest (omega arith) in
+      record { reading = later .reading; reads = goes-on (begins-with {r = seed (four a b c d)} e begins-seed) takes-seed (later .reads) }
+
+  abbrev from-edges : {more n at k : ℕ} {weights : List ℕ} {edges : List Pair} → Further more → Dec (k ≡ 2) → Dec (k ≡ 4) → (body : List ℕ) → length body < more
+      → Result len (seeded n weights edges) at (k ∷ body)
+  from-edges further (no d) (no c) body _ = record { reading = _; reads = not-due (only-edges d c) }
+  from-edges {n = n} {at = at} {weights = weights} {edges = edges} further (no d) (yes e) body l =
+      let later = further (ended n weights edges) (at + 1) body l in
+      record { reading = later .reading; reads = goes-on (begins-with {r = end} e begins-end) takes-end (later .reads) }
+  from-edges further (yes e) _ [] _ = record { reading = _; reads = cut-at (share 0 0) share-due e (omega arith) }
+  from-edges further (yes e) _ (a ∷ []) _ = record { reading = _; reads = cut-at (share 0 0) share-due e (omega arith) }
+  from-edges {n = n} {at = at} {k = k} {weights = weights} {edges = edges} further (yes e) _ (a ∷ b ∷ rest) l =
+      judged (named? n a b) (ℕ-discrete (among (pair-of a b) edges) 0)
+    where
+      judged : Dec (Named n a b) → Dec (among (pair-of a b) edges ≡ 0) → Result len (seeded n weights edges) at (k ∷ a ∷ b ∷ rest)
+      judged (no h) _ = record { reading = _; reads = rejected (begins-with {r = share a b} e begins-share) (not-two h) }
+      judged (yes h) (no d) = record { reading = _; reads = rejected (begins-with {r = share a b} e begins-share) (stood-already h (among-bit _ edges d)) }
+      judged (yes h) (yes z) =
+          let later = further (seeded n weights (pair-of a b ∷ edges)) (at + 3) rest (omega arith) in
+          record { reading = later .reading; reads = goes-on (begins-with {r = share a b} e begins-share) (takes-share h z) (later .reads) }
+
+  -- a record takes a byte at least, so there are no more records than bytes
+  unfoldable pub read-on : (more : ℕ) → Further more
+  unfolding among pair-of draws decLt ℕ-discrete
+  read-on zero q at bytes l = absurd (omega arith)
+  read-on (suc more) start at [] l = record { reading = _; reads = stops size-due }
+  read-on (suc more) start at (k ∷ body) l = from-size (read-on more) (ℕ-discrete k 1) body (omega arith)
+  read-on (suc more) (sized n) at [] l = record { reading = _; reads = stops seed-due }
+  read-on (suc more) (sized n) at (k ∷ body) l = from-seed (read-on more) (ℕ-discrete k 3) body (omega arith)
+  read-on (suc more) (seeded n weights edges) at [] l = record { reading = _; reads = stops end-due }
+  read-on (suc more) (seeded n weights edges) at (k ∷ body) l = from-edges (read-on more) (ℕ-discrete k 2) (ℕ-discrete k 4) body (omega arith)
+  read-on (suc more) (ended n weights edges) at [] l = record { reading = _; reads = whole }
+  read-on (suc more) (ended n weights edges) at (k ∷ rest) l = record { reading = _; reads = not-due nothing-due }
+
+unfoldable pub read : (bytes : List ℕ) → Result (length bytes) start 0 bytes
+unfolding read-on
+read bytes = read-on (length bytes) (length bytes + 1) start 0 bytes (omega arith)
