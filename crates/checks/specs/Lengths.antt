@@ -7,8 +7,8 @@ use native.Mathlib.Decide.{decLt}
 use Rattle.skew.specs.Choose.{choose, choose-yes, choose-no}
 use Rattle.matching.specs.Decision.{Finding, absent, at, when, because, Refusal, Ruling, accepted, refused, Cause, judge, unless}
 use Rattle.matching.specs.Graph.{largest, pair-count}
-use Rattle.matching.specs.Causes.{Lent, lent-always, lent-besides, first-short, too-large, too-short}
-use Rattle.laws.specs.Sound.{when-at, when-absent, judge-accepted, LongEnough, short-absent}
+use Rattle.matching.specs.Causes.{Lent, lent-always, lent-besides, first-short, too-large, too-short, LongEnough}
+use Rattle.laws.specs.Sound.{when-at, when-absent, judge-accepted, short-absent}
 use Rattle.checks.specs.Answers.{then}
 
 -- the first of two findings

@@ -1,26 +1,26 @@
 -- Each session call, and each list of them, has exactly one outcome; and demand 2's "exactly when" for a hand pick. Assumes nothing.
 use mathlib.Core.Path.{_≡_, refl, sym, ap, ap₂, _∙_}
-use mathlib.Core.Logic.{_↔_}
 use mathlib.Core.List.{List, [], _∷_, _++_}
 use Prim.Native.Nat.{ℕ}
 use native.Mathlib.Omega.{arith}
+use lib.ListN.{length}
 use Rattle.modular.specs.Prime.{OddPrime}
 use Rattle.skew.specs.Subset.{Subset}
 use Rattle.matching.specs.Decision.{Ruling, accepted, refused}
 use Rattle.matching.specs.Pairs.{pair-of}
 use Rattle.matching.specs.Session.{State, graph-of, pairs-of, with-pairs}
-use Rattle.matching.specs.Causes.{soundness}
+use Rattle.matching.specs.Causes.{session-ruling}
 use Rattle.matching.specs.Model.{Call, pick, Answer, done, denied, Step, Nonsingular, pick-ruling, Allowed, append, step}
-use Rattle.matching.specs.Calls.{Returned, last-state, model-step, Handles, unsound, refuses, carries, PickedExactly, Runs, none, more}
+use Rattle.matching.specs.Calls.{Returned, state-after, model-step, Handles, unsound, refuses, carries, PickedExactly, Runs, none, more}
 use Rattle.laws.specs.Facts.{step-nonsingular, allowed-of-accepted, accepted-of-allowed, unlike}
 use Rattle.laws.specs.Sound.{session-accepted}
 use Rattle.laws.specs.Determined.{inverse-table-of, inverse-table-unique}
 
 module _ {p : ℕ} (P : OddPrime p) (S : Subset) where
   pub handles-some : (s : State) (c : Call) → (a : Answer) × (t : State) × Handles P S s c a t
-  handles-some s c = go (soundness p S s) refl (model-step P S s c) refl
+  handles-some s c = go (session-ruling p S s) refl (model-step P S s c) refl
     where
-      go : (v : Ruling) → soundness p S s ≡ v → (t : Step) → model-step P S s c ≡ t → (a : Answer) × (t : State) × Handles P S s c a t
+      go : (v : Ruling) → session-ruling p S s ≡ v → (t : Step) → model-step P S s c ≡ t → (a : Answer) × (t : State) × Handles P S s c a t
       go (refused r) e _ _ = (denied r, s, unsound r e)
       go accepted e t q = by-answer (t .answer) refl
         where
@@ -31,7 +31,7 @@ module _ {p : ℕ} (P : OddPrime p) (S : Subset) where
               let J : Nonsingular P (graph-of s) S (t .pairs) =
               rw q at (step-nonsingular P (graph-of s) S (pairs-of s) c (_, I .as-defined .is-inverse)) in
               let h = inverse-table-of P (graph-of s) S (J .1) in
-              (done x, with-pairs (t .pairs) (h .0) s, carries x (t .pairs) (h .0) e (q ∙ rw (← k)) (h .1) (h .2))
+              (done x, with-pairs (graph-of s) (t .pairs) (h .0) s, carries x (t .pairs) (h .0) e (q ∙ rw (← k)) (h .1) (h .2))
 
   pub handles-unique : {s : State} {c : Call} {a a′ : Answer} {t t′ : State} → Handles P S s c a t → Handles P S s c a′ t′ → (a ≡ a′) × (t ≡ t′)
   handles-unique (unsound r e) (unsound r′ e′) = (cc, refl)
@@ -48,7 +48,7 @@ module _ {p : ℕ} (P : OddPrime p) (S : Subset) where
       let a : done y ≡ done y′ = ap (λ u. u .answer) (sym k ∙ k′) in
       let b : ps ≡ ps′ = ap (λ u. u .pairs) (sym k ∙ k′) in
       let w : h ≡ h′ = inverse-table-unique P (graph-of s) S l l′ i (rw (← b) at i′) in
-      (a, ap₂ (λ qs words. with-pairs qs words s) b w)
+      (a, ap₂ (λ qs words. with-pairs (graph-of s) qs words s) b w)
 
   -- a call that is refused hands back the state as it came
   pub refused-keeps : {s t : State} {c : Call} {a : Answer} → Handles P S s c a t → {r : _} → a ≡ denied r → t ≡ s
@@ -72,8 +72,8 @@ module _ {p : ℕ} (P : OddPrime p) (S : Subset) where
 
   -- one call more at the end
   pub runs-more : {s t : State} {calls : List Call} {returned : List Returned} {c : Call} {a : Answer} → Runs P S s calls returned
-      → Handles P S (last-state s returned) c a t → Runs P S s (calls ++ c ∷ []) (returned ++ record { answer = a; state = t } ∷ [])
-  unfolding last-state
+      → Handles P S (state-after s returned (length returned)) c a t → Runs P S s (calls ++ c ∷ []) (returned ++ record { answer = a; state = t } ∷ [])
+  unfolding state-after
   runs-more none h = more h none
   runs-more (more k rest) h = more k (runs-more rest h)
 
@@ -81,23 +81,15 @@ module _ {p : ℕ} (P : OddPrime p) (S : Subset) where
   pub picked-exactly : {s t : State} {a b : ℕ} {answer : Answer} → Handles P S s (pick a b) answer t → PickedExactly P S s a b answer
   unfolding step
   picked-exactly (unsound r e) ok = absurd (let z : _≡_ {A = ℕ} 0 1 = cc in omega arith)
-  picked-exactly {s} {a = a} {b = b} (refuses r e k) ok = go (pick-ruling P (graph-of s) S (pairs-of s) a b) refl k
+  picked-exactly {s} {a = a} {b = b} (refuses r e k) ok = (λ f. absurd (unlike {q = f .0} {r = r} (f .1) refl), λ h. absurd (go (pick-ruling P (graph-of s) S (pairs-of s) a b) refl k h))
     where
-      go : (v : Ruling) → pick-ruling P (graph-of s) S (pairs-of s) a b ≡ v
-          → append P (graph-of s) S (pairs-of s) (pair-of a b) v .answer ≡ denied r
-          → (denied r ≡ done (pair-of a b)) ↔ Allowed P (graph-of s) S (pairs-of s) a b
-      go accepted q k = absurd (unlike {q = pair-of a b} {r = r} refl k)
-      go (refused w) q k = (
-        λ f. absurd (unlike {q = pair-of a b} {r = r} f refl),
-        λ h. absurd (rw q at (accepted-of-allowed P (graph-of s) S (pairs-of s) a b h)),
-      )
-  picked-exactly {s} {a = a} {b = b} (carries x pairs words e k l i) ok = go (pick-ruling P (graph-of s) S (pairs-of s) a b) refl k
+      go : (v : Ruling) → pick-ruling P (graph-of s) S (pairs-of s) a b ≡ v → append (pairs-of s) (pair-of a b) v .answer ≡ denied r
+          → Allowed P (graph-of s) S (pairs-of s) a b → ⊥
+      go accepted q k h = unlike {q = pair-of a b} {r = r} refl k
+      go (refused w) q k h = rw q at (accepted-of-allowed P (graph-of s) S (pairs-of s) a b h)
+  picked-exactly {s} {a = a} {b = b} (carries x pairs words e k l i) ok = (λ _. go (pick-ruling P (graph-of s) S (pairs-of s) a b) refl k, λ _. (x, refl))
     where
-      go : (v : Ruling) → pick-ruling P (graph-of s) S (pairs-of s) a b ≡ v
-          → append P (graph-of s) S (pairs-of s) (pair-of a b) v ≡ record { answer = done x; pairs = pairs }
-          → (done x ≡ done (pair-of a b)) ↔ Allowed P (graph-of s) S (pairs-of s) a b
-      go accepted q k = (
-        λ _. allowed-of-accepted P (graph-of s) S (pairs-of s) a b (rw q tt),
-        λ _. sym (ap (λ u. u .answer) k),
-      )
+      go : (v : Ruling) → pick-ruling P (graph-of s) S (pairs-of s) a b ≡ v → append (pairs-of s) (pair-of a b) v ≡ record { answer = done x; pairs = pairs }
+          → Allowed P (graph-of s) S (pairs-of s) a b
+      go accepted q k = allowed-of-accepted P (graph-of s) S (pairs-of s) a b (rw q tt)
       go (refused w) q k = absurd (unlike {q = x} {r = w} (ap (λ u. u .answer) k) refl)

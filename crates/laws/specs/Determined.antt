@@ -3,7 +3,7 @@
 use mathlib.Core.Path.{_≡_, refl, sym, ap, ap₂, _∙_}
 use mathlib.Core.Logic.{_↔_}
 use mathlib.Core.List.{List, []}
-use Prim.Native.Nat.{ℕ, zero, suc, _+_, _*_, _/_, _%_, _<_}
+use Prim.Native.Nat.{ℕ, zero, suc, _+_, _*_, _/_, _%_, _^_, _<_}
 use native.Mathlib.Nat.{mod-lt}
 use native.Mathlib.Omega.{arith}
 use lib.ListN.{length, getD}
@@ -145,9 +145,9 @@ host-opens-unique P S {b = b} H H′ =
 module _ {p : ℕ} (P : OddPrime p) (g : Graph) (S : Subset) where
   pub opened-exactly : {b a : Buffers} {o : Opening} → Opens p g S b o a → OpenedExactly p g S b o
   opened-exactly (refuses-opening r e) ok = absurd (let z : _≡_ {A = ℕ} 0 1 = cc in omega arith)
-  opened-exactly (opens entries e l h) ok = (λ _. (_, h .is-inverse), λ _. refl)
+  opened-exactly (opens entries e l h) ok = (λ _. (_, h .is-inverse), λ _. (_, refl))
   opened-exactly (finds-singular f w e l s) ok = (
-    λ q. absurd (let z : _≡_ {A = ℕ} 0 1 = cc in omega arith),
+    λ q. absurd (let e = q .1 in let z : _≡_ {A = ℕ} 0 1 = cc in omega arith),
     λ I. absurd (witness-singular P (g .n) (tutte g p) (skew P g S) S (s .kernel) I),
   )
 
@@ -158,8 +158,7 @@ host-opened-exactly {p} P S {n} {answer} {adjacency} {weights} {b} H ok = rw (H 
     g : Graph
     g = over n adjacency (words weights)
 
-    go : {o : Opening} {a : Buffers} → Opens p g S (unpacked b) o a
-        → (opening-number o ≡ opening-number (opened (session n []))) ↔ Invertible p n (tutte g p) S
+    go : {o : Opening} {a : Buffers} → Opens p g S (unpacked b) o a → (opening-number o / 2 ^ 8 % 2 ^ 8 ≡ 1) ↔ Invertible p n (tutte g p) S
     go (refuses-opening r e) = absurd (let z : _≡_ {A = ℕ} 0 1 = cc in omega arith)
     go (opens entries e l h) = (λ _. (_, h .is-inverse), λ _. refl)
     go (finds-singular f w e l s) =

@@ -168,7 +168,7 @@ module _ {p : ℕ} (P : OddPrime p) (g : Graph) (S : Subset) where
   unfolding step
   step-nonsingular pairs (pick a b) I = go (pick-ruling P g S pairs a b) refl
     where
-      go : (v : Ruling) → pick-ruling P g S pairs a b ≡ v → Nonsingular P g S (append P g S pairs (pair-of a b) v .pairs)
+      go : (v : Ruling) → pick-ruling P g S pairs a b ≡ v → Nonsingular P g S (append pairs (pair-of a b) v .pairs)
       go accepted e = allowed-of-accepted pairs a b (rw e tt) .nonsingular
       go (refused r) e = I
   step-nonsingular pairs automatic I = go (automatic-cases pairs I)

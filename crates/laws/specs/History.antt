@@ -4,7 +4,7 @@ use mathlib.Core.Path.{_≡_, refl, sym, ap, _∙_}
 use mathlib.Core.List.{[], _∷_, _++_}
 use Prim.Native.Nat.{ℕ, zero, suc, _≤_, _<_}
 use native.Mathlib.Omega.{arith}
-use native.Mathlib.Decide.{decLt}
+use native.Mathlib.Decide.{ℕ-discrete, decLt}
 use lib.ListN.{length, length-append}
 use Rattle.modular.specs.Prime.{OddPrime}
 use Rattle.skew.specs.Subset.{Subset, _∈_}
@@ -50,7 +50,7 @@ module _ {p : ℕ} (P : OddPrime p) (g : Graph) (S : Subset) where
   unfolding step
   change pairs (pick a b) I = go (pick-ruling P g S pairs a b) refl
     where
-      go : (v : Ruling) → pick-ruling P g S pairs a b ≡ v → Change P g S pairs (append P g S pairs (pair-of a b) v)
+      go : (v : Ruling) → pick-ruling P g S pairs a b ≡ v → Change P g S pairs (append pairs (pair-of a b) v)
       go accepted e =
           let h = allowed-of-accepted P g S pairs a b (rw e tt) in appended (pair-of a b) (fits pairs a b h) (h .nonsingular)
       go (refused r) e = let q : r ≡ because (r .cause) 0 = rw (← refused-pick P g S pairs a b {r = r} e .at-0) in rw q (unchanged (r .cause))
@@ -90,15 +90,30 @@ tails : {a b : Pair} {s t : Pairs} → a ∷ s ≡ b ∷ t → s ≡ t
 tails w = cc
 
 module _ (at : ℕ → Pairs) (moves : (k : ℕ) → Moves (at k) (at (suc k))) where
-  -- e was appended to exactly the earlier pairs, before k
+  -- e was appended to exactly the earlier pairs, before k, and has stood since
   pub record Appended (k : ℕ) (e : Pair) (earlier : Pairs) : Type 0 where
     pub time : ℕ
     pub before : time < k
     pub found : at time ≡ earlier
     pub leaves : at (suc time) ≡ e ∷ earlier
+    pub since : (m : ℕ) → time < m → m ≤ k → length earlier < length (at m)
 
-  later : {k : ℕ} {e : Pair} {earlier : Pairs} → Appended k e earlier → Appended (suc k) e earlier
-  later a = record { time = a .time; before = omega (arith, a .before); found = a .found; leaves = a .leaves }
+  -- what stands at k is longer than what was there before it
+  longer : (k : ℕ) (more : Pairs) (e : Pair) (earlier : Pairs) → at k ≡ more ++ e ∷ earlier → length earlier < length (at k)
+  longer k more e earlier q = rw q (omega (arith, length-append more (e ∷ earlier)))
+
+  later : {k : ℕ} {e : Pair} {earlier : Pairs} → length earlier < length (at (suc k)) → Appended k e earlier → Appended (suc k) e earlier
+  later {k} {e} {earlier} l a = record {
+    time = a .time;
+    before = omega (arith, a .before);
+    found = a .found;
+    leaves = a .leaves;
+    since = λ m h j. go m h j (ℕ-discrete m (suc k));
+  }
+    where
+      go : (m : ℕ) → a .time < m → m ≤ suc k → Dec (m ≡ suc k) → length earlier < length (at m)
+      go m h j (yes q) = rw q l
+      go m h j (no d) = a .since m h (omega arith)
 
   -- so was every pair that stands above those at the start
   pub appended-once : (k : ℕ) (more : Pairs) (e : Pair) (earlier : Pairs) → length (at 0) ≤ length earlier → at k ≡ more ++ e ∷ earlier → Appended k e earlier
@@ -107,9 +122,13 @@ module _ (at : ℕ → Pairs) (moves : (k : ℕ) → Moves (at k) (at (suc k))) 
     where
       go : Moves (at k) (at (suc k)) → (more : Pairs) → at (suc k) ≡ more ++ e ∷ earlier → ((xs : Pairs) → at k ≡ xs ++ e ∷ earlier → Appended k e earlier)
           → Appended (suc k) e earlier
-      go (stays r) more q next = later (next more (sym r ∙ q))
-      go (shrinks x r) more q next = later (next (x ∷ more) (r ∙ ap (λ l. x ∷ l) q))
-      go (grows x r) [] q next =
-          let t = tails (sym r ∙ q) in
-          record { time = k; before = omega arith; found = t; leaves = q }
-      go (grows x r) (y ∷ more) q next = later (next more (tails (sym r ∙ q)))
+      go (stays r) more q next = later (longer (suc k) more e earlier q) (next more (sym r ∙ q))
+      go (shrinks x r) more q next = later (longer (suc k) more e earlier q) (next (x ∷ more) (r ∙ ap (λ l. x ∷ l) q))
+      go (grows x r) [] q next = record {
+        time = k;
+        before = omega arith;
+        found = tails (sym r ∙ q);
+        leaves = q;
+        since = λ m h j. let d : m ≡ suc k = omega arith in rw d (longer (suc k) [] e earlier q);
+      }
+      go (grows x r) (y ∷ more) q next = later (longer (suc k) (y ∷ more) e earlier q) (next more (tails (sym r ∙ q)))

@@ -1,30 +1,33 @@
 -- The host's number: each field is read back, different answers have different numbers, and the low byte is 0 exactly when a call was
 -- carried out; and every call through the host has exactly one outcome. Assumes nothing.
 use mathlib.Core.Path.{_≡_, refl, sym, ap, ap₂, subst, _∙_}
+use mathlib.Core.Logic.{_↔_}
 use mathlib.Core.List.{List, [], _∷_, _++_}
 use Prim.Native.Nat.{ℕ, zero, suc, _+_, _*_, _-_, _/_, _%_, _^_, _≤_, _<_}
 use native.Mathlib.Omega.{arith}
-use native.Mathlib.Decide.{decLt}
+use native.Mathlib.Decide.{ℕ-discrete, decLt}
 use lib.ListN.{length, getD}
 use Rattle.lists.specs.Table.{square-small}
 use Rattle.modular.specs.Prime.{OddPrime}
-use Rattle.skew.specs.Choose.{choose}
+use Rattle.skew.specs.Choose.{choose, choose-yes, choose-no}
 use Rattle.skew.specs.Subset.{Subset}
 use Rattle.matching.specs.Decision.{Refusal, because, First, nowhere, first-at, Finding, absent, at, when, found, not?, Cause, Ruling, accepted, refused, unless, judge}
 use Rattle.matching.specs.Graph.{Graph, largest, pair-count}
 use Rattle.matching.specs.Pairs.{Pair, Pairs, unmatched, pairs-on}
 use Rattle.matching.specs.Session.{Session, State, graph-of, pairs-of}
-use Rattle.matching.specs.Causes.{Lent, lent-to-opening, lent-to-session, opening-causes, first-short, too-large, too-short, bad-cell, bad-weight, first-faulty, first-outside, ill-formed, not-inverse, opening-ruling, soundness}
+use Rattle.matching.specs.Causes.{Lent, lent-to-opening, lent-to-session, opening-causes, first-short, too-large, too-short, bad-cell, bad-weight, first-faulty, first-outside, ill-formed, not-inverse, opening-ruling, session-ruling}
 use Rattle.matching.specs.Decided.{well-formed?, inverse-table?}
 use Rattle.matching.specs.Opening.{Opening, opened, singular, not-opened, Buffers, Opens, refuses-opening, opens, finds-singular}
-use Rattle.matching.specs.Model.{Call, Answer, done, denied, Step, Rule, picks, pick-refused, picks-lowest, none-left, no-pair, undo-refused, undoes}
-use Rattle.matching.specs.Calls.{Handles, unsound, refuses, carries}
-use Rattle.matching.specs.Host.{number, refusal-number, opening-number, answer-number, unpacked-state, state-stored, HostHandles}
+use Rattle.matching.specs.Model.{Call, pick, Answer, done, denied, Allowed, Step, Rule, picks, pick-refused, picks-lowest, none-left, no-pair, undo-refused, undoes}
+use Rattle.matching.specs.Calls.{Handles, unsound, refuses, carries, row-ruling, shows, row-refused}
+use Rattle.matching.specs.Host.{number, refusal-number, opening-number, answer-number, session-back, row-number, unpacked-state, state-stored, HostHandles, HostPickedExactly, HostShowsRow}
 use Rattle.laws.specs.Facts.{refused-pick}
 use Rattle.laws.specs.Rules.{step-rule}
-use Rattle.laws.specs.History.{Change, appended, removed, unchanged, change}
+use Rattle.laws.specs.History.{Change, appended, removed, unchanged, change, Moves, grows, shrinks, stays, change-moves}
+use Rattle.laws.specs.Sequence.{length-pairs-on}
 use Rattle.laws.specs.Sound.{when-absent, opening-accepted, Sound, session-accepted}
-use Rattle.laws.specs.Carried.{handles-some, handles-unique}
+use Rattle.laws.specs.Carried.{handles-some, handles-unique, picked-exactly}
+use Rattle.laws.specs.Outcomes.{row-unique}
 
 module _ (cause kind value made : ℕ) (c : cause < 2 ^ 8) (k : kind < 2 ^ 8) (v : value < 2 ^ 16) where
   pub cause-field : number cause kind value made % 2 ^ 8 ≡ cause
@@ -36,8 +39,8 @@ module _ (cause kind value made : ℕ) (c : cause < 2 ^ 8) (k : kind < 2 ^ 8) (v
   pub value-field : number cause kind value made / 2 ^ 16 % 2 ^ 16 ≡ value
   value-field = omega arith
 
-  pub made-field : number cause kind value made / 2 ^ 32 ≡ made
-  made-field = omega arith
+  pub made-field : made < 2 ^ 8 → number cause kind value made / 2 ^ 32 % 2 ^ 8 ≡ made
+  made-field m = omega arith
 
 -- the two vertices of a value
 pub smaller-field : (smaller larger : ℕ) → smaller < 2 ^ 8 → (smaller + 2 ^ 8 * larger) % 2 ^ 8 ≡ smaller
@@ -105,9 +108,7 @@ opening-numbers n (not-opened q) (not-opened r) h k e = ap not-opened (same-refu
 pub answer-numbers : (a b : Answer) (s t : Session) → SmallAnswer a → SmallAnswer b → answer-number a s ≡ answer-number b t → a ≡ b
 answer-numbers (done x) (done y) s t h k e =
     let v : x .smaller + 2 ^ 8 * x .larger ≡ y .smaller + 2 ^ 8 * y .larger =
-    sym (value-field 0 3 _ (s .made) (omega arith) (omega arith) (omega arith))
-    ∙ ap (λ z. z / 2 ^ 16 % 2 ^ 16) e
-    ∙ value-field 0 3 _ (t .made) (omega arith) (omega arith) (omega arith) in
+    sym (value-field 0 3 _ (s .made) (omega arith) (omega arith) (omega arith)) ∙ ap (λ z. z / 2 ^ 16 % 2 ^ 16) e ∙ value-field 0 3 _ (t .made) (omega arith) (omega arith) (omega arith) in
     let p = sym (smaller-field _ _ (h .0)) ∙ ap (λ z. z % 2 ^ 8) v ∙ smaller-field _ _ (k .0) in
     let q = sym (larger-field _ _ (h .0)) ∙ ap (λ z. z / 2 ^ 8) v ∙ larger-field _ _ (k .0) in
     ap done (ap₂ (λ u w. record { smaller = u; larger = w }) p q)
@@ -196,8 +197,8 @@ opens-small {p} {g} (finds-singular f witness e l s) =
 
 module _ {p : ℕ} (P : OddPrime p) (S : Subset) where
   -- and so is what a session call answers
-  unsound-small : (s : State) {r : Refusal} → soundness p S s ≡ refused r → Small r
-  unfolding soundness ill-formed not-inverse
+  unsound-small : (s : State) {r : Refusal} → session-ruling p S s ≡ refused r → Small r
+  unfolding session-ruling ill-formed not-inverse
   unsound-small s {r} e =
       small-causes p (graph-of s) (lent-to-session s [])
       (ill-formed (graph-of s) (s .session .made) (s .sequence) ∷ not-inverse p (graph-of s) (unmatched S (pairs-of s)) (s .inverse) ∷ []) (omega arith, (omega arith, (omega arith, (omega arith, tt)))) (λ q. formed (judged _ 5 _ q)) e
@@ -267,3 +268,64 @@ module _ {p : ℕ} (P : OddPrime p) (S : Subset) where
         H .numbered ∙ ap₂ (λ a left. answer-number a (left .session)) (u .0) (u .1) ∙ sym (H′ .numbered),
         H .stored ∙ ap₂ (λ a left. state-stored a left s) (u .0) (u .1) ∙ sym (H′ .stored),
       )
+
+  -- the pairs made after an accepted call fit their bits
+  made-small : {s t : State} {c : Call} {e : Pair} → Handles P S s c (done e) t → t .session .made < 2 ^ 8
+  made-small {s} {c = c} (carries x ps words e k l i) =
+      go (rw k at (change-moves _ (change P (graph-of s) S (pairs-of s) c (_, I .as-defined .is-inverse))))
+    where
+      I : Sound p S s
+      I = session-accepted p S s .0 e .1
+
+      go : Moves (pairs-of s) ps → length ps < 2 ^ 8
+      go m = omega (arith, grown m, length-pairs-on (s .sequence) (s .session .made), I .well-formed .few, I .in-order .size)
+        where
+          grown : Moves (pairs-of s) ps → length ps ≤ length (pairs-of s) + 1
+          grown (grows _ q) = rw q (omega arith)
+          grown (shrinks _ q) = omega (arith, ap length q)
+          grown (stays q) = rw q (omega arith)
+
+  -- the session handed back is the one that the number says
+  pub host-session : {s t : State} {c : Call} {k : ℕ} → HostHandles P S s c k t → t .session ≡ session-back k (s .session)
+  host-session {s} {c = c} H = rw (H .stored, H .numbered) (go (H .given) (H .left) (H .outcome) (handles-small (H .outcome)))
+    where
+      size-same : {e : Pair} {left : State} → Handles P S (unpacked-state s) c (done e) left → left .session .size ≡ s .session .size
+      size-same (carries _ _ _ _ _ _ _) = refl
+
+      go : (a : Answer) (left : State) → Handles P S (unpacked-state s) c a left → SmallAnswer a
+          → state-stored a left s .session ≡ session-back (answer-number a (left .session)) (s .session)
+      go (denied r) left h f =
+          sym (choose-no (ℕ-discrete (answer-number (denied r) (left .session) % 2 ^ 8) 0) _ (s .session) (λ z. omega (arith, answer-low-byte (denied r) (left .session) f, f .cause-from)))
+      go (done e) left h f =
+          sym
+          (choose-yes (ℕ-discrete (answer-number (done e) (left .session) % 2 ^ 8) 0) _ (s .session) (answer-low-byte (done e) (left .session) f)
+          ∙ ap₂ (λ x y. record { size = x; made = y }) (sym (size-same h)) (made-field 0 3 (e .smaller + 2 ^ 8 * e .larger) (left .session .made) (omega arith) (omega arith) (omega arith) (made-small h)))
+
+  -- demand 2, second half, through the host
+  pub host-picked-exactly : {s t : State} {a b k : ℕ} → HostHandles P S s (pick a b) k t → HostPickedExactly P S s a b k
+  host-picked-exactly {s} {a = a} {b = b} H ok = rw (H .numbered) (go (H .given) (H .outcome) (handles-small (H .outcome)) (picked-exactly P S (H .outcome) ok))
+    where
+      t : State
+      t = unpacked-state s
+
+      go : (x : Answer) → Handles P S t (pick a b) x (H .left) → SmallAnswer x → ((e : Pair) × (x ≡ done e)) ↔ Allowed P (graph-of t) S (pairs-of t) a b
+          → (answer-number x (H .left .session) % 2 ^ 8 ≡ 0) ↔ Allowed P (graph-of t) S (pairs-of t) a b
+      go (done e) h f d = (λ _. d .0 (e, refl), λ _. answer-low-byte (done e) (H .left .session) f)
+      go (denied r) h f d = (
+        λ z. absurd (omega (arith, answer-low-byte (denied r) (H .left .session) f, f .cause-from)),
+        λ w. absurd (let q = d .1 w .1 in let z : _≡_ {A = ℕ} 0 1 = cc in omega arith),
+      )
+
+  -- open row through the host has an outcome, and no other
+  pub host-row-some : (s : State) (a : ℕ) (row : List ℕ) → (k : ℕ) × (t : State) × (after : List ℕ) × HostShowsRow P S s a row k t after
+  host-row-some s a row = go (row-ruling P S (unpacked-state s) a row) refl
+    where
+      go : (v : Ruling) → row-ruling P S (unpacked-state s) a row ≡ v → (k : ℕ) × (t : State) × (after : List ℕ) × HostShowsRow P S s a row k t after
+      go accepted e = (_, s, _, record { verdict = accepted; outcome = shows e; numbered = refl; same = refl })
+      go (refused r) e = (_, s, row, record { verdict = refused r; outcome = row-refused r e; numbered = refl; same = refl })
+
+  pub host-row-unique : {s t t′ : State} {a k k′ : ℕ} {row after after′ : List ℕ} → HostShowsRow P S s a row k t after → HostShowsRow P S s a row k′ t′ after′
+      → (k ≡ k′) × (t ≡ t′) × (after ≡ after′)
+  host-row-unique {s} H H′ =
+      let u = row-unique P S (H .outcome) (H′ .outcome) in
+      (H .numbered ∙ ap (λ v. row-number v (s .session)) (u .0) ∙ sym (H′ .numbered), H .same ∙ sym (H′ .same), u .2)

@@ -14,7 +14,7 @@ use Rattle.matching.specs.Graph.{Graph, tutte}
 use Rattle.matching.specs.Pairs.{Pair, everything, unmatched}
 use Rattle.matching.specs.Session.{State}
 use Rattle.matching.specs.Opening.{Singular}
-use Rattle.matching.specs.Model.{skew, automatic, run, Nonsingular, PicksToCome}
+use Rattle.matching.specs.Model.{skew, automatic, pairs-after, Nonsingular, PicksToCome}
 use Rattle.matching.specs.Calls.{row-ruling, ShowsRow, shows, row-refused}
 use Rattle.matching.specs.Records.{Reading, sheet, unread, ReadsAs, graph, Read, not-read, graph-read, room, Fills, refuses-records, lacks-room, fills}
 use Rattle.matching.specs.Computed.{read}
@@ -98,7 +98,7 @@ data Listed (n : ℕ) (weights : List ℕ) (edges : List Pair) : List ℕ → Ty
   paired : (m : ℕ) → Nonsingular modulus-prime (graph n weights edges) everything []
       → PicksToCome modulus-prime (graph n weights edges) everything [] m
       → Listed n weights edges
-      (first-line n (length edges) ++ pair-lines (run modulus-prime (graph n weights edges) everything [] (replicate m automatic) .pairs) ++ line-full)
+      (first-line n (length edges) ++ pair-lines (pairs-after modulus-prime (graph n weights edges) everything [] (replicate m automatic) m) ++ line-full)
   witnessed : (f : ℕ) (words : List ℕ) → length words ≡ n → Singular modulus (graph n weights edges) everything f words
       → Listed n weights edges (first-line n (length edges) ++ witness-lines 0 words ++ line-none)
 

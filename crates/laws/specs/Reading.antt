@@ -13,17 +13,17 @@ use Rattle.draws.specs.Laws.{draws-length, draws-range}
 use Rattle.skew.specs.Choose.{choose}
 use Rattle.residue.specs.Modulus.{modulus}
 use Rattle.matching.specs.Decision.{because, accepted, Every}
-use Rattle.matching.specs.Graph.{Graph, over, largest, pair-count, cell, kind-of, fault, InRange}
+use Rattle.matching.specs.Graph.{Graph, over, largest, pair-count, cell, kind-of, fault, InRange, InOrder}
 use Rattle.matching.specs.Pairs.{Pair, pair-of}
 use Rattle.matching.specs.Session.{onto}
 use Rattle.matching.specs.Model.{Named}
-use Rattle.matching.specs.Causes.{lent-graph, opening-ruling, lent-inverse, lent-sequence, lent-witness, lent-work}
-use Rattle.matching.specs.Records.{Record, size, kind, Begins, begins-size, begins-share, begins-seed, begins-end, Progress, start, sized, seeded, ended, Due, size-due, seed-due, share-due, end-due, Same, same?, among, Takes, takes-size, takes-seed, takes-share, takes-end, Rejects, too-large-size, not-two, stood-already, Reading, sheet, unread, Reads, whole, not-due, stops, cut, rejected, goes-on, cells, graph-read, Fills, fills}
+use Rattle.matching.specs.Causes.{lent-graph, opening-ruling, lent-inverse, lent-sequence, lent-witness, lent-work, LongEnough}
+use Rattle.matching.specs.Records.{Record, size, kind, Begins, begins-size, begins-share, begins-seed, begins-end, Progress, start, sized, weighted, ended, Due, size-due, seed-due, share-due, end-due, Same, same?, among, Takes, takes-size, takes-seed, takes-share, takes-end, Rejects, too-large-size, not-two, stood-already, Reading, sheet, unread, Reads, whole, not-due, stops, cut, rejected, goes-on, cells, graph-read, Fills, fills}
 use Rattle.matching.specs.Computed.{nothing-due, begins-kind}
 use Rattle.laws.specs.Facts.{pair-of-smaller, pair-of-larger}
 use Rattle.laws.specs.Onto.{onto-long}
 use Rattle.laws.specs.Faults.{fault-kind, kind-diagonal-zero, kind-equal}
-use Rattle.laws.specs.Sound.{InOrder, LongEnough, opening-accepted}
+use Rattle.laws.specs.Sound.{opening-accepted}
 
 no-record : {A : Type 0} {r : Record} {rest : List ℕ} → Begins r [] rest → A
 no-record = elim [ ]
@@ -118,7 +118,7 @@ pub record Fit (n : ℕ) (weights : List ℕ) (edges : List Pair) : Type 0 where
 abbrev So : Progress → Type 0
 So start = Unit {0}
 So (sized n) = n ≤ largest
-So (seeded n weights edges) = Fit n weights edges
+So (weighted n weights edges) = Fit n weights edges
 So (ended n weights edges) = Fit n weights edges
 
 fit-edge : {n a b : ℕ} {weights : List ℕ} {edges : List Pair} → Named n a b → Fit n weights edges → Fit n weights (pair-of a b ∷ edges)

@@ -27,7 +27,7 @@ module _ {p : ℕ} (P : OddPrime p) (g : Graph) (S : Subset) where
   step-rule pairs (pick a b) I = go (pick-ruling P g S pairs a b) refl
     where
       go : (v : Ruling) → pick-ruling P g S pairs a b ≡ v
-          → Rule P g S pairs (pick a b) (append P g S pairs (pair-of a b) v .answer) (append P g S pairs (pair-of a b) v .pairs)
+          → Rule P g S pairs (pick a b) (append pairs (pair-of a b) v .answer) (append pairs (pair-of a b) v .pairs)
       go accepted e = picks e
       go (refused r) e = pick-refused e
   step-rule pairs automatic I = go (automatic-cases P g S pairs I)
@@ -46,8 +46,8 @@ module _ {p : ℕ} (P : OddPrime p) (g : Graph) (S : Subset) where
   -- what a rule gives, the function gives
   pub rule-step : {pairs after : Pairs} {c : Call} {a : Answer} → Rule P g S pairs c a after → step P g S pairs c ≡ record { answer = a; pairs = after }
   unfolding step
-  rule-step {pairs} (picks {a} {b} e) = ap (append P g S pairs (pair-of a b)) e
-  rule-step {pairs} (pick-refused {a} {b} e) = ap (append P g S pairs (pair-of a b)) e
+  rule-step {pairs} (picks {a} {b} e) = ap (append pairs (pair-of a b)) e
+  rule-step {pairs} (pick-refused {a} {b} e) = ap (append pairs (pair-of a b)) e
   rule-step {pairs} (picks-lowest {c} {r} C R) = from (first? _ (g .n) (in? (unmatched S pairs)))
     where
       with-r : (f : First (g .n) (OpenPartner P g S pairs c)) → with-lowest P g S pairs c f ≡ record { answer = done (pair-of c r); pairs = pair-of c r ∷ pairs }

@@ -9,11 +9,11 @@ use lib.ListN.{length}
 use Rattle.skew.specs.Choose.{choose}
 use Rattle.skew.specs.Subset.{Subset}
 use Rattle.matching.specs.Decision.{because, refused, Every, not?, First, nowhere, first-at, Finding, absent, at, when, found, Cause, accepted, judge, unless}
-use Rattle.matching.specs.Graph.{Graph, largest, pair-count, fault, InRange}
+use Rattle.matching.specs.Graph.{Graph, largest, pair-count, fault, InRange, InOrder}
 use Rattle.matching.specs.Session.{State, graph-of, pairs-of, InverseTable, WellFormed}
 use Rattle.matching.specs.Pairs.{unmatched}
 use Rattle.matching.specs.Decided.{inverse-table?, well-formed?}
-use Rattle.matching.specs.Causes.{Lent, lent-to-opening, opening-causes, lent-to-session, session-causes, too-large, first-short, first-faulty, bad-cell, in-range?, first-outside, bad-weight, ill-formed, not-inverse, opening-ruling, soundness}
+use Rattle.matching.specs.Causes.{Lent, LongEnough, lent-to-opening, opening-causes, lent-to-session, session-causes, too-large, first-short, first-faulty, bad-cell, in-range?, first-outside, bad-weight, ill-formed, not-inverse, opening-ruling, session-ruling}
 
 clash : {A : Type 0} {x : ℕ} → at x ≡ absent → A
 clash e = absurd (let z : _≡_ {A = ℕ} 0 1 = cc in omega arith)
@@ -64,11 +64,6 @@ judge-refused c later x e = rw e
 pub judge-next : (c : Cause) (later : List Cause) → c .finding ≡ absent → judge (c ∷ later) ≡ judge later
 judge-next c later e = rw e
 
--- no buffer of the list is too short
-abbrev pub LongEnough : List Lent → Type 0
-LongEnough [] = Unit {0}
-LongEnough (b ∷ later) = (b .needed ≤ b .length) × LongEnough later
-
 pub short-absent : (buffers : List Lent) → (first-short buffers ≡ absent) ↔ LongEnough buffers
 short-absent [] = (λ _. tt, λ _. refl)
 short-absent (b ∷ later) = go (decLt (b .length) (b .needed)) (short-absent later)
@@ -77,12 +72,6 @@ short-absent (b ∷ later) = go (decLt (b .length) (b .needed)) (short-absent la
         → (choose d (at (b .number)) (first-short later) ≡ absent) ↔ ((b .needed ≤ b .length) × LongEnough later)
     go (yes l) r = (λ e. clash e, λ h. absurd (omega (arith, h .0)))
     go (no l) r = (λ e. (omega arith, r .0 e), λ h. r .1 (h .1))
-
--- a graph in order: at most 96 vertices, every cell without fault, every weight in range
-pub record InOrder (p : ℕ) (g : Graph) : Type 0 where
-  pub size : g .n ≤ largest
-  pub cells : Every (g .n * g .n) (λ x. fault g (x / g .n) (x % g .n) ≡ 0)
-  pub weights : Every (pair-count (g .n)) (InRange g p)
 
 stable : {A : Type 0} → Dec A → ¬ ¬ A → A
 stable (yes a) _ = a
@@ -146,8 +135,8 @@ session-in-order p S s more =
           (k .0, (k .1 .0, (k .1 .1 .0, (k .1 .1 .1 .0, (w .1 (c .1 .well-formed), (h .1 (c .1 .as-defined), tt)))))),
     )
 
-pub session-accepted : (p : ℕ) (S : Subset) (s : State) → (soundness p S s ≡ accepted) ↔ (LongEnough (lent-to-session s []) × Sound p S s)
-unfolding soundness
+pub session-accepted : (p : ℕ) (S : Subset) (s : State) → (session-ruling p S s ≡ accepted) ↔ (LongEnough (lent-to-session s []) × Sound p S s)
+unfolding session-ruling
 session-accepted p S s =
     let r = judge-accepted (session-causes p S s []) in
     let o = session-in-order p S s [] in

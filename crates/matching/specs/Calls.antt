@@ -10,9 +10,9 @@ use Rattle.lists.specs.Values.{list-of}
 use Rattle.modular.specs.Prime.{OddPrime}
 use Rattle.skew.specs.Subset.{Subset}
 use Rattle.matching.specs.Decision.{Refusal, Ruling, accepted, refused, judge}
-use Rattle.matching.specs.Pairs.{Pair, pair-of, Pairs, unmatched, in?}
+use Rattle.matching.specs.Pairs.{Pair, Pairs, unmatched, in?}
 use Rattle.matching.specs.Session.{State, graph-of, pairs-of, with-pairs, InverseTable, onto}
-use Rattle.matching.specs.Causes.{lent-row, session-causes, soundness}
+use Rattle.matching.specs.Causes.{lent-row, session-causes, session-ruling}
 use Rattle.matching.specs.Model.{Call, Answer, done, denied, Step, needs, pick-ruling, Allowed, step}
 
 -- what a call returns: the answer, and the state handed back
@@ -25,17 +25,6 @@ unfoldable pub state-after : State → List Returned → ℕ → State
 state-after s returned zero = s
 state-after s [] (suc k) = s
 state-after s (r ∷ later) (suc k) = state-after (r .state) later k
-
--- the state after all of them
-unfoldable pub last-state : State → List Returned → State
-last-state s [] = s
-last-state s (r ∷ later) = last-state (r .state) later
-
--- call k, counted from 0, was answered so
-unfoldable pub Answered : List Returned → ℕ → Answer → Type 0
-Answered [] k a = ⊥
-Answered (r ∷ later) zero a = r .answer ≡ a
-Answered (r ∷ later) (suc k) a = Answered later k a
 
 -- 1 where a pick is accepted, else 0
 abbrev pub bit-of : Ruling → ℕ
@@ -51,17 +40,17 @@ module _ {p : ℕ} (P : OddPrime p) (S : Subset) where
   -- hand pick, automatic pick and take-back: the answer, and the state handed back. A refused call changes nothing; an accepted one
   -- leaves the model's pairs and the inverse for the vertices then left
   pub data Handles (s : State) (c : Call) : Answer → State → Type 0 where
-    unsound : (r : Refusal) → soundness p S s ≡ refused r → Handles s c (denied r) s
-    refuses : (r : Refusal) → soundness p S s ≡ accepted → model-step s c .answer ≡ denied r → Handles s c (denied r) s
-    carries : (e : Pair) (pairs : Pairs) (inverse : List ℕ) → soundness p S s ≡ accepted
+    unsound : (r : Refusal) → session-ruling p S s ≡ refused r → Handles s c (denied r) s
+    refuses : (r : Refusal) → session-ruling p S s ≡ accepted → model-step s c .answer ≡ denied r → Handles s c (denied r) s
+    carries : (e : Pair) (pairs : Pairs) (inverse : List ℕ) → session-ruling p S s ≡ accepted
         → model-step s c ≡ record { answer = done e; pairs = pairs }
         → length inverse ≡ s .session .size * s .session .size → InverseTable p (graph-of s) (unmatched S pairs) inverse
-        → Handles s c (done e) (with-pairs pairs inverse s)
+        → Handles s c (done e) (with-pairs (graph-of s) pairs inverse s)
 
   -- demand 2, second half: on a sound session a hand pick is accepted exactly when `Allowed`. It follows from `Handles`.
   abbrev pub PickedExactly : State → (a b : ℕ) → Answer → Type 0
   PickedExactly s a b answer =
-      soundness p S s ≡ accepted → ((answer ≡ done (pair-of a b)) ↔ Allowed P (graph-of s) S (pairs-of s) a b)
+      session-ruling p S s ≡ accepted → (((e : Pair) × (answer ≡ done e)) ↔ Allowed P (graph-of s) S (pairs-of s) a b)
 
   -- a list of calls, each given the state that the last one handed back, and what each returned
   pub data Runs : State → List Call → List Returned → Type 0 where
@@ -76,7 +65,7 @@ module _ {p : ℕ} (P : OddPrime p) (S : Subset) where
 
   -- open row of a: causes 1 to 6, with the row among the lent buffers, then 7 and 8 of a itself
   unfoldable pub row-ruling : State → ℕ → List ℕ → Ruling
-  unfolding soundness decLt
+  unfolding session-ruling decLt
   row-ruling s a row =
       judge
       (session-causes p S s (lent-row (s .session .size) (length row) ∷ [])

@@ -1,7 +1,7 @@
 -- The causes 1 to 6 of document 01's table, each with its place, and the order in which opening and the session calls look at them.
 -- Causes 7 to 11 are in Model, 12 to 15 in Records. Assumes nothing.
 use mathlib.Core.List.{List, [], _∷_, _++_}
-use Prim.Native.Nat.{ℕ, _*_, _/_, _%_}
+use Prim.Native.Nat.{ℕ, _*_, _/_, _%_, _≤_}
 use native.Mathlib.Decide.{ℕ-discrete, decLt}
 use lib.ListN.{length, getD}
 use Rattle.skew.specs.Choose.{choose}
@@ -18,8 +18,8 @@ pub record Lent : Type 0 where
   pub length : ℕ
   pub needed : ℕ
 
--- the buffers by their lengths, for n vertices: 1 adjacency (share), 2 weights (draws), 3 inverse (held), 4 sequence (strip), 5 witness,
--- 6 work, 7 row
+-- the buffers by their lengths, for n vertices: 1 adjacency (document 01: share), 2 weights (draws), 3 inverse (held), 4 sequence (strip),
+-- 5 witness, 6 work, 7 row
 abbrev pub lent-adjacency : (n length : ℕ) → Lent
 lent-adjacency n length = record { number = 1; length = length; needed = n * n }
 
@@ -52,6 +52,11 @@ lent-always n adjacency weights inverse sequence =
 
 abbrev pub lent-besides : (n witness work : ℕ) → List Lent
 lent-besides n witness work = lent-witness n witness ∷ lent-work n work ∷ []
+
+-- no buffer of the list is too short
+abbrev pub LongEnough : List Lent → Type 0
+LongEnough [] = Unit {0}
+LongEnough (b ∷ later) = (b .needed ≤ b .length) × LongEnough later
 
 -- 1: size above 96
 abbrev pub too-large : ℕ → Cause
@@ -91,7 +96,7 @@ unfoldable pub ill-formed : Graph → ℕ → List ℕ → Cause
 unfolding well-formed?
 ill-formed g made sequence = record { number = 5; finding = when (not? (well-formed? g made sequence)) 0 }
 
--- 6: the inverse (held) not as defined, or no inverse for the vertices left
+-- 6: the inverse not as defined, or no inverse for the vertices left
 unfoldable pub not-inverse : ℕ → Graph → Subset → List ℕ → Cause
 unfolding inverse-table?
 not-inverse p g L inverse = record { number = 6; finding = when (not? (inverse-table? p g L inverse)) 0 }
@@ -121,6 +126,6 @@ session-causes p S s more =
     ∷ not-inverse p (graph-of s) (unmatched S (pairs-of s)) (s .inverse)
     ∷ []
 
-unfoldable pub soundness : ℕ → Subset → State → Ruling
+unfoldable pub session-ruling : ℕ → Subset → State → Ruling
 unfolding bad-cell bad-weight ill-formed not-inverse
-soundness p S s = judge (session-causes p S s [])
+session-ruling p S s = judge (session-causes p S s [])

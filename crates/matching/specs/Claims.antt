@@ -7,20 +7,20 @@ use lib.ListN.{length, getD, take, replicate}
 use Rattle.lists.specs.Table.{vector}
 use Rattle.residue.specs.Modulus.{modulus, modulus-prime}
 use Rattle.skew.specs.Decide.{first-dependent?}
-use Rattle.matching.specs.Decision.{Refusal, every?, accepted, refused}
+use Rattle.matching.specs.Decision.{Refusal, Ruling, every?, accepted, refused}
 use Rattle.matching.specs.Graph.{Graph, over, pair-count, tutte}
 use Rattle.matching.specs.Pairs.{Pair, everything, unmatched}
 use Rattle.matching.specs.Session.{Session, session, State, graph-of, with-pairs, InverseTable, onto}
 use Rattle.matching.specs.Decided.{inverse-table?, witness?}
-use Rattle.matching.specs.Causes.{soundness}
+use Rattle.matching.specs.Causes.{session-ruling}
 use Rattle.matching.specs.Opening.{Opening, opened, singular, not-opened, Buffers, Singular, Opens, opens, refuses-opening, finds-singular, with-inverse, with-witness, ruling}
 use Rattle.matching.specs.Display.{Part, display}
-use Rattle.matching.specs.Model.{Call, automatic, Answer, done, denied, skew, Nonsingular, nonsingular?, run, PicksToCome}
+use Rattle.matching.specs.Model.{Call, automatic, Answer, done, denied, skew, Nonsingular, nonsingular?, answered, pairs-after, PicksToCome}
 use Rattle.matching.specs.Calls.{Returned, model-step, Handles, unsound, refuses, carries, Runs, none, more, row-ruling, open-row, ShowsRow, shows, row-refused}
 use Rattle.matching.specs.Records.{Reading, sheet, unread, ReadsAs, cells, graph, Read, graph-read, not-read, room, Fills, lacks-room, fills}
 use Rattle.matching.specs.Computed.{read}
 use Rattle.matching.specs.Listing.{input-limit, first-line, pair-lines, witness-lines, line-full, line-none, refused-line, Lists, refuses-sheet, pairs-up, shows-witness}
-use Rattle.matching.specs.Host.{opening-number, answer-number, words, bytes-of, unpacked-state, state-stored, HostHandles}
+use Rattle.matching.specs.Host.{opening-number, answer-number, row-number, words, bytes-of, unpacked-state, state-stored, HostHandles}
 
 -- n vertices with these edges and weights
 abbrev pub linked : ℕ → List Pair → List ℕ → Graph
@@ -86,19 +86,20 @@ pub data Claim : Type 0 where
   reads : List ℕ → Reading → Claim
   -- reading these bytes into an adjacency table and weights gives this answer, and leaves these
   filling : List ℕ → List ℕ → List ℕ → Read → List ℕ → List ℕ → Claim
-  -- this input opens, is paired up, and is listed so
+  -- this input is listed so: as one that opens,
   lists : List ℕ → List ℕ → Claim
-  -- this input has this witness, and is listed so
+  -- as one with this witness of this column,
   lists-witness : List ℕ → ℕ → List ℕ → List ℕ → Claim
-  -- this input is refused, and is listed so
+  -- and as one that is refused
   lists-refusal : List ℕ → Refusal → List ℕ → Claim
-  -- the host's number of an opening, and of an answer with the session after it
+  -- the host's number of an opening, and of an answer or an open row with the session after it
   host-opening : Opening → ℕ → Claim
   host-answer : Answer → Session → ℕ → Claim
+  host-row : Ruling → Session → ℕ → Claim
   -- the words of a byte slice, and the bytes of words over a byte slice
   host-words : List ℕ → List ℕ → Claim
   host-bytes : List ℕ → List ℕ → List ℕ → Claim
-  -- a call through the host on a state of bytes is accepted with this pair: the words that it leaves, the number, and the bytes afterwards
+  -- a call through the host on a state of bytes: the number, and the bytes afterwards; with the pair, and the words left
   host-handled : State → Call → Pair → State → ℕ → State → Claim
 
 -- buffers of just the length that is needed, full of something else
@@ -117,14 +118,14 @@ Holds (opening g inverse) =
 Holds (witness g f words) =
     Opens modulus g everything (before (g .n)) (singular f) (full (g .n) (replicate (g .n * g .n) 0) words)
 Holds (not-opening g b r) = Opens modulus g everything b (not-opened r) b
-Holds (model g calls given) = run modulus-prime g everything [] calls .answers ≡ given
-Holds (answers g calls given) = Nonsingular modulus-prime g everything [] × (run modulus-prime g everything [] calls .answers ≡ given)
+Holds (model g calls given) = answered modulus-prime g everything [] calls ≡ given
+Holds (answers g calls given) = Nonsingular modulus-prime g everything [] × (answered modulus-prime g everything [] calls ≡ given)
 Holds (afterwards g calls inverse) =
     Nonsingular modulus-prime g everything []
     × (length inverse ≡ g .n * g .n)
-    × InverseTable modulus g (unmatched everything (run modulus-prime g everything [] calls .pairs)) inverse
-Holds (by-hand s c r) = (soundness modulus everything s ≡ accepted) × Handles modulus-prime everything s c (denied r) s
-Holds (spoiled s c r) = (soundness modulus everything s ≡ refused r) × Handles modulus-prime everything s c (denied r) s
+    × InverseTable modulus g (unmatched everything (pairs-after modulus-prime g everything [] calls (length calls))) inverse
+Holds (by-hand s c r) = (session-ruling modulus everything s ≡ accepted) × Handles modulus-prime everything s c (denied r) s
+Holds (spoiled s c r) = (session-ruling modulus everything s ≡ refused r) × Handles modulus-prime everything s c (denied r) s
 Holds (handled s c e t) = Handles modulus-prime everything s c (done e) t
 Holds (ran s calls returned) = Runs modulus-prime everything s calls returned
 Holds (row s a old new) = ShowsRow modulus-prime everything s a old accepted s new
@@ -137,6 +138,7 @@ Holds (lists-witness input f words text) = Lists input text
 Holds (lists-refusal input r text) = Lists input text
 Holds (host-opening o k) = opening-number o ≡ k
 Holds (host-answer a s k) = answer-number a s ≡ k
+Holds (host-row v s k) = row-number v s ≡ k
 Holds (host-words bytes ws) = words bytes ≡ ws
 Holds (host-bytes ws old new) = onto (bytes-of ws) old ≡ new
 Holds (host-handled s c e left k after) = HostHandles modulus-prime everything s c k after
@@ -176,11 +178,11 @@ ShownHandled s c e t =
     let size = s .session .size in
     let pairs = model-step modulus-prime everything s c .pairs in
     let inverse = take (size * size) (t .inverse) in
-    (soundness modulus everything s ≡ accepted)
+    (session-ruling modulus everything s ≡ accepted)
     × (model-step modulus-prime everything s c .answer ≡ done e)
     × (length inverse ≡ size * size)
     × IsYes (inverse-table? modulus (graph-of s) (unmatched everything pairs) inverse)
-    × (with-pairs pairs inverse s ≡ t)
+    × (with-pairs (graph-of s) pairs inverse s ≡ t)
 
 shown-handled : (s : State) (c : Call) (e : Pair) (t : State) → ShownHandled s c e t → Handles modulus-prime everything s c (done e) t
 unfolding ShownHandled
@@ -191,7 +193,7 @@ shown-handled s c e t h =
 unfoldable pub ShownReturned : State → Call → Answer → State → Type 0
 ShownReturned s c (done e) t = ShownHandled s c e t
 ShownReturned s c (denied r) t =
-    (soundness modulus everything s ≡ accepted) × (model-step modulus-prime everything s c .answer ≡ denied r) × (s ≡ t)
+    (session-ruling modulus everything s ≡ accepted) × (model-step modulus-prime everything s c .answer ≡ denied r) × (s ≡ t)
 
 shown-returned : (s : State) (c : Call) (a : Answer) (t : State) → ShownReturned s c a t → Handles modulus-prime everything s c a t
 unfolding ShownReturned
@@ -224,7 +226,7 @@ ShownListed (unread r) text = ⊥
 ShownListed (sheet n weights edges) text =
     IsYes (nonsingular? modulus-prime (graph n weights edges) everything [])
     × PicksToCome modulus-prime (graph n weights edges) everything [] (n / 2)
-    × (first-line n (length edges) ++ pair-lines (run modulus-prime (graph n weights edges) everything [] (replicate (n / 2) automatic) .pairs) ++ line-full ≡ text)
+    × (first-line n (length edges) ++ pair-lines (pairs-after modulus-prime (graph n weights edges) everything [] (replicate (n / 2) automatic) (n / 2)) ++ line-full ≡ text)
 
 listed : (input text : List ℕ) (r : Reading) → read (take input-limit input) .reading ≡ r → ShownListed r text → Lists input text
 unfolding ShownListed
@@ -279,15 +281,15 @@ Shown (witness g f words) =
     × (with-witness (g .n) words (before (g .n)) ≡ full (g .n) (replicate (g .n * g .n) 0) words)
     × ShownSingular g f words
 Shown (not-opening g b r) = ruling modulus g b ≡ refused r
-Shown (model g calls given) = run modulus-prime g everything [] calls .answers ≡ given
+Shown (model g calls given) = answered modulus-prime g everything [] calls ≡ given
 Shown (answers g calls given) =
-    IsYes (nonsingular? modulus-prime g everything []) × (run modulus-prime g everything [] calls .answers ≡ given)
+    IsYes (nonsingular? modulus-prime g everything []) × (answered modulus-prime g everything [] calls ≡ given)
 Shown (afterwards g calls inverse) =
     IsYes (nonsingular? modulus-prime g everything [])
     × (length inverse ≡ g .n * g .n)
-    × IsYes (inverse-table? modulus g (unmatched everything (run modulus-prime g everything [] calls .pairs)) inverse)
-Shown (by-hand s c r) = (soundness modulus everything s ≡ accepted) × (model-step modulus-prime everything s c .answer ≡ denied r)
-Shown (spoiled s c r) = soundness modulus everything s ≡ refused r
+    × IsYes (inverse-table? modulus g (unmatched everything (pairs-after modulus-prime g everything [] calls (length calls))) inverse)
+Shown (by-hand s c r) = (session-ruling modulus everything s ≡ accepted) × (model-step modulus-prime everything s c .answer ≡ denied r)
+Shown (spoiled s c r) = session-ruling modulus everything s ≡ refused r
 Shown (handled s c e t) = ShownHandled s c e t
 Shown (ran s calls returned) = ShownRun s calls returned
 Shown (row s a old new) =
@@ -301,6 +303,7 @@ Shown (lists-witness input f words text) = ShownWitness (read (take input-limit 
 Shown (lists-refusal input r text) = (read (take input-limit input) .reading ≡ unread r) × (refused-line r ≡ text)
 Shown (host-opening o k) = opening-number o ≡ k
 Shown (host-answer a s k) = answer-number a s ≡ k
+Shown (host-row v s k) = row-number v s ≡ k
 Shown (host-words bytes ws) = words bytes ≡ ws
 Shown (host-bytes ws old new) = onto (bytes-of ws) old ≡ new
 Shown (host-handled s c e left k after) =
@@ -335,6 +338,7 @@ enough (lists-refusal input r text) e =
     subst (λ (t : List ℕ). Lists input t) (e .1) (refuses-sheet (shown-read (take input-limit input) (e .0)))
 enough (host-opening o k) e = e
 enough (host-answer a s k) e = e
+enough (host-row v s k) e = e
 enough (host-words bytes ws) e = e
 enough (host-bytes ws old new) e = e
 enough (host-handled s c x left k after) e =

@@ -12,7 +12,7 @@ use Rattle.matching.specs.Decision.{because}
 use Rattle.matching.specs.Graph.{largest, pair-count}
 use Rattle.matching.specs.Pairs.{Pair, pair-of}
 use Rattle.matching.specs.Model.{Named, named?}
-use Rattle.matching.specs.Records.{Record, size, share, seed, end, kind, width, four, Begins, begins-size, begins-share, begins-seed, begins-end, Progress, start, sized, seeded, ended, Due, size-due, seed-due, share-due, end-due, among, Same, same?, takes-size, takes-seed, takes-share, takes-end, too-large-size, not-two, stood-already, Reading, unread, Reads, whole, not-due, stops, cut, rejected, goes-on}
+use Rattle.matching.specs.Records.{Record, size, share, seed, end, kind, width, four, Begins, begins-size, begins-share, begins-seed, begins-end, Progress, start, sized, weighted, ended, Due, size-due, seed-due, share-due, end-due, among, Same, same?, takes-size, takes-seed, takes-share, takes-end, too-large-size, not-two, stood-already, Reading, unread, Reads, whole, not-due, stops, cut, rejected, goes-on}
 
 pub only-size : {k : ℕ} → k ≢ 1 → ¬ Due start k
 only-size d size-due = d refl
@@ -20,7 +20,7 @@ only-size d size-due = d refl
 pub only-seed : {n k : ℕ} → k ≢ 3 → ¬ Due (sized n) k
 only-seed d seed-due = d refl
 
-pub only-edges : {n k : ℕ} {weights : List ℕ} {edges : List Pair} → k ≢ 2 → k ≢ 4 → ¬ Due (seeded n weights edges) k
+pub only-edges : {n k : ℕ} {weights : List ℕ} {edges : List Pair} → k ≢ 2 → k ≢ 4 → ¬ Due (weighted n weights edges) k
 only-edges c d share-due = c refl
 only-edges c d end-due = d refl
 
@@ -106,11 +106,11 @@ module _ (len : ℕ) where
   from-seed further (yes e) (a ∷ b ∷ []) _ = record { reading = _; reads = cut-at (seed 0) seed-due e (omega arith) }
   from-seed further (yes e) (a ∷ b ∷ c ∷ []) _ = record { reading = _; reads = cut-at (seed 0) seed-due e (omega arith) }
   from-seed {n = n} {at = at} further (yes e) (a ∷ b ∷ c ∷ d ∷ rest) l =
-      let later = further (seeded n (draws (four a b c d) (pair-count n)) []) (at + 5) rest (omega arith) in
+      let later = further (weighted n (draws (four a b c d) (pair-count n)) []) (at + 5) rest (omega arith) in
       record { reading = later .reading; reads = goes-on (begins-with {r = seed (four a b c d)} e begins-seed) takes-seed (later .reads) }
 
   abbrev from-edges : {more n at k : ℕ} {weights : List ℕ} {edges : List Pair} → Further more → Dec (k ≡ 2) → Dec (k ≡ 4) → (body : List ℕ) → length body < more
-      → Result len (seeded n weights edges) at (k ∷ body)
+      → Result len (weighted n weights edges) at (k ∷ body)
   from-edges further (no d) (no c) body _ = record { reading = _; reads = not-due (only-edges d c) }
   from-edges {n = n} {at = at} {weights = weights} {edges = edges} further (no d) (yes e) body l =
       let later = further (ended n weights edges) (at + 1) body l in
@@ -120,11 +120,11 @@ module _ (len : ℕ) where
   from-edges {n = n} {at = at} {k = k} {weights = weights} {edges = edges} further (yes e) _ (a ∷ b ∷ rest) l =
       judged (named? n a b) (ℕ-discrete (among (pair-of a b) edges) 0)
     where
-      judged : Dec (Named n a b) → Dec (among (pair-of a b) edges ≡ 0) → Result len (seeded n weights edges) at (k ∷ a ∷ b ∷ rest)
+      judged : Dec (Named n a b) → Dec (among (pair-of a b) edges ≡ 0) → Result len (weighted n weights edges) at (k ∷ a ∷ b ∷ rest)
       judged (no h) _ = record { reading = _; reads = rejected (begins-with {r = share a b} e begins-share) (not-two h) }
       judged (yes h) (no d) = record { reading = _; reads = rejected (begins-with {r = share a b} e begins-share) (stood-already h (among-bit _ edges d)) }
       judged (yes h) (yes z) =
-          let later = further (seeded n weights (pair-of a b ∷ edges)) (at + 3) rest (omega arith) in
+          let later = further (weighted n weights (pair-of a b ∷ edges)) (at + 3) rest (omega arith) in
           record { reading = later .reading; reads = goes-on (begins-with {r = share a b} e begins-share) (takes-share h z) (later .reads) }
 
   -- a record takes a byte at least, so there are no more records than bytes
@@ -135,8 +135,8 @@ module _ (len : ℕ) where
   read-on (suc more) start at (k ∷ body) l = from-size (read-on more) (ℕ-discrete k 1) body (omega arith)
   read-on (suc more) (sized n) at [] l = record { reading = _; reads = stops seed-due }
   read-on (suc more) (sized n) at (k ∷ body) l = from-seed (read-on more) (ℕ-discrete k 3) body (omega arith)
-  read-on (suc more) (seeded n weights edges) at [] l = record { reading = _; reads = stops end-due }
-  read-on (suc more) (seeded n weights edges) at (k ∷ body) l = from-edges (read-on more) (ℕ-discrete k 2) (ℕ-discrete k 4) body (omega arith)
+  read-on (suc more) (weighted n weights edges) at [] l = record { reading = _; reads = stops end-due }
+  read-on (suc more) (weighted n weights edges) at (k ∷ body) l = from-edges (read-on more) (ℕ-discrete k 2) (ℕ-discrete k 4) body (omega arith)
   read-on (suc more) (ended n weights edges) at [] l = record { reading = _; reads = whole }
   read-on (suc more) (ended n weights edges) at (k ∷ rest) l = record { reading = _; reads = not-due nothing-due }
 

@@ -4,13 +4,16 @@ use mathlib.Core.Path.{_≡_}
 use mathlib.Core.Logic.{_↔_}
 use mathlib.Core.List.{List, [], _∷_}
 use Prim.Native.Nat.{ℕ, _+_, _*_, _/_, _%_, _^_}
+use native.Mathlib.Decide.{ℕ-discrete}
 use Rattle.modular.specs.Prime.{OddPrime}
+use Rattle.skew.specs.Choose.{choose}
 use Rattle.skew.specs.Subset.{Subset}
 use Rattle.skew.specs.Inverse.{Invertible}
 use Rattle.matching.specs.Decision.{Refusal, Ruling, accepted, refused}
 use Rattle.matching.specs.Graph.{over, tutte}
-use Rattle.matching.specs.Session.{Session, session, State, onto}
-use Rattle.matching.specs.Model.{Call, Answer, done, denied}
+use Rattle.matching.specs.Session.{Session, State, graph-of, pairs-of, onto}
+use Rattle.matching.specs.Model.{Call, Answer, done, denied, Allowed}
+use Rattle.matching.specs.Causes.{session-ruling}
 use Rattle.matching.specs.Opening.{Opening, opened, singular, not-opened, Buffers, ruling, Opens}
 use Rattle.matching.specs.Calls.{Handles, ShowsRow}
 
@@ -25,7 +28,7 @@ unfoldable pub bytes-of : List ℕ → List ℕ
 bytes-of [] = []
 bytes-of (w ∷ rest) = w % 256 ∷ w / 256 % 256 ∷ bytes-of rest
 
--- the one number of a call. Bits 0 to 7: the cause, 0 when none; 8 to 15: the kind of answer; 16 to 31: a value; from 32 on: the pairs made
+-- the one number of a call. Bits 0 to 7: the cause, 0 when none; 8 to 15: the kind of answer; 16 to 31: a value; 32 to 39: the pairs made
 abbrev pub number : (cause kind value made : ℕ) → ℕ
 number cause kind value made = cause + 2 ^ 8 * kind + 2 ^ 16 * value + 2 ^ 32 * made
 
@@ -43,6 +46,10 @@ opening-number (not-opened r) = refusal-number r
 abbrev pub answer-number : Answer → Session → ℕ
 answer-number (done e) s = number 0 3 (e .smaller + 2 ^ 8 * e .larger) (s .made)
 answer-number (denied r) s = refusal-number r
+
+-- the session that a number hands back: the size is the one sent, and a refused call's session is the one sent
+abbrev pub session-back : ℕ → Session → Session
+session-back answer s = choose (ℕ-discrete (answer % 2 ^ 8) 0) (record { size = s .size; made = answer / 2 ^ 32 % 2 ^ 8 }) s
 
 -- kind 4: a row written
 abbrev pub row-number : Ruling → Session → ℕ
@@ -80,7 +87,7 @@ pub record HostOpens (p n : ℕ) (adjacency weights : List ℕ) (S : Subset) (b 
 abbrev pub HostOpenedExactly : ℕ → ℕ → (adjacency weights : List ℕ) → Subset → Buffers → ℕ → Type 0
 HostOpenedExactly p n adjacency weights S b answer =
     ruling p (over n adjacency (words weights)) (unpacked b) ≡ accepted
-    → ((answer ≡ opening-number (opened (session n []))) ↔ Invertible p n (tutte (over n adjacency (words weights)) p) S)
+    → ((answer / 2 ^ 8 % 2 ^ 8 ≡ 1) ↔ Invertible p n (tutte (over n adjacency (words weights)) p) S)
 
 -- a session's state whose weights and inverse are the host's bytes, read as words
 abbrev pub unpacked-state : State → State
@@ -92,11 +99,11 @@ unpacked-state s = record {
   sequence = s .sequence;
 }
 
--- the state left, stored over the host's bytes; the weights are not written. On a refusal all is as it came
+-- the state left, stored over the host's bytes; the tables are not written. On a refusal all is as it came
 abbrev pub state-stored : Answer → State → State → State
 state-stored (done e) left s = record {
   session = left .session;
-  adjacency = left .adjacency;
+  adjacency = s .adjacency;
   weights = s .weights;
   inverse = onto (bytes-of (left .inverse)) (s .inverse);
   sequence = left .sequence;
@@ -104,13 +111,20 @@ state-stored (done e) left s = record {
 state-stored (denied r) left s = s
 
 module _ {p : ℕ} (P : OddPrime p) (S : Subset) where
-  -- hand pick, automatic pick and take-back through the host: the number, and the session and every byte afterwards
+  -- hand pick, automatic pick and take-back through the host: the number, and every byte afterwards. The session is that of the number
+  -- (laws, Numbers)
   pub record HostHandles (s : State) (c : Call) (answer : ℕ) (after : State) : Type 0 where
     pub given : Answer
     pub left : State
     pub outcome : Handles P S (unpacked-state s) c given left
     pub numbered : answer ≡ answer-number given (left .session)
     pub stored : after ≡ state-stored given left s
+
+  -- demand 2, second half, through the host. It follows from `HostHandles`.
+  abbrev pub HostPickedExactly : State → (a b : ℕ) → ℕ → Type 0
+  HostPickedExactly s a b answer =
+      let t = unpacked-state s in
+      session-ruling p S t ≡ accepted → ((answer % 2 ^ 8 ≡ 0) ↔ Allowed P (graph-of t) S (pairs-of t) a b)
 
   -- open row through the host: the number, the state, which is as it came, and the row's bytes afterwards
   pub record HostShowsRow (s : State) (a : ℕ) (row : List ℕ) (answer : ℕ) (after : State) (row′ : List ℕ) : Type 0 where

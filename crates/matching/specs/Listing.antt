@@ -8,7 +8,7 @@ use Rattle.residue.specs.Modulus.{modulus, modulus-prime}
 use Rattle.skew.specs.Choose.{choose}
 use Rattle.matching.specs.Decision.{Refusal}
 use Rattle.matching.specs.Pairs.{Pair, Pairs, everything}
-use Rattle.matching.specs.Model.{automatic, Nonsingular, run, PicksToCome}
+use Rattle.matching.specs.Model.{automatic, Nonsingular, pairs-after, PicksToCome}
 use Rattle.matching.specs.Opening.{Singular}
 use Rattle.matching.specs.Records.{sheet, unread, ReadsAs, graph}
 
@@ -99,7 +99,7 @@ pub data Lists (input : List ℕ) : List ℕ → Type 0 where
       → Nonsingular modulus-prime (graph n weights edges) everything []
       → PicksToCome modulus-prime (graph n weights edges) everything [] m
       → Lists input
-      (first-line n (length edges) ++ pair-lines (run modulus-prime (graph n weights edges) everything [] (replicate m automatic) .pairs) ++ line-full)
+      (first-line n (length edges) ++ pair-lines (pairs-after modulus-prime (graph n weights edges) everything [] (replicate m automatic) m) ++ line-full)
   shows-witness : {n f : ℕ} {weights words : List ℕ} {edges : List Pair} → ReadsAs (take input-limit input) (sheet n weights edges)
       → length words ≡ n → Singular modulus (graph n weights edges) everything f words
       → Lists input (first-line n (length edges) ++ witness-lines 0 words ++ line-none)

@@ -8,9 +8,9 @@ use Rattle.matching.specs.Decision.{because, every?, first?}
 use Rattle.matching.specs.Graph.{tutte}
 use Rattle.matching.specs.Pairs.{unmatched, pairs-on}
 use Rattle.matching.specs.Decided.{inverse-table?, witness?}
-use Rattle.matching.specs.Causes.{opening-ruling, soundness}
+use Rattle.matching.specs.Causes.{opening-ruling, session-ruling}
 use Rattle.matching.specs.Display.{display}
-use Rattle.matching.specs.Model.{pick, automatic, undo, done, denied, nonsingular?, step, run}
+use Rattle.matching.specs.Model.{pick, automatic, undo, done, denied, nonsingular?, step, answered, pairs-after}
 use Rattle.matching.specs.Calls.{row-ruling, open-row}
 use Rattle.matching.specs.Records.{cells, graph}
 use Rattle.matching.specs.Computed.{read}
@@ -35,5 +35,5 @@ marked =
     ∷ []
 
 pub marked-hold : All Holds marked
-unfolding marked Shown ShownSingular ShownListed ShownWitness modulus-prime run step nonsingular? inverse-table? witness? first-dependent? first? every? tutte opening-ruling soundness row-ruling open-row display cells unmatched pairs-on decLt read digits pair-lines witness-lines graph
+unfolding marked Shown ShownSingular ShownListed ShownWitness modulus-prime answered pairs-after step nonsingular? inverse-table? witness? first-dependent? first? every? tutte opening-ruling session-ruling row-ruling open-row display cells unmatched pairs-on decLt read digits pair-lines witness-lines graph
 marked-hold = all marked ((refl, refl, refl, tt), ((tt, refl), ((refl, refl, refl, (tt, tt, tt)), ((refl, refl, refl, (tt, tt, tt)), ((refl, refl, refl, tt), ((refl, refl, refl, (tt, tt, tt)), ((refl, refl, refl, (tt, tt, tt)), ((refl, refl, refl, tt), ((tt, refl), ((tt, refl, tt), ((tt, refl), ((refl, refl, refl, (tt, tt, tt)), ((refl, refl), tt)))))))))))))

@@ -29,10 +29,10 @@ pub record Step : Type 0 where
   pub answer : Answer
   pub pairs : Pairs
 
--- the answers of a list of calls, and the pairs after it
-pub record Run : Type 0 where
-  pub answers : List Answer
-  pub pairs : Pairs
+-- the pair is appended where no cause applies
+abbrev pub append : Pairs → Pair → Ruling → Step
+append pairs e accepted = record { answer = done e; pairs = e ∷ pairs }
+append pairs e (refused r) = record { answer = denied r; pairs = pairs }
 
 -- both below n, and different
 abbrev pub Named : ℕ → ℕ → ℕ → Type 0
@@ -51,7 +51,7 @@ named? n a b = all (decLt a n) (decLt b n) (not? (ℕ-discrete a b))
 abbrev pub needs : {A : Type 0} → ℕ → Dec A → Cause
 needs k d = record { number = k; finding = when (not? d) 0 }
 
--- the two are adjacent (may share)
+-- the two are adjacent (document 01: may share)
 abbrev pub Adjacent : Graph → Pair → Type 0
 Adjacent g e = cell g (e .smaller) (e .larger) ≡ 1
 
@@ -82,8 +82,8 @@ module _ {p : ℕ} (P : OddPrime p) (g : Graph) (S : Subset) where
       ∷ needs 10 (nonsingular? (pair-of a b ∷ pairs))
       ∷ [])
 
-  -- demand 2, second half: a hand pick is accepted exactly where the two are different vertices, unmatched (loose) and adjacent (may
-  -- share), and leave a matrix with an inverse (laws, Facts)
+  -- demand 2, second half: a hand pick is accepted exactly where the two are different vertices, unmatched and adjacent, and
+  -- leave a matrix with an inverse (laws, Facts)
   pub record Allowed (pairs : Pairs) (a b : ℕ) : Type 0 where
     pub named : Named (g .n) a b
     pub a-left : a ∈ unmatched S pairs
@@ -91,7 +91,7 @@ module _ {p : ℕ} (P : OddPrime p) (g : Graph) (S : Subset) where
     pub adjacent : Adjacent g (pair-of a b)
     pub nonsingular : Nonsingular (pair-of a b ∷ pairs)
 
-  -- r is an open partner of a
+  -- r is an open partner of a (document 01)
   abbrev pub OpenPartner : Pairs → ℕ → ℕ → Type 0
   OpenPartner pairs a r = Accepted (pick-ruling pairs a r)
 
@@ -106,12 +106,8 @@ module _ {p : ℕ} (P : OddPrime p) (g : Graph) (S : Subset) where
     undo-refused : {e : Pair} {earlier : Pairs} → pairs ≡ e ∷ earlier → ¬ Nonsingular earlier → Rule pairs undo (denied (because 10 0)) pairs
     undoes : {e : Pair} {earlier : Pairs} → pairs ≡ e ∷ earlier → Nonsingular earlier → Rule pairs undo (done e) earlier
 
-  -- the same computed; wherever the vertices left have an inverse, `step` follows the rules, and they leave no choice (laws, Rules)
-  -- the pair is appended where no cause applies
-  abbrev pub append : Pairs → Pair → Ruling → Step
-  append pairs e accepted = record { answer = done e; pairs = e ∷ pairs }
-  append pairs e (refused r) = record { answer = denied r; pairs = pairs }
-
+  -- The same computed, which all that follows goes by. Wherever the vertices left have an inverse it follows the rules, and whatever a
+  -- rule gives, it gives (laws, Rules).
   -- c with the lowest r whose hand pick with c is accepted. There is one wherever the vertices left have an inverse, so the second case is
   -- then not met
   abbrev pub with-lowest : (pairs : Pairs) (c : ℕ) → First (g .n) (λ r. Accepted (pick-ruling pairs c r)) → Step
@@ -142,14 +138,11 @@ module _ {p : ℕ} (P : OddPrime p) (g : Graph) (S : Subset) where
   pairs-after pairs [] (suc k) = pairs
   pairs-after pairs (c ∷ calls) (suc k) = pairs-after (step pairs c .pairs) calls k
 
-  -- one call after the other
-  unfoldable pub run : Pairs → List Call → Run
+  -- the answers of a list of calls
+  unfoldable pub answered : Pairs → List Call → List Answer
   unfolding step
-  run pairs [] = record { answers = []; pairs = pairs }
-  run pairs (c ∷ calls) =
-      let s = step pairs c in
-      let r = run (s .pairs) calls in
-      record { answers = s .answer ∷ r .answers; pairs = r .pairs }
+  answered pairs [] = []
+  answered pairs (c ∷ calls) = step pairs c .answer ∷ answered (step pairs c .pairs) calls
 
   -- so many automatic picks in a row are accepted before one is refused (picks to come)
   pub data PicksToCome : Pairs → ℕ → Type 0 where

@@ -11,7 +11,7 @@ use Rattle.skew.specs.Column.{FirstDependent, Witness}
 use Rattle.matching.specs.Decision.{Every, Refusal, Ruling, accepted, refused}
 use Rattle.matching.specs.Graph.{Graph, tutte}
 use Rattle.matching.specs.Pairs.{unused}
-use Rattle.matching.specs.Session.{Session, session, InverseTable, onto}
+use Rattle.matching.specs.Session.{Session, session, State, InverseTable, onto}
 use Rattle.matching.specs.Causes.{opening-ruling}
 
 -- "opened" and a session with no pairs; "witness" with the first dependent column f; or a refusal
@@ -20,7 +20,7 @@ pub data Opening : Type 0 where
   singular : ℕ → Opening
   not-opened : Refusal → Opening
 
--- the buffers that opening may write: the inverse (held), the sequence of pairs (strip), the witness and work
+-- the buffers that opening may write: the inverse (document 01: held), the sequence of pairs (strip), the witness and work
 pub record Buffers : Type 0 where
   pub inverse : List ℕ
   pub sequence : List ℕ
@@ -54,7 +54,8 @@ with-witness n witness b = record {
 abbrev pub ruling : ℕ → Graph → Buffers → Ruling
 ruling p g b = opening-ruling p g (length (b .inverse)) (length (b .sequence)) (length (b .witness)) (length (b .work))
 
--- the answer and the buffers that opening leaves. The vertices in play are a set S; in document 01 it is `everything`.
+-- the answer and the buffers that opening leaves; the tables are lent to be read only. The vertices in play are a set S; in document 01 it
+-- is `everything`.
 pub data Opens (p : ℕ) (g : Graph) (S : Subset) (b : Buffers) : Opening → Buffers → Type 0 where
   refuses-opening : (r : Refusal) → ruling p g b ≡ refused r → Opens p g S b (not-opened r) b
   opens : (inverse : List ℕ) → ruling p g b ≡ accepted → length inverse ≡ g .n * g .n → InverseTable p g S inverse
@@ -64,4 +65,9 @@ pub data Opens (p : ℕ) (g : Graph) (S : Subset) (b : Buffers) : Opening → Bu
 
 -- demand 2, first half: a graph that is not refused is opened exactly when its matrix has an inverse. It follows from `Opens`.
 abbrev pub OpenedExactly : ℕ → Graph → Subset → Buffers → Opening → Type 0
-OpenedExactly p g S b o = ruling p g b ≡ accepted → ((o ≡ opened (session (g .n) [])) ↔ Invertible p (g .n) (tutte g p) S)
+OpenedExactly p g S b o = ruling p g b ≡ accepted → (((s : Session) × (o ≡ opened s)) ↔ Invertible p (g .n) (tutte g p) S)
+
+-- the state of a session over a graph and the buffers that opening left
+abbrev pub opened-state : Graph → Session → Buffers → State
+opened-state g s b =
+    record { session = s; adjacency = g .adjacency; weights = g .weights; inverse = b .inverse; sequence = b .sequence }

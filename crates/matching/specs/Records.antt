@@ -15,7 +15,8 @@ use Rattle.matching.specs.Session.{onto}
 use Rattle.matching.specs.Model.{Named}
 use Rattle.matching.specs.Causes.{lent-graph, too-short}
 
--- one of four kinds of record, with its body: the size; two vertices that are adjacent (may share), in either order; the seed; the end
+-- one of four kinds of record, with its body: the size; two vertices that are adjacent (document 01: may share), in
+-- either order; the seed; the end
 pub data Record : Type 0 where
   size : ℕ → Record
   share : ℕ → ℕ → Record
@@ -47,19 +48,20 @@ pub data Begins : Record → (bytes rest : List ℕ) → Type 0 where
   begins-seed : {a b c d : ℕ} {rest : List ℕ} → Begins (seed (four a b c d)) (3 ∷ a ∷ b ∷ c ∷ d ∷ rest) rest
   begins-end : {rest : List ℕ} → Begins end (4 ∷ rest) rest
 
--- how far a sheet has been read: nothing; the size; size, weights and the edges (links) so far, the newest first; all of it
+-- how far a sheet has been read: nothing; the size; size, weights and the edges (document 01: links) so
+-- far, the newest first; all of it
 pub data Progress : Type 0 where
   start : Progress
   sized : ℕ → Progress
-  seeded : ℕ → (weights : List ℕ) (edges : List Pair) → Progress
+  weighted : ℕ → (weights : List ℕ) (edges : List Pair) → Progress
   ended : ℕ → (weights : List ℕ) (edges : List Pair) → Progress
 
 -- which kinds are due: size first, seed second, then any number of share records, then the end, then nothing
 pub data Due : Progress → ℕ → Type 0 where
   size-due : Due start 1
   seed-due : {n : ℕ} → Due (sized n) 3
-  share-due : {n : ℕ} {weights : List ℕ} {edges : List Pair} → Due (seeded n weights edges) 2
-  end-due : {n : ℕ} {weights : List ℕ} {edges : List Pair} → Due (seeded n weights edges) 4
+  share-due : {n : ℕ} {weights : List ℕ} {edges : List Pair} → Due (weighted n weights edges) 2
+  end-due : {n : ℕ} {weights : List ℕ} {edges : List Pair} → Due (weighted n weights edges) 4
 
 abbrev pub Same : Pair → Pair → Type 0
 Same e f = (e .smaller ≡ f .smaller) × (e .larger ≡ f .larger)
@@ -76,17 +78,17 @@ among e (f ∷ edges) = choose (same? e f) 1 (among e edges)
 -- what a record that is due and taken makes of it: the seed's draws are the weights
 pub data Takes : Progress → Record → Progress → Type 0 where
   takes-size : {n : ℕ} → n ≤ largest → Takes start (size n) (sized n)
-  takes-seed : {n s : ℕ} → Takes (sized n) (seed s) (seeded n (draws s (pair-count n)) [])
+  takes-seed : {n s : ℕ} → Takes (sized n) (seed s) (weighted n (draws s (pair-count n)) [])
   takes-share : {n a b : ℕ} {weights : List ℕ} {edges : List Pair} → Named n a b → among (pair-of a b) edges ≡ 0
-      → Takes (seeded n weights edges) (share a b) (seeded n weights (pair-of a b ∷ edges))
-  takes-end : {n : ℕ} {weights : List ℕ} {edges : List Pair} → Takes (seeded n weights edges) end (ended n weights edges)
+      → Takes (weighted n weights edges) (share a b) (weighted n weights (pair-of a b ∷ edges))
+  takes-end : {n : ℕ} {weights : List ℕ} {edges : List Pair} → Takes (weighted n weights edges) end (ended n weights edges)
 
 -- the cause for which one that is due is refused: 1 for a size above 96, 14 for what is not two vertices, 15 for two that stood already
 pub data Rejects : Progress → Record → ℕ → Type 0 where
   too-large-size : {n : ℕ} → largest < n → Rejects start (size n) 1
-  not-two : {n a b : ℕ} {weights : List ℕ} {edges : List Pair} → ¬ Named n a b → Rejects (seeded n weights edges) (share a b) 14
+  not-two : {n a b : ℕ} {weights : List ℕ} {edges : List Pair} → ¬ Named n a b → Rejects (weighted n weights edges) (share a b) 14
   stood-already : {n a b : ℕ} {weights : List ℕ} {edges : List Pair} → Named n a b → among (pair-of a b) edges ≡ 1
-      → Rejects (seeded n weights edges) (share a b) 15
+      → Rejects (weighted n weights edges) (share a b) 15
 
 -- a whole sheet: the size, the weights and the edges; or a refusal
 pub data Reading : Type 0 where

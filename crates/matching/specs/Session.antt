@@ -24,8 +24,8 @@ pub record Session : Type 0 where
 abbrev pub session : ℕ → Pairs → Session
 session n pairs = record { size = n; made = length pairs }
 
--- what a session call is handed: the session, the adjacency table (share table), the weights (draws), the inverse (held) and the sequence
--- of pairs (strip)
+-- what a session call is handed: the session, the adjacency table (document 01: share table), the weights (draws), the inverse (held) and
+-- the sequence of pairs (strip)
 pub record State : Type 0 where
   pub session : Session
   pub adjacency : List ℕ
@@ -41,14 +41,14 @@ graph-of s = over (s .session .size) (s .adjacency) (s .weights)
 abbrev pub pairs-of : State → Pairs
 pairs-of s = pairs-on (s .sequence) (s .session .made)
 
--- the state with these pairs, and these words as the inverse; the tables and the excess are as they were
-abbrev pub with-pairs : Pairs → List ℕ → State → State
-with-pairs pairs inverse s = record {
-  session = session (s .session .size) pairs;
-  adjacency = s .adjacency;
-  weights = s .weights;
+-- the state of a graph with these pairs and these words as the inverse, over the buffers of s, whose excess is as it was
+abbrev pub with-pairs : Graph → Pairs → List ℕ → State → State
+with-pairs g pairs inverse s = record {
+  session = session (g .n) pairs;
+  adjacency = g .adjacency;
+  weights = g .weights;
   inverse = onto inverse (s .inverse);
-  sequence = onto (sequence (s .session .size) pairs) (s .sequence);
+  sequence = onto (sequence (g .n) pairs) (s .sequence);
 }
 
 -- the first n times n words, each below p, are the inverse of the Tutte matrix on a set of vertices (document 01: held)

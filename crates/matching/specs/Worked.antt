@@ -8,21 +8,21 @@ use lib.ListN.{replicate}
 use Rattle.draws.specs.Draws.{next, draw, draws}
 use Rattle.residue.specs.Modulus.{modulus-prime}
 use Rattle.skew.specs.Decide.{first-dependent?}
-use Rattle.matching.specs.Decision.{because, every?, first?}
+use Rattle.matching.specs.Decision.{because, every?, first?, accepted, refused}
 use Rattle.matching.specs.Graph.{Graph, over, tutte}
 use Rattle.matching.specs.Pairs.{Pair, unmatched, sequence, pairs-on}
 use Rattle.matching.specs.Session.{State}
 use Rattle.matching.specs.Decided.{inverse-table?, witness?}
-use Rattle.matching.specs.Causes.{opening-ruling, soundness}
+use Rattle.matching.specs.Causes.{opening-ruling, session-ruling}
 use Rattle.matching.specs.Opening.{opened, singular, not-opened, Buffers}
 use Rattle.matching.specs.Display.{of-inverse, of-witness, display}
-use Rattle.matching.specs.Model.{pick, automatic, undo, done, denied, nonsingular?, step, run, picked, stopped}
+use Rattle.matching.specs.Model.{pick, automatic, undo, done, denied, nonsingular?, step, answered, pairs-after, picked, stopped}
 use Rattle.matching.specs.Calls.{Returned, row-ruling, open-row}
 use Rattle.matching.specs.Records.{sheet, unread, cells, graph, graph-read, not-read}
 use Rattle.matching.specs.Computed.{read}
 use Rattle.matching.specs.Host.{words, bytes-of}
 use Rattle.matching.specs.Listing.{digits, pair-lines, witness-lines}
-use Rattle.matching.specs.Claims.{linked, on, edge, ones, path, complete, ring, Claim, witness, not-opening, model, answers, by-hand, spoiled, handled, ran, row, no-row, displayed, reads, filling, lists, lists-witness, lists-refusal, host-opening, host-answer, host-words, host-bytes, host-handled, before, Holds, All, ShownSingular, ShownHandled, ShownReturned, ShownRun, ShownListed, ShownWitness, ShownFilling, Shown, all}
+use Rattle.matching.specs.Claims.{linked, on, edge, ones, path, complete, ring, Claim, witness, not-opening, model, answers, by-hand, spoiled, handled, ran, row, no-row, displayed, reads, filling, lists, lists-witness, lists-refusal, host-opening, host-answer, host-row, host-words, host-bytes, host-handled, before, Holds, All, ShownSingular, ShownHandled, ShownReturned, ShownRun, ShownListed, ShownWitness, ShownFilling, Shown, all}
 
 -- two vertices, whose adjacency table and weights are as lent
 abbrev two : List ℕ → List ℕ → Graph
@@ -166,6 +166,8 @@ worked =
     ∷ host-opening (not-opened (because 3 9215)) 603914243
     ∷ host-answer (done (edge 0 2)) (record { size = 4; made = 1 }) 4328522496
     ∷ host-answer (denied (because 10 0)) (record { size = 4; made = 1 }) 10
+    ∷ host-row accepted (record { size = 4; made = 1 }) 4294968320
+    ∷ host-row (refused (because 8 0)) (record { size = 4; made = 1 }) 8
     ∷ host-words (1 ∷ 2 ∷ 3 ∷ []) (513 ∷ [])
     ∷ host-words (255 ∷ 255 ∷ 0 ∷ 1 ∷ []) (65535 ∷ 256 ∷ [])
     ∷ host-bytes (513 ∷ 65520 ∷ []) (9 ∷ 9 ∷ 9 ∷ 9 ∷ 9 ∷ []) (1 ∷ 2 ∷ 240 ∷ 255 ∷ 9 ∷ [])
@@ -177,5 +179,5 @@ worked =
     ∷ []
 
 pub worked-hold : All Holds worked
-unfolding worked Shown ShownFilling words bytes-of draws ShownSingular ShownHandled ShownReturned ShownRun ShownListed ShownWitness modulus-prime run step nonsingular? inverse-table? witness? first-dependent? first? every? tutte opening-ruling soundness row-ruling open-row display cells unmatched pairs-on decLt read digits pair-lines witness-lines graph sequence
-worked-hold = all worked (refl, (refl, (refl, (refl, (refl, (refl, (refl, (refl, (refl, (refl, (refl, (refl, (refl, (refl, (refl, (refl, (refl, (refl, (refl, (refl, (refl, (refl, (refl, (refl, (refl, (refl, (refl, (refl, (refl, ((refl, refl), ((refl, refl), ((refl, refl), ((refl, refl), ((tt, refl), (refl, ((tt, refl), ((refl, refl, refl, tt, refl), ((refl, refl, refl, tt, refl), ((refl, refl, refl, tt, refl), (((refl, refl, refl), ((refl, refl, refl, tt, refl), ((refl, refl, refl), ((refl, refl, refl, tt, refl), ((refl, refl, refl), ((refl, refl, refl, tt, refl), ((refl, refl, refl, tt, refl), tt))))))), (((refl, refl, refl, tt, refl), ((refl, refl, refl, tt, refl), ((refl, refl, refl), tt))), ((refl, refl), ((refl, refl), (refl, (refl, (refl, (refl, (refl, (refl, (refl, (refl, (refl, (refl, (refl, (refl, (refl, (refl, (refl, (refl, (refl, (refl, (refl, (refl, (refl, (refl, (refl, (refl, (refl, (refl, (refl, (refl, ((refl, refl, refl), ((refl, refl, refl), ((refl, refl, refl, refl), ((tt, picked refl (picked refl (stopped refl)), refl), ((refl, (tt, tt, tt), refl), ((refl, (tt, tt, tt), refl), ((refl, refl), (refl, (refl, (refl, (refl, (refl, (refl, (refl, (refl, (((refl, refl, refl, tt, refl), refl, refl), tt)))))))))))))))))))))))))))))))))))))))))))))))))))))))))))))))))))))))))))))))))))))))
+unfolding worked Shown ShownFilling words bytes-of draws ShownSingular ShownHandled ShownReturned ShownRun ShownListed ShownWitness modulus-prime answered pairs-after step nonsingular? inverse-table? witness? first-dependent? first? every? tutte opening-ruling session-ruling row-ruling open-row display cells unmatched pairs-on decLt read digits pair-lines witness-lines graph sequence
+worked-hold = all worked (refl, (refl, (refl, (refl, (refl, (refl, (refl, (refl, (refl, (refl, (refl, (refl, (refl, (refl, (refl, (refl, (refl, (refl, (refl, (refl, (refl, (refl, (refl, (refl, (refl, (refl, (refl, (refl, (refl, ((refl, refl), ((refl, refl), ((refl, refl), ((refl, refl), ((tt, refl), (refl, ((tt, refl), ((refl, refl, refl, tt, refl), ((refl, refl, refl, tt, refl), ((refl, refl, refl, tt, refl), (((refl, refl, refl), ((refl, refl, refl, tt, refl), ((refl, refl, refl), ((refl, refl, refl, tt, refl), ((refl, refl, refl), ((refl, refl, refl, tt, refl), ((refl, refl, refl, tt, refl), tt))))))), (((refl, refl, refl, tt, refl), ((refl, refl, refl, tt, refl), ((refl, refl, refl), tt))), ((refl, refl), ((refl, refl), (refl, (refl, (refl, (refl, (refl, (refl, (refl, (refl, (refl, (refl, (refl, (refl, (refl, (refl, (refl, (refl, (refl, (refl, (refl, (refl, (refl, (refl, (refl, (refl, (refl, (refl, (refl, (refl, ((refl, refl, refl), ((refl, refl, refl), ((refl, refl, refl, refl), ((tt, picked refl (picked refl (stopped refl)), refl), ((refl, (tt, tt, tt), refl), ((refl, (tt, tt, tt), refl), ((refl, refl), (refl, (refl, (refl, (refl, (refl, (refl, (refl, (refl, (refl, (refl, (((refl, refl, refl, tt, refl), refl, refl), tt)))))))))))))))))))))))))))))))))))))))))))))))))))))))))))))))))))))))))))))))))))))))))
