@@ -1,7 +1,7 @@
 // Measures opening through the C entry.
 //
-//   opening peer             which library it is compared with
-//   opening times            a table of times, beside the plain reading and the peer
+//   opening peers            which libraries it is compared with
+//   opening times            a table of times, beside the plain reading and the peers
 //   opening once N dense     one call on a graph of N vertices that are all linked
 //   opening once N sparse    the same with about four neighbours a vertex
 #include "peer.h"
@@ -166,22 +166,39 @@ double median(std::vector<double> times)
     std::exit(1);
 }
 
+const char *answer_of(uint64_t number)
+{
+    switch (saszvigom_kind_of(number)) {
+    case SASZVIGOM_OPENED:
+        return "opened";
+    case SASZVIGOM_SINGULAR:
+        return "singular";
+    default:
+        return "refused";
+    }
+}
+
+void print_call(size_t n, const char *kind, uint64_t number)
+{
+    std::printf("%4zu  %-6s  %-8s", n, kind, answer_of(number));
+}
+
 // The answers are the same before any time is taken.
-void compare(const Graph &graph, const char *kind, Peer &peer)
+void compare(const Graph &graph, const char *kind, const std::vector<std::unique_ptr<Peer>> &peers)
 {
     const size_t n = graph.n;
     Buffers entry(n), reading(n);
     const uint64_t number = open_by_entry(graph, entry);
     if (number != open_by_reading(graph, reading) || !(entry == reading))
         differ(n, kind, "plain reading");
-    if (Peer::name == nullptr)
-        return;
-    if (peer.invert() != (saszvigom_kind_of(number) == SASZVIGOM_OPENED))
-        differ(n, kind, Peer::name);
-    if (saszvigom_kind_of(number) == SASZVIGOM_OPENED)
-        for (size_t i = 0; i < n * n; i++)
-            if (saszvigom_word(entry.inverse.data(), i) != peer.entry(i / n, i % n))
-                differ(n, kind, Peer::name);
+    const bool opened = saszvigom_kind_of(number) == SASZVIGOM_OPENED;
+    for (size_t p = 0; p < peers.size(); p++) {
+        bool same = peers[p]->invert() == opened;
+        for (size_t i = 0; same && opened && i < n * n; i++)
+            same = saszvigom_word(entry.inverse.data(), i) == peers[p]->entry(i / n, i % n);
+        if (!same)
+            differ(n, kind, libraries()[p].name.c_str());
+    }
 }
 
 // The median of the ratios of times of the same round.
@@ -198,31 +215,37 @@ void measure(const Graph &graph, const char *kind)
 {
     const size_t n = graph.n;
     const size_t rounds = 501;
-    Peer peer(n, graph.tutte_matrix());
-    compare(graph, kind, peer);
+    std::vector<std::unique_ptr<Peer>> peers;
+    for (const Library &library : libraries())
+        peers.push_back(library.take(n, graph.tutte_matrix()));
+    compare(graph, kind, peers);
     Buffers buffers(n);
     uint64_t number = 0;
-    std::vector<double> entry, reading, other;
+    // Of the entry; of the plain reading and then of each peer.
+    std::vector<double> times;
+    std::vector<std::vector<double>> others(1 + peers.size());
     for (size_t round = 0; round < rounds; round++) {
-        entry.push_back(time_of([&] { number = open_by_entry(graph, buffers); }));
-        reading.push_back(time_of([&] { open_by_reading(graph, buffers); }));
-        if (Peer::name != nullptr)
-            other.push_back(time_of([&] { peer.invert(); }));
+        times.push_back(time_of([&] { number = open_by_entry(graph, buffers); }));
+        others[0].push_back(time_of([&] { open_by_reading(graph, buffers); }));
+        for (size_t p = 0; p < peers.size(); p++)
+            others[1 + p].push_back(time_of([&] { peers[p]->invert(); }));
     }
-    std::printf("%4zu  %-6s  %-8s  %9.1f  %9.1f  %7.2f", n, kind,
-                saszvigom_kind_of(number) == SASZVIGOM_OPENED ? "opened" : "singular", median(entry), median(reading),
-                median_ratio(entry, reading));
-    if (Peer::name != nullptr)
-        std::printf("  %9.1f  %7.2f", median(other), median_ratio(entry, other));
+    print_call(n, kind, number);
+    std::printf("  %9.1f", median(times));
+    for (const std::vector<double> &other : others)
+        std::printf("  %9.1f  %9.2f", median(other), median_ratio(times, other));
     std::printf("\n");
     std::fflush(stdout);
 }
 
 void print_times()
 {
-    std::printf("%4s  %-6s  %-8s  %9s  %9s  %7s", "n", "graph", "answer", "entry", "reading", "e/r");
-    if (Peer::name != nullptr)
-        std::printf("  %9s  %7s", Peer::name, (std::string("e/") + Peer::name).c_str());
+    std::vector<std::string> others = {"reading"};
+    for (const Library &library : libraries())
+        others.push_back(library.name);
+    std::printf("%4s  %-6s  %-8s  %9s", "n", "graph", "answer", "entry");
+    for (const std::string &other : others)
+        std::printf("  %9s  %9s", other.c_str(), ("e/" + other).c_str());
     std::printf("\n");
     for (const size_t n : {16, 32, 48, 64, 95, 96}) {
         measure(dense(n), "dense");
@@ -230,12 +253,30 @@ void print_times()
     }
 }
 
+void print_peers()
+{
+    std::printf("Peers:");
+    for (const Library &library : libraries())
+        std::printf(" %s %s", library.name.c_str(), library.version.c_str());
+    std::printf("%s\n", libraries().empty() ? " none" : "");
+}
+
+// One call; false where it is refused.
+bool call_once(size_t n, const std::string &kind)
+{
+    const Graph graph = kind == "sparse" ? sparse(n) : dense(n);
+    Buffers buffers(n);
+    const uint64_t number = open_by_entry(graph, buffers);
+    print_call(n, kind.c_str(), number);
+    return saszvigom_cause_of(number) == SASZVIGOM_NO_CAUSE;
+}
+
 } // namespace
 
 int main(int argc, char **argv)
 {
-    if (argc == 2 && std::strcmp(argv[1], "peer") == 0) {
-        std::printf("Peer: %s\n", Peer::name == nullptr ? "none" : (std::string(Peer::name) + " " + Peer::version).c_str());
+    if (argc == 2 && std::strcmp(argv[1], "peers") == 0) {
+        print_peers();
         return 0;
     }
     if (argc == 2 && std::strcmp(argv[1], "times") == 0) {
@@ -246,12 +287,9 @@ int main(int argc, char **argv)
         const size_t n = std::strtoul(argv[2], nullptr, 10);
         const std::string kind = argv[3];
         // Fewer than five vertices have not 2n edges.
-        if (n >= 5 && n <= SASZVIGOM_MAX_VERTICES && (kind == "dense" || kind == "sparse")) {
-            const Graph graph = kind == "dense" ? dense(n) : sparse(n);
-            Buffers buffers(n);
-            return saszvigom_cause_of(open_by_entry(graph, buffers)) == SASZVIGOM_NO_CAUSE ? 0 : 1;
-        }
+        if (n >= 5 && n <= SASZVIGOM_MAX_VERTICES && (kind == "dense" || kind == "sparse"))
+            return call_once(n, kind) ? 0 : 1;
     }
-    std::fprintf(stderr, "usage: opening peer | opening times | opening once N dense|sparse\n");
+    std::fprintf(stderr, "usage: opening peers | opening times | opening once N dense|sparse\n");
     return 2;
 }

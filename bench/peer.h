@@ -1,107 +1,44 @@
-// The inverse of a matrix modulo 65521 by another library. One of PEER_NTL and PEER_FLINT says which; without them there is none.
+// The inverse of a matrix modulo 65521 by other libraries, the peers: one for each file of peers/ that is linked.
 #pragma once
 
 #include <cstddef>
 #include <cstdint>
+#include <memory>
+#include <string>
 #include <vector>
 
-#if defined(PEER_NTL)
-
-#include <NTL/mat_lzz_p.h>
-#include <NTL/version.h>
-
+// A matrix that a library holds ready.
 class Peer {
 public:
-    static constexpr const char *name = "NTL";
-    static constexpr const char *version = NTL_VERSION;
-
-    // Takes the matrix, row by row.
-    Peer(size_t n, const std::vector<uint16_t> &entries)
-    {
-        NTL::zz_p::init(65521);
-        matrix.SetDims(static_cast<long>(n), static_cast<long>(n));
-        for (size_t i = 0; i < n * n; i++)
-            matrix[static_cast<long>(i / n)][static_cast<long>(i % n)] = entries[i];
-    }
+    virtual ~Peer() = default;
 
     // Computes the inverse; false where there is none.
-    bool invert()
-    {
-        NTL::zz_p determinant;
-        NTL::inv(determinant, inverse, matrix);
-        return determinant != 0;
-    }
+    virtual bool invert() = 0;
 
-    uint16_t entry(size_t i, size_t j) const
-    {
-        return static_cast<uint16_t>(NTL::rep(inverse[static_cast<long>(i)][static_cast<long>(j)]));
-    }
-
-private:
-    NTL::mat_zz_p matrix, inverse;
+    // An entry of the inverse.
+    virtual uint16_t entry(size_t i, size_t j) const = 0;
 };
 
-#elif defined(PEER_FLINT)
+struct Library {
+    std::string name, version;
 
-#include <flint/nmod_mat.h>
-
-class Peer {
-public:
-    static constexpr const char *name = "FLINT";
-    static constexpr const char *version = FLINT_VERSION;
-
-    Peer(size_t n, const std::vector<uint16_t> &entries)
-    {
-        const slong size = static_cast<slong>(n);
-        nmod_mat_init(matrix, size, size, 65521);
-        nmod_mat_init(inverse, size, size, 65521);
-        for (size_t i = 0; i < n * n; i++)
-            nmod_mat_entry(matrix, static_cast<slong>(i / n), static_cast<slong>(i % n)) = entries[i];
-    }
-
-    ~Peer()
-    {
-        nmod_mat_clear(matrix);
-        nmod_mat_clear(inverse);
-    }
-
-    Peer(const Peer &) = delete;
-    Peer &operator=(const Peer &) = delete;
-
-    bool invert()
-    {
-        return nmod_mat_inv(inverse, matrix) != 0;
-    }
-
-    uint16_t entry(size_t i, size_t j) const
-    {
-        return static_cast<uint16_t>(nmod_mat_entry(inverse, static_cast<slong>(i), static_cast<slong>(j)));
-    }
-
-private:
-    nmod_mat_t matrix, inverse;
+    // Takes a matrix of n rows, row by row.
+    std::unique_ptr<Peer> (*take)(size_t n, const std::vector<uint16_t> &entries);
 };
 
-#else
+// The libraries that are linked.
+inline std::vector<Library> &libraries()
+{
+    static std::vector<Library> linked;
+    return linked;
+}
 
-class Peer {
-public:
-    static constexpr const char *name = nullptr;
-    static constexpr const char *version = "";
-
-    Peer(size_t, const std::vector<uint16_t> &)
+// Adds a library, given the class of its matrices.
+template <class Matrix> struct Linked {
+    Linked(const char *name, const char *version)
     {
-    }
-
-    bool invert()
-    {
-        return false;
-    }
-
-    uint16_t entry(size_t, size_t) const
-    {
-        return 0;
+        libraries().push_back({name, version, [](size_t n, const std::vector<uint16_t> &entries) -> std::unique_ptr<Peer> {
+                                   return std::make_unique<Matrix>(n, entries);
+                               }});
     }
 };
-
-#endif
