@@ -2,8 +2,9 @@
 //
 //   opening peers            which libraries it is compared with
 //   opening times            a table of times, beside the plain reading and the peers
-//   opening once N dense     one call on a graph of N vertices that are all linked
+//   opening once N dense     one call on a graph of N vertices that are all linked; 97 are refused
 //   opening once N sparse    the same with about four neighbours a vertex
+//   opening once N short     the call of a dense graph with the last buffer short by a byte
 #include "peer.h"
 #include "saszvigom.h"
 
@@ -261,14 +262,19 @@ void print_peers()
     std::printf("%s\n", libraries().empty() ? " none" : "");
 }
 
-// One call; false where it is refused.
+// One call; false where its cause is not the one to be expected.
 bool call_once(size_t n, const std::string &kind)
 {
     const Graph graph = kind == "sparse" ? sparse(n) : dense(n);
     Buffers buffers(n);
+    if (kind == "short")
+        buffers.work.pop_back();
+    const unsigned cause = n > SASZVIGOM_MAX_VERTICES ? SASZVIGOM_SIZE_TOO_LARGE
+                           : kind == "short"          ? SASZVIGOM_BUFFER_TOO_SHORT
+                                                      : SASZVIGOM_NO_CAUSE;
     const uint64_t number = open_by_entry(graph, buffers);
     print_call(n, kind.c_str(), number);
-    return saszvigom_cause_of(number) == SASZVIGOM_NO_CAUSE;
+    return saszvigom_cause_of(number) == cause;
 }
 
 } // namespace
@@ -287,9 +293,9 @@ int main(int argc, char **argv)
         const size_t n = std::strtoul(argv[2], nullptr, 10);
         const std::string kind = argv[3];
         // Fewer than five vertices have not 2n edges.
-        if (n >= 5 && n <= SASZVIGOM_MAX_VERTICES && (kind == "dense" || kind == "sparse"))
+        if (n >= 5 && n <= SASZVIGOM_MAX_VERTICES + 1 && (kind == "dense" || kind == "sparse" || kind == "short"))
             return call_once(n, kind) ? 0 : 1;
     }
-    std::fprintf(stderr, "usage: opening peers | opening times | opening once N dense|sparse\n");
+    std::fprintf(stderr, "usage: opening peers | opening times | opening once N dense|sparse|short\n");
     return 2;
 }
