@@ -5,10 +5,14 @@
  */
 #include "compare.h"
 
+#include <pthread.h>
 #include <stdbool.h>
 #include <stdio.h>
 #include <stdlib.h>
 #include <string.h>
+
+/* What the stack of a small thread has in all. */
+#define STACK_KIB 128
 
 static struct call call;
 static struct outcome expected;
@@ -336,6 +340,30 @@ static void accessors(void)
     printf("ok   accessors\n");
 }
 
+static void *run_largest_graphs(void *unused)
+{
+    largest_graphs();
+    return unused;
+}
+
+/* The largest graphs on a thread with a small stack. Where it is too small the
+   program ends by a signal, and the line printed first is its last. */
+static void small_stack(void)
+{
+    pthread_attr_t attributes;
+    pthread_t thread;
+    printf("on a thread with %d KiB of stack\n", STACK_KIB);
+    fflush(stdout);
+    if (pthread_attr_init(&attributes) != 0
+        || pthread_attr_setstacksize(&attributes, STACK_KIB * 1024) != 0
+        || pthread_create(&thread, &attributes, run_largest_graphs, NULL) != 0
+        || pthread_join(thread, NULL) != 0) {
+        printf("FAIL thread\n");
+        exit(1);
+    }
+    pthread_attr_destroy(&attributes);
+}
+
 int main(void)
 {
     smallest_graphs();
@@ -346,6 +374,7 @@ int main(void)
     adjacency_faults();
     weight_faults();
     accessors();
+    small_stack();
     printf("%zu cases\n", cases);
     return 0;
 }

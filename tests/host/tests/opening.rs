@@ -3,8 +3,6 @@
 
 use host_tests::call::Outcome;
 use host_tests::cases::{self, Case};
-use host_tests::entry::{self, Written};
-use host_tests::graphs;
 use host_tests::random::Random;
 
 /// Checks every case of a family, and what is asked of its outcome besides.
@@ -120,31 +118,6 @@ fn sizes_above_96() {
 fn calls_keep_no_state() {
     let tally = check("calls keep no state", cases::repeated_calls(), any_outcome);
     assert_eq!(tally.total(), 600);
-}
-
-/// A thread with 256 KiB of stack in all can open a graph of 96 vertices.
-#[test]
-fn stack_below_256_kib() {
-    let mut random = Random::new(13);
-    let n = 96;
-    let graph = graphs::with_density(&mut random, n, 100);
-    let weights = reference::words::bytes_from_words(&graph.weights);
-    let open = move || {
-        let written = Written {
-            inverse: &mut vec![0; 2 * n * n],
-            sequence: &mut vec![0; n],
-            witness: &mut vec![0; 2 * n],
-            work: &mut vec![0; 2 * n * n],
-        };
-        entry::open(n as u64, &graph.adjacency, &weights, written)
-    };
-    let thread = std::thread::Builder::new().stack_size(256 * 1024);
-    let number = thread
-        .spawn(open)
-        .expect("a thread")
-        .join()
-        .expect("it returns");
-    assert!(number == 256 || number & 0xFFFF == 512);
 }
 
 /// How often each outcome was met.
