@@ -3,7 +3,8 @@
 
 use crate::call::{Call, Outcome};
 use crate::damage::{any_large_size, damage, KINDS};
-use crate::graphs::{self, Graph};
+use crate::graphs::{self, Graph, SHAPES};
+use crate::matrices;
 use crate::random::Random;
 
 /// A call with its name.
@@ -38,6 +39,9 @@ pub fn all() -> impl Iterator<Item = Case> {
         .chain(large_graphs())
         .chain(largest_graphs())
         .chain(every_size())
+        .chain(few_weights())
+        .chain(low_ranks())
+        .chain(made_by_pairs())
         .chain(all_graphs_of_four())
         .chain(every_first_dependent_column())
         .chain(damaged_calls())
@@ -83,8 +87,8 @@ pub fn largest_graphs() -> impl Iterator<Item = Case> {
         let graph = match round % 4 {
             0 => graphs::with_density(&mut random, n, 100),
             1 => graphs::matched(&mut random, n),
-            2 => graphs::cancelling(&mut random, n),
-            _ => graphs::low_rank(&mut random, n),
+            2 => matrices::cancelling(&mut random, n),
+            _ => matrices::low_rank(&mut random, n),
         };
         let call = Call::new(&mut random, &graph, 3);
         Case::new(format!("largest graphs, round {round}, n = {n}"), call)
@@ -99,6 +103,63 @@ pub fn every_size() -> impl Iterator<Item = Case> {
         let call = Call::new(&mut random, &graph, 1);
         Case::new(format!("every size, n = {n}, {percent} %"), call)
     })
+}
+
+/// Every shape with few weights: all 1, all 65520, and small ones of one sign or
+/// of both.
+pub fn few_weights() -> impl Iterator<Item = Case> {
+    let choices: [&[u16]; 5] = [
+        &[1],
+        &[65520],
+        &[1, 65520],
+        &[1, 2, 3],
+        &[1, 2, 65519, 65520],
+    ];
+    let mut random = Random::new(13);
+    with_each(0..20 * SHAPES.len(), choices).map(move |(round, weights)| {
+        let n = any_size(&mut random);
+        let mut graph = SHAPES[round % SHAPES.len()](&mut random, n);
+        graph.choose_weights(&mut random, weights);
+        let call = Call::new(&mut random, &graph, 3);
+        let name = format!("few weights, round {round}, n = {n}, {weights:?}");
+        Case::new(name, call)
+    })
+}
+
+/// Matrices of low rank: all columns after the first few are dependent, or
+/// columns here and there.
+pub fn low_ranks() -> impl Iterator<Item = Case> {
+    let mut random = Random::new(14);
+    with_each(0..400, [matrices::low_rank, matrices::repeating]).map(move |(round, matrix)| {
+        let n = any_size(&mut random);
+        let graph = matrix(&mut random, n);
+        let call = Call::new(&mut random, &graph, 3);
+        Case::new(format!("low ranks, round {round}, n = {n}"), call)
+    })
+}
+
+/// Chosen steps of elimination by pairs.
+pub fn made_by_pairs() -> impl Iterator<Item = Case> {
+    let mut random = Random::new(15);
+    with_each(0..200, matrices::ROWS).map(move |(round, rows)| {
+        let n = any_size(&mut random);
+        let (graph, column) = matrices::made_by_pairs(&mut random, n, rows);
+        let call = Call::new(&mut random, &graph, 3);
+        let known = match column {
+            Some(column) => Outcome::Singular(column as u64),
+            None => Outcome::Opened,
+        };
+        Case::new(format!("made by pairs, round {round}, n = {n}"), call).with_known(known)
+    })
+}
+
+/// Mostly a small size, often a middle one and now and then one of the largest.
+fn any_size(random: &mut Random) -> usize {
+    match random.below(40) {
+        0 => random.between(94, 96),
+        1..=12 => random.between(13, 32),
+        _ => random.between(1, 12),
+    }
 }
 
 /// All graphs of four vertices with all weights from 1 and 65520.

@@ -1,7 +1,7 @@
 //! Random graphs of many shapes.
 
+use crate::matrices::{cancelling, low_rank, made_by_pairs, repeating, ROWS};
 use crate::random::Random;
-use reference::opening::{self, Opening};
 
 /// The modulus.
 pub const P: u64 = 65521;
@@ -51,6 +51,13 @@ impl Graph {
         self.weights[index] = weight;
     }
 
+    /// Sets every weight to one of the choices.
+    pub fn choose_weights(&mut self, random: &mut Random, choices: &[u16]) {
+        for weight in &mut self.weights {
+            *weight = random.choose(choices);
+        }
+    }
+
     /// The Tutte matrix modulo 65521, row by row.
     pub fn tutte_matrix(&self) -> Vec<u64> {
         let n = self.n;
@@ -70,40 +77,58 @@ impl Graph {
     }
 }
 
-/// A graph of n vertices of a random shape with random weights.
+/// A random graph of n vertices, at least one.
+pub type Shape = fn(&mut Random, usize) -> Graph;
+
+/// Shapes, with random weights.
+pub const SHAPES: [Shape; 13] = [
+    dense,
+    complete,
+    sparse,
+    matched,
+    isolated,
+    balanced,
+    unbalanced,
+    complete_bipartite,
+    path,
+    ladder,
+    tree,
+    cliques,
+    odd_cliques,
+];
+
+/// A graph of n vertices of a random shape with random weights, or of a chosen
+/// matrix.
 pub fn any(random: &mut Random, n: usize) -> Graph {
     if n == 0 {
         return Graph::empty(0);
     }
-    match random.below(14) {
-        0 => dense(random, n),
-        1 => with_density(random, n, 100),
-        2 => sparse(random, n),
-        3 => matched(random, n),
-        4 => isolated(random, n),
-        5 => bipartite(random, n, false),
-        6 => bipartite(random, n, true),
-        7 => path(random, n),
-        8 => ladder(random, n),
-        9 => tree(random, n),
-        10 => cliques(random, n),
-        11 => low_rank(random, n),
-        12 | 13 => cancelling(random, n),
-        _ => unreachable!(),
+    match random.below(SHAPES.len() + 5) {
+        0 => low_rank(random, n),
+        1 => repeating(random, n),
+        2 => {
+            let rows = random.choose(&ROWS);
+            made_by_pairs(random, n, rows).0
+        }
+        3 | 4 => cancelling(random, n),
+        shape => SHAPES[shape - 5](random, n),
     }
 }
 
 /// Random weights: from all, at the ends of the range, or all the same.
 fn set_weights(random: &mut Random, graph: &mut Graph) {
     const ENDS: [u16; 8] = [1, 2, 3, 32760, 32761, 65518, 65519, 65520];
-    let same = random.choose(&ENDS);
-    let style = random.below(5);
-    for weight in &mut graph.weights {
-        *weight = match style {
-            0 => same,
-            1 => random.choose(&ENDS),
-            _ => random.between(1, 65520) as u16,
-        };
+    match random.below(5) {
+        0 => {
+            let same = random.choose(&ENDS);
+            graph.weights.fill(same);
+        }
+        1 => graph.choose_weights(random, &ENDS),
+        _ => {
+            for weight in &mut graph.weights {
+                *weight = random.between(1, 65520) as u16;
+            }
+        }
     }
 }
 
@@ -123,6 +148,10 @@ pub fn with_density(random: &mut Random, n: usize, percent: usize) -> Graph {
 pub fn dense(random: &mut Random, n: usize) -> Graph {
     let percent = random.between(30, 100);
     with_density(random, n, percent)
+}
+
+fn complete(random: &mut Random, n: usize) -> Graph {
+    with_density(random, n, 100)
 }
 
 /// From none to four neighbours a vertex, about.
@@ -146,9 +175,10 @@ pub fn matched(random: &mut Random, n: usize) -> Graph {
     graph
 }
 
+/// A few vertices without an edge, or many.
 fn isolated(random: &mut Random, n: usize) -> Graph {
     let mut graph = dense(random, n);
-    for _ in 0..random.between(1, 3).min(n) {
+    for _ in 0..random.choose(&[1, 2, 3, n / 2, n]).min(n) {
         let vertex = random.below(n);
         for other in 0..n {
             graph.unlink(vertex, other);
@@ -157,15 +187,26 @@ fn isolated(random: &mut Random, n: usize) -> Graph {
     graph
 }
 
-/// Edges between two parts only: of the same size, or of sizes that differ.
-fn bipartite(random: &mut Random, n: usize, unbalanced: bool) -> Graph {
-    let order = random.permutation(n);
-    let part = if unbalanced {
-        n / 2 - random.between(0, n / 2)
-    } else {
-        n / 2
-    };
+/// Edges between two parts of the same size, but for one vertex where n is odd.
+fn balanced(random: &mut Random, n: usize) -> Graph {
     let percent = random.between(20, 100);
+    bipartite(random, n, n / 2, percent)
+}
+
+/// Edges between two parts only, of any sizes.
+fn unbalanced(random: &mut Random, n: usize) -> Graph {
+    let (part, percent) = (random.between(0, n / 2), random.between(20, 100));
+    bipartite(random, n, part, percent)
+}
+
+/// All edges between two parts of any sizes.
+fn complete_bipartite(random: &mut Random, n: usize) -> Graph {
+    let part = random.between(0, n / 2);
+    bipartite(random, n, part, 100)
+}
+
+fn bipartite(random: &mut Random, n: usize, part: usize, percent: usize) -> Graph {
+    let order = random.permutation(n);
     let mut graph = Graph::empty(n);
     for &left in &order[..part] {
         for &right in &order[part..] {
@@ -221,11 +262,21 @@ fn tree(random: &mut Random, n: usize) -> Graph {
 
 /// Complete graphs beside each other, of odd and even sizes.
 fn cliques(random: &mut Random, n: usize) -> Graph {
+    cliques_of(random, n, |size| size)
+}
+
+/// Complete graphs beside each other, all of odd sizes.
+fn odd_cliques(random: &mut Random, n: usize) -> Graph {
+    cliques_of(random, n, |size| (size - 1) | 1)
+}
+
+/// Complete graphs beside each other, of random sizes that are rounded down.
+fn cliques_of(random: &mut Random, n: usize, rounded: fn(usize) -> usize) -> Graph {
     let order = random.permutation(n);
     let mut graph = Graph::empty(n);
     let mut start = 0;
     while start < n {
-        let end = (start + random.between(1, 9)).min(n);
+        let end = start + rounded(random.between(1, 9).min(n - start));
         for i in start..end {
             for j in i + 1..end {
                 graph.link(order[i], order[j]);
@@ -235,91 +286,4 @@ fn cliques(random: &mut Random, n: usize) -> Graph {
     }
     set_weights(random, &mut graph);
     graph
-}
-
-/// A matrix of rank 2k, as a sum of k forms x(i) y(j) - x(j) y(i).
-pub fn low_rank(random: &mut Random, n: usize) -> Graph {
-    let terms = random.between(1, (n / 2).max(1));
-    let mut entries = vec![0; n * n];
-    for _ in 0..terms {
-        let x: Vec<u64> = (0..n).map(|_| random.number() % P).collect();
-        let y: Vec<u64> = (0..n).map(|_| random.number() % P).collect();
-        for i in 0..n {
-            for j in i + 1..n {
-                let form = x[i] * y[j] % P + P - x[j] * y[i] % P;
-                entries[i * n + j] = (entries[i * n + j] + form) % P;
-            }
-        }
-    }
-    let mut graph = Graph::empty(n);
-    for i in 0..n {
-        for j in i + 1..n {
-            let entry = entries[i * n + j];
-            if entry != 0 {
-                graph.link(i, j);
-                graph.set_weight(i, j, entry as u16);
-            }
-        }
-    }
-    graph
-}
-
-/// A graph with an inverse, and then one weight changed so that the weights
-/// cancel: the Pfaffian is linear in each weight, and adding 1 / B(i,j) to the
-/// weight of i < j makes it 0, where B is the inverse. Unchanged where there is
-/// no inverse or no weight that will do.
-pub fn cancelling(random: &mut Random, n: usize) -> Graph {
-    let mut graph = matched(random, n);
-    if random.percent(50) {
-        graph.adjacency = dense(random, n).adjacency;
-    }
-    let Some(inverse) = inverse_of(&graph) else {
-        return graph;
-    };
-    let mut edges: Vec<(usize, usize)> = Vec::new();
-    for i in 0..n {
-        edges.extend((i + 1..n).filter(|&j| graph.adjacent(i, j)).map(|j| (i, j)));
-    }
-    for _ in 0..8 {
-        if edges.is_empty() {
-            break;
-        }
-        let (i, j) = random.choose(&edges);
-        let entry = u64::from(inverse[i * n + j]);
-        let index = graph.weight_index(i, j);
-        let weight = (u64::from(graph.weights[index]) + power(entry, P - 2)) % P;
-        if entry != 0 && weight != 0 {
-            graph.weights[index] = weight as u16;
-            assert!(inverse_of(&graph).is_none(), "the weights do not cancel");
-            break;
-        }
-    }
-    graph
-}
-
-fn power(base: u64, exponent: u64) -> u64 {
-    let (mut base, mut exponent, mut product) = (base % P, exponent, 1);
-    while exponent > 0 {
-        if exponent % 2 == 1 {
-            product = product * base % P;
-        }
-        base = base * base % P;
-        exponent /= 2;
-    }
-    product
-}
-
-fn inverse_of(graph: &Graph) -> Option<Vec<u16>> {
-    let n = graph.n;
-    let mut inverse = vec![0; n * n];
-    let opened = opening::open(
-        n as u64,
-        &graph.adjacency,
-        &graph.weights,
-        &mut inverse,
-        &mut vec![0; n],
-        &mut vec![0; n],
-        &mut vec![0; n * n],
-    );
-    matches!(opened, Ok(Opening::Opened(_))).then_some(inverse)
 }

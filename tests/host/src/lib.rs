@@ -7,4 +7,5 @@ pub mod cases;
 pub mod damage;
 pub mod entry;
 pub mod graphs;
+pub mod matrices;
 pub mod random;

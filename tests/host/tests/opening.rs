@@ -70,6 +70,27 @@ fn every_size() {
 }
 
 #[test]
+fn few_weights() {
+    let tally = check("few weights", cases::few_weights(), any_outcome);
+    assert_eq!(tally.total(), 1300);
+    assert!(tally.opened > 200 && tally.singular > 700);
+}
+
+#[test]
+fn low_ranks() {
+    let tally = check("low ranks", cases::low_ranks(), any_outcome);
+    assert_eq!(tally.total(), 800);
+    assert!(tally.singular > 700);
+}
+
+#[test]
+fn made_by_pairs() {
+    let tally = check("made by pairs", cases::made_by_pairs(), known_outcome);
+    assert_eq!(tally.total(), 1200);
+    assert!(tally.opened > 200 && tally.singular > 600);
+}
+
+#[test]
 fn all_graphs_of_four() {
     let family = cases::all_graphs_of_four();
     let tally = check("all graphs of four", family, any_outcome);
