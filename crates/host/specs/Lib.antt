@@ -1,5 +1,3 @@
--- Laws of words as bytes.
-pub mod Words
 -- Tables that agree as far as they are needed, and opening over them.
 pub mod Same
 pub mod Room

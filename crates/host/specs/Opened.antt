@@ -1,23 +1,25 @@
 -- Opening over lent words, and through the host. Assumes nothing.
 use mathlib.Core.Path.{_≡_, refl, sym, ap, _∙_}
-use mathlib.Core.List.{List}
-use Prim.Native.Nat.{ℕ, _*_, _≤_, _<_}
+use mathlib.Core.List.{List, _++_}
+use Prim.Native.Nat.{ℕ, zero, suc, _*_, _≤_, _<_}
 use native.Mathlib.Omega.{arith}
-use lib.ListN.{length, getD, take, replicate, length-replicate}
-use Rattle.lists.specs.Table.{square-small}
+use lib.ListN.{length, getD, take, drop, replicate, length-replicate}
 use Rattle.skew.specs.Subset.{Subset}
 use Rattle.residue.specs.Modulus.{modulus}
-use Rattle.matching.specs.Decision.{Every, accepted}
+use Rattle.matching.specs.Decision.{Every, Refusal, because, accepted, refused}
+use Rattle.matching.specs.Causes.{opening-ruling}
 use Rattle.matching.specs.Pairs.{everything, unused}
 use Rattle.matching.specs.Graph.{Graph, pair-count, over}
 use Rattle.matching.specs.Session.{onto}
 use Rattle.matching.specs.Opening.{Opening, opened, singular, not-opened, Buffers, ruling, with-inverse, with-witness, Opens, refuses-opening, opens, finds-singular}
 use Rattle.matching.specs.Host.{words, bytes-of, opening-number, unpacked, HostOpens}
-use Rattle.laws.specs.Onto.{onto-long}
+use Rattle.laws.specs.Onto.{onto-front}
 use Rattle.laws.specs.Sound.{opening-accepted}
 use Rattle.laws.specs.Numbers as numbers
-use Rattle.opening.specs.Answers.{buffers}
-use Rattle.host.specs.Words.{Bytes, stored-front}
+use Rattle.checks.specs.declared.Ruling.{Ruling}
+use Rattle.checks.specs.declared.Ruling.the-variants.{Accepted, Refused}
+use Rattle.opening.specs.Answers.{buffers, extent}
+use Rattle.packing.specs.Words.{Bytes, stored-front}
 use Rattle.host.specs.Same.{table-same, singular-same}
 use Rattle.host.specs.Room.{Front, Lends, room-enough, lent-agree, ruling-same}
 
@@ -26,12 +28,6 @@ abbrev pub Small : Opening → Type 0
 Small (opened s) = s .made < 256
 Small (singular f) = f < 256
 Small (not-opened r) = r .place < 65536
-
--- for how many vertices words are stored
-abbrev pub extent : ℕ → Opening → ℕ
-extent n (opened s) = n
-extent n (singular f) = n
-extent n (not-opened r) = 0
 
 -- the words left for m vertices, as bytes written over those of the host
 abbrev pub store : ℕ → Buffers → Buffers → Buffers
@@ -56,30 +52,11 @@ pub record OpensBytes (n : ℕ) (adjacency weights : List ℕ) (w b : Buffers) (
   pub front : Front n weights lent
   pub opened-over : OpensOver n adjacency lent w b answer after
 
--- what is stored is there
-pub record Within (m : ℕ) (left : Buffers) : Type 0 where
-  pub size : m ≤ 96
-  pub inverse : m * m ≤ length (left .inverse)
-  pub witness : m ≤ length (left .witness)
-  pub work : m * m ≤ length (left .work)
-
-pub opens-within : {p : ℕ} {g : Graph} {S : Subset} {b left : Buffers} {o : Opening} → Opens p g S b o left → Within (extent (g .n) o) left
-opens-within (refuses-opening r e) = record { size = omega arith; inverse = omega arith; witness = omega arith; work = omega arith }
-opens-within {p} {g} {S} {b} (opens inverse e l I) = record {
-  size = opening-accepted p g _ _ _ _ .0 e .1 .size;
-  inverse = onto-long inverse (b .inverse) (g .n * g .n) l;
-  witness = onto-long (replicate (g .n) 0) (b .witness) (g .n) (length-replicate _ _);
-  work = onto-long (replicate (g .n * g .n) 0) (b .work) (g .n * g .n) (length-replicate _ _);
-}
-opens-within {p} {g} {S} {b} (finds-singular f witness e l s) = record {
-  size = opening-accepted p g _ _ _ _ .0 e .1 .size;
-  inverse = onto-long (replicate (g .n * g .n) 0) (b .inverse) (g .n * g .n) (length-replicate _ _);
-  witness = onto-long witness (b .witness) (g .n) l;
-  work = onto-long (replicate (g .n * g .n) 0) (b .work) (g .n * g .n) (length-replicate _ _);
-}
+pub place-small : (p : ℕ) (g : Graph) (b : Buffers) {r : Refusal} → ruling p g b ≡ refused r → r .place < 65536
+place-small p g b {r} e = numbers.opens-small {S = everything} {b = b} (refuses-opening r e) .place-below
 
 pub opens-small : {p : ℕ} {g : Graph} {S : Subset} {b left : Buffers} {o : Opening} → Opens p g S b o left → Small o
-opens-small {S = S} {b = b} (refuses-opening r e) = numbers.opens-small {S = S} {b = b} (refuses-opening r e) .place-below
+opens-small {p} {g} {b = b} (refuses-opening r e) = place-small p g b e
 opens-small (opens inverse e l I) = omega arith
 opens-small {p} {g} (finds-singular f witness e l s) =
     omega (arith, s .kernel .below, opening-accepted p g _ _ _ _ .0 e .1 .size)
@@ -95,7 +72,7 @@ record Enough (n : ℕ) (weights lent : List ℕ) (b : Buffers) : Type 0 where
   work : n * n ≤ length (words (b .work))
 
 -- opening over the words that matter is opening through the host
-module _ (n : ℕ) (adjacency : List ℕ) {weights lent : List ℕ} (F : Front n weights lent) {w b : Buffers} (L : Lends b w)
+module _ (n : ℕ) (adjacency : List ℕ) {weights lent : List ℕ} (F : Front n weights lent) {w b : Buffers} (L : Lends n b w)
     (inverse-bytes : Bytes (b .inverse)) (witness-bytes : Bytes (b .witness)) (work-bytes : Bytes (b .work)) where
   enough : ruling modulus (over n adjacency lent) w ≡ accepted → Enough n weights lent b
   enough e =
@@ -103,9 +80,9 @@ module _ (n : ℕ) (adjacency : List ℕ) {weights lent : List ℕ} (F : Front n
       let h = k .1 .size in
       record {
         agree = lent-agree F L adjacency (k .0 .1 .0);
-        inverse = room-enough (b .inverse) (L .inverse) (n * n) (square-small n h) .0 (k .0 .1 .1 .0);
-        witness = room-enough (b .witness) (L .witness) n h .0 (k .0 .1 .1 .1 .1 .0);
-        work = room-enough (b .work) (L .work) (n * n) (square-small n h) .0 (k .0 .1 .1 .1 .1 .1 .0);
+        inverse = room-enough (b .inverse) (L .inverse) (n * n) (L .cells-enough h) .0 (k .0 .1 .1 .0);
+        witness = room-enough (b .witness) (L .witness) n (L .most-enough h) .0 (k .0 .1 .1 .1 .1 .0);
+        work = room-enough (b .work) (L .work) (n * n) (L .cells-enough h) .0 (k .0 .1 .1 .1 .1 .1 .0);
       }
 
   through : {o : Opening} {left : Buffers} → Opens modulus (over n adjacency lent) everything w o left
@@ -146,7 +123,28 @@ module _ (n : ℕ) (adjacency : List ℕ) {weights lent : List ℕ} (F : Front n
       }
 
 pub host-opens : {n answer : ℕ} {adjacency weights : List ℕ} {w b after : Buffers} → OpensBytes n adjacency weights w b answer after
-    → Lends b w → Bytes (b .inverse) → Bytes (b .witness) → Bytes (b .work) → HostOpens modulus n adjacency weights everything b answer after
+    → Lends n b w → Bytes (b .inverse) → Bytes (b .witness) → Bytes (b .work) → HostOpens modulus n adjacency weights everything b answer after
 host-opens {n} {adjacency = adjacency} O L inverse-bytes witness-bytes work-bytes =
     rw (O .opened-over .numbered, O .opened-over .stored)
     (through n adjacency (O .front) L inverse-bytes witness-bytes work-bytes (O .opened-over .outcome))
+
+-- a refusal for the size or the lengths is opening's
+abbrev pub Judged : Graph → (inverse sequence witness work : ℕ) → Ruling → Type 0
+Judged g inverse sequence witness work Accepted = Unit {0}
+Judged g inverse sequence witness work (Refused why) =
+    opening-ruling modulus g inverse sequence witness work ≡ refused (because (why .cause) (why .place))
+
+-- and so it is through the host
+pub host-refuses : (n : ℕ) (adjacency weights : List ℕ) (b : Buffers) {r : Refusal} → ruling modulus (over n adjacency (words weights)) (unpacked b) ≡ refused r
+    → HostOpens modulus n adjacency weights everything b (opening-number (not-opened r)) b
+host-refuses n adjacency weights b {r} e =
+    record { opening = not-opened r; buffers = unpacked b; outcome = refuses-opening r e; numbered = refl; stored = refl }
+
+-- bytes of zeros are stored words of zeros
+bytes-zeros : (m : ℕ) → bytes-of (replicate m 0) ≡ replicate (2 * m) 0
+unfolding bytes-of
+bytes-zeros zero = refl
+bytes-zeros (suc m) = let e : 2 * suc m ≡ suc (suc (2 * m)) = omega arith in rw (e, bytes-zeros m)
+
+pub zeros-stored : (m : ℕ) (old l : List ℕ) → onto (bytes-of (take m (onto (replicate m 0) old))) l ≡ replicate (2 * m) 0 ++ drop (2 * m) l
+zeros-stored m old l = rw (onto-front (replicate m 0) old m (length-replicate m 0), bytes-zeros m, length-replicate {A = ℕ} (2 * m) 0)

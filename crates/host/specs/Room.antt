@@ -17,7 +17,7 @@ use Rattle.matching.specs.Causes.{Lent, lent-to-opening, first-short, bad-cell,
 use Rattle.matching.specs.Opening.{Buffers, ruling}
 use Rattle.matching.specs.Host.{words, unpacked}
 use Rattle.laws.specs.Sound.{when-at, when-absent, short-absent}
-use Rattle.host.specs.Words.{words-length}
+use Rattle.packing.specs.Words.{words-length}
 use Rattle.host.specs.Same.{cells-same, weights-same}
 
 -- r words are all that so many bytes hold, or the most that matter
@@ -80,13 +80,17 @@ pub record Front (n : ℕ) (weights lent : List ℕ) : Type 0 where
   pub first : lent ≡ take count (words weights)
 
 -- and the words lent in the place of the other byte slices
-pub record Lends (b w : Buffers) : Type 0 where
-  pub inverse : Room (length (b .inverse)) 9216 (length (w .inverse))
+pub record Lends (n : ℕ) (b w : Buffers) : Type 0 where
+  pub most : ℕ
+  pub cells : ℕ
+  pub most-enough : n ≤ largest → n ≤ most
+  pub cells-enough : n ≤ largest → n * n ≤ cells
+  pub inverse : Room (length (b .inverse)) cells (length (w .inverse))
   pub sequence : w .sequence ≡ b .sequence
-  pub witness : Room (length (b .witness)) 96 (length (w .witness))
-  pub work : Room (length (b .work)) 9216 (length (w .work))
+  pub witness : Room (length (b .witness)) most (length (w .witness))
+  pub work : Room (length (b .work)) cells (length (w .work))
 
-module _ {n : ℕ} {weights lent : List ℕ} (F : Front n weights lent) {b w : Buffers} (L : Lends b w) (adjacency : List ℕ) where
+module _ {n : ℕ} {weights lent : List ℕ} (F : Front n weights lent) {b w : Buffers} (L : Lends n b w) (adjacency : List ℕ) where
   lent-length : length lent ≡ F .count
   lent-length =
       ap length (F .first) ∙ length-take-le (F .count) (words weights) (room-enough weights (F .enough) (F .count) (F .enough .capped) .0 (omega arith))
@@ -102,10 +106,10 @@ module _ {n : ℕ} {weights lent : List ℕ} (F : Front n weights lent) {b w : B
   short-same h =
       choice-same _ _ (n * n) 1 (λ k. k, λ k. k)
       (choice-same (length lent) (length (words weights)) (pair-count n) 2 (rw lent-length (room-enough weights (F .enough) (pair-count n) (omega (arith, needed-all n h))))
-      (choice-same _ _ (n * n) 3 (room-enough (b .inverse) (L .inverse) (n * n) (square-small n h))
+      (choice-same _ _ (n * n) 3 (room-enough (b .inverse) (L .inverse) (n * n) (L .cells-enough h))
       (choice-same (length (w .sequence)) (length (b .sequence)) n 4 (rw (L .sequence) (λ k. k, λ k. k))
-      (choice-same _ _ n 5 (room-enough (b .witness) (L .witness) n h)
-      (choice-same _ _ (n * n) 6 (room-enough (b .work) (L .work) (n * n) (square-small n h)) refl)))))
+      (choice-same _ _ n 5 (room-enough (b .witness) (L .witness) n (L .most-enough h))
+      (choice-same _ _ (n * n) 6 (room-enough (b .work) (L .work) (n * n) (L .cells-enough h)) refl)))))
 
   -- and opening is refused for the same cause
   pub ruling-same : (p : ℕ) → ruling p (over n adjacency lent) w ≡ ruling p (over n adjacency (words weights)) (unpacked b)

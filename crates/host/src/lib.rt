@@ -1,58 +1,20 @@
 // The entries that a host calls with numbers and byte slices. Words cross as two bytes, low first (docs/HOST.md).
+use checks::Refusal;
+use checks::Ruling;
 use opening::Opening;
 ghost use mathlib.Core.Path.{_≡_};
-ghost use Prim.Native.Nat.{_+_, _*_, _≤_};
-ghost use lib.ListN.{length, take};
+ghost use Prim.Native.Nat.{_*_, _≤_};
+ghost use lib.ListN.{length, replicate};
 ghost use Rattle.residue.specs.Modulus.{modulus};
+ghost use Rattle.matching.specs.Graph.{Graph};
 ghost use Rattle.matching.specs.Pairs.{everything};
-ghost use Rattle.matching.specs.Session.{onto};
-ghost use Rattle.matching.specs.Host.{words, bytes-of, opening-number, HostOpens, HostOpenedExactly};
+ghost use Rattle.matching.specs.Host.{opening-number, HostOpens, HostOpenedExactly};
 ghost use Rattle.opening.specs.Answers.{opening-of, buffers};
 ghost use Rattle.host.specs.Room.{Room, needed};
-ghost use Rattle.host.specs.Opened.{Small, extent, OpensOver, OpensBytes};
-
-// The word of two bytes.
-fn word(low: u8, high: u8) -> u16
-    ensures { λ r. ⌜ r ≡ low + 256 * high ⌝ }
-{
-    low as u16 + 256 * (high as u16)
-}
-
-// The words of bytes, as many as there is room for.
-fn unpack(bytes: &[u8], target: &mut [u16])
-    requires { ⌜ 2 * length (now target) ≤ length (now bytes) ⌝ }
-    ensures { λ _. ⌜ now (target .exit) ≡ take (length (now (target .entry))) (words (now (bytes .entry))) ⌝ }
-{
-    let mut i = 0;
-    while i < target.len() {
-        target[i] = word(bytes[2 * i], bytes[2 * i + 1]);
-        i += 1;
-    }
-}
-
-// The bytes of words. The bytes after them stay as they are.
-fn pack(words: &[u16], bytes: &mut [u8])
-    requires { ⌜ 2 * length (now words) ≤ length (now bytes) ⌝ }
-    ensures { λ _. ⌜ now (bytes .exit) ≡ onto (bytes-of (now (words .entry))) (now (bytes .entry)) ⌝ }
-{
-    let mut i = 0;
-    while i < words.len() {
-        bytes[2 * i] = (words[i] % 256) as u8;
-        bytes[2 * i + 1] = (words[i] / 256) as u8;
-        i += 1;
-    }
-}
-
-// The bytes of the first words, so many of them.
-fn store(words: &[u16], count: usize, bytes: &mut [u8])
-    requires { ⌜ (count ≤ length (now words)) × (2 * count ≤ length (now bytes)) ⌝ }
-    ensures { λ _. ⌜ now (bytes .exit) ≡ onto (bytes-of (take count (now (words .entry)))) (now (bytes .entry)) ⌝ }
-{
-    pack(&words[..count], bytes);
-}
+ghost use Rattle.host.specs.Opened.{Small, OpensOver, OpensBytes, Judged};
 
 // How many words this many bytes hold, counted up to the most that matter.
-fn room(bytes: usize, most: usize) -> usize
+fn fitting(bytes: usize, most: usize) -> usize
     ensures { λ r. ⌜ Room bytes most r ⌝ }
 {
     let whole = bytes / 2;
@@ -81,39 +43,30 @@ fn number(o: Opening) -> u64
     }
 }
 
-// For how many vertices words are stored: for none where opening is refused.
-fn extent(n: usize, o: Opening) -> usize
-    ensures { λ r. ⌜ r ≡ extent n (opening-of o) ⌝ }
-{
-    match o {
-        Opening::Opened(_) => n,
-        Opening::Singular(_) => n,
-        Opening::Refused(_) => 0,
-    }
-}
-
-// Opening over lent words, table for the inverse, vector for the witness and scratch for work; what it leaves in them is stored as bytes.
+// Opening over lent words, table for the inverse and vector for the witness; what it leaves in them is stored as bytes. The work buffer has
+// room for so many words, of which opening makes the first 0.
 fn open_over(
     n: usize,
     adjacency: &[u8],
     weights: &[u16],
     table: &mut [u16],
     vector: &mut [u16],
-    scratch: &mut [u16],
+    room: usize,
     inverse: &mut [u8],
     sequence: &mut [u8],
     witness: &mut [u8],
     work: &mut [u8],
 ) -> u64
-    requires { ⌜ (2 * length (now table) ≤ length (now inverse)) × (2 * length (now vector) ≤ length (now witness)) × (2 * length (now scratch) ≤ length (now work)) ⌝ }
-    ensures { λ r. ⌜ OpensOver n (now (adjacency .entry)) (now (weights .entry)) (buffers (now (table .entry)) (now (sequence .entry)) (now (vector .entry)) (now (scratch .entry))) (buffers (now (inverse .entry)) (now (sequence .entry)) (now (witness .entry)) (now (work .entry))) r (buffers (now (inverse .exit)) (now (sequence .exit)) (now (witness .exit)) (now (work .exit))) ⌝ }
+    requires { ⌜ (2 * length (now table) ≤ length (now inverse)) × (2 * length (now vector) ≤ length (now witness)) × (2 * room ≤ length (now work)) ⌝ }
+    ensures { λ r. ⌜ OpensOver n (now (adjacency .entry)) (now (weights .entry)) (buffers (now (table .entry)) (now (sequence .entry)) (now (vector .entry)) (replicate room 0)) (buffers (now (inverse .entry)) (now (sequence .entry)) (now (witness .entry)) (now (work .entry))) r (buffers (now (inverse .exit)) (now (sequence .exit)) (now (witness .exit)) (now (work .exit))) ⌝ }
 {
-    let o = opening::begin(n, adjacency, weights, table, sequence, vector, scratch);
-    let m = extent(n, o);
+    let o = opening::begin_apart(n, adjacency, weights, table, sequence, vector, room);
+    let m = opening::extent(n, o);
     let size = m * m;
-    store(table, size, inverse);
-    store(vector, m, witness);
-    store(scratch, size, work);
+    packing::store(table, size, inverse);
+    packing::store(vector, m, witness);
+    let zeros = 2 * size;
+    opening::fill_bytes(&mut work[..zeros], 0);
     number(o)
 }
 
@@ -124,27 +77,27 @@ fn open_bytes(
     weights: &[u8],
     table: &mut [u16],
     vector: &mut [u16],
-    scratch: &mut [u16],
+    room: usize,
     inverse: &mut [u8],
     sequence: &mut [u8],
     witness: &mut [u8],
     work: &mut [u8],
 ) -> u64
-    requires { ⌜ (2 * length (now table) ≤ length (now inverse)) × (2 * length (now vector) ≤ length (now witness)) × (2 * length (now scratch) ≤ length (now work)) ⌝ }
-    ensures { λ r. ⌜ OpensBytes n (now (adjacency .entry)) (now (weights .entry)) (buffers (now (table .entry)) (now (sequence .entry)) (now (vector .entry)) (now (scratch .entry))) (buffers (now (inverse .entry)) (now (sequence .entry)) (now (witness .entry)) (now (work .entry))) r (buffers (now (inverse .exit)) (now (sequence .exit)) (now (witness .exit)) (now (work .exit))) ⌝ }
+    requires { ⌜ (2 * length (now table) ≤ length (now inverse)) × (2 * length (now vector) ≤ length (now witness)) × (2 * room ≤ length (now work)) ⌝ }
+    ensures { λ r. ⌜ OpensBytes n (now (adjacency .entry)) (now (weights .entry)) (buffers (now (table .entry)) (now (sequence .entry)) (now (vector .entry)) (replicate room 0)) (buffers (now (inverse .entry)) (now (sequence .entry)) (now (witness .entry)) (now (work .entry))) r (buffers (now (inverse .exit)) (now (sequence .exit)) (now (witness .exit)) (now (work .exit))) ⌝ }
 {
     // The weights of the largest graph: 96 * 95 / 2.
     let mut values = [0u16; 4560];
     let most = weights_needed(n);
-    let count = room(weights.len(), most);
-    unpack(weights, &mut values[..count]);
+    let count = fitting(weights.len(), most);
+    packing::unpack(weights, &mut values[..count]);
     open_over(
         n,
         adjacency,
         &values[..count],
         table,
         vector,
-        scratch,
+        room,
         inverse,
         sequence,
         witness,
@@ -152,7 +105,89 @@ fn open_bytes(
     )
 }
 
-// Opens a session: document 01, "Opening", through the host.
+// The same, with words of its own. A small graph has fewer, which take less time to clear.
+fn open_words(
+    n: usize,
+    adjacency: &[u8],
+    weights: &[u8],
+    inverse: &mut [u8],
+    sequence: &mut [u8],
+    witness: &mut [u8],
+    work: &mut [u8],
+) -> u64
+    ensures { λ r. ⌜ HostOpens modulus n (now (adjacency .entry)) (now (weights .entry)) everything (buffers (now (inverse .entry)) (now (sequence .entry)) (now (witness .entry)) (now (work .entry))) r (buffers (now (inverse .exit)) (now (sequence .exit)) (now (witness .exit)) (now (work .exit))) ⌝ }
+{
+    if n <= 32 {
+        // 32 * 32 and 32 words.
+        let mut table = [0u16; 1024];
+        let mut vector = [0u16; 32];
+        let inverse_room = fitting(inverse.len(), 1024);
+        let witness_room = fitting(witness.len(), 32);
+        let work_room = fitting(work.len(), 1024);
+        return open_bytes(
+            n,
+            adjacency,
+            weights,
+            &mut table[..inverse_room],
+            &mut vector[..witness_room],
+            work_room,
+            inverse,
+            sequence,
+            witness,
+            work,
+        );
+    }
+    // The words of the largest graph: 96 * 96 and 96.
+    let mut table = [0u16; 9216];
+    let mut vector = [0u16; 96];
+    let inverse_room = fitting(inverse.len(), 9216);
+    let witness_room = fitting(witness.len(), 96);
+    let work_room = fitting(work.len(), 9216);
+    open_bytes(
+        n,
+        adjacency,
+        weights,
+        &mut table[..inverse_room],
+        &mut vector[..witness_room],
+        work_room,
+        inverse,
+        sequence,
+        witness,
+        work,
+    )
+}
+
+// Causes 1 and 2, for the size and how many bytes or words the buffers hold.
+fn judge_room(
+    n: usize,
+    adjacency: usize,
+    weights: usize,
+    inverse: usize,
+    sequence: usize,
+    witness: usize,
+    work: usize,
+) -> Ruling
+    ensures { λ r. ⌜ ((g : Graph) → g .n ≡ n → length (g .adjacency) ≡ adjacency → length (g .weights) ≡ weights → Judged g inverse sequence witness work r) ⌝ }
+{
+    if let Ruling::Refused(refusal) = checks::judge_lengths(
+        n,
+        adjacency,
+        weights,
+        inverse,
+        sequence,
+    ) {
+        return Ruling::Refused(refusal);
+    }
+    if witness < n {
+        return Ruling::Refused(Refusal { cause: 2, place: 5 });
+    }
+    if work < n * n {
+        return Ruling::Refused(Refusal { cause: 2, place: 6 });
+    }
+    Ruling::Accepted
+}
+
+// Opens a session: document 01, "Opening", through the host. Words are taken only where the size and the lengths are in order.
 #[no_mangle]
 pub extern "C" fn saszvigom_open(
     n: u64,
@@ -166,20 +201,22 @@ pub extern "C" fn saszvigom_open(
     ensures { λ r. ⌜ HostOpens modulus n (now (adjacency .entry)) (now (weights .entry)) everything (buffers (now (inverse .entry)) (now (sequence .entry)) (now (witness .entry)) (now (work .entry))) r (buffers (now (inverse .exit)) (now (sequence .exit)) (now (witness .exit)) (now (work .exit))) ⌝ }
     ensures { λ r. ⌜ HostOpenedExactly modulus n (now (adjacency .entry)) (now (weights .entry)) everything (buffers (now (inverse .entry)) (now (sequence .entry)) (now (witness .entry)) (now (work .entry))) r ⌝ }
 {
-    // The words of the largest graph: 96 * 96 and 96.
-    let mut table = [0u16; 9216];
-    let mut vector = [0u16; 96];
-    let mut scratch = [0u16; 9216];
-    let inverse_room = room(inverse.len(), 9216);
-    let witness_room = room(witness.len(), 96);
-    let work_room = room(work.len(), 9216);
-    open_bytes(
+    let ruling = judge_room(
+        n as usize,
+        adjacency.len(),
+        weights.len() / 2,
+        inverse.len() / 2,
+        sequence.len(),
+        witness.len() / 2,
+        work.len() / 2,
+    );
+    if let Ruling::Refused(refusal) = ruling {
+        return number(Opening::Refused(refusal));
+    }
+    open_words(
         n as usize,
         adjacency,
         weights,
-        &mut table[..inverse_room],
-        &mut vector[..witness_room],
-        &mut scratch[..work_room],
         inverse,
         sequence,
         witness,

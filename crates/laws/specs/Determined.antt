@@ -16,7 +16,7 @@ use Rattle.skew.specs.Subset.{Subset, count, count-none, count-suc}
 use Rattle.skew.specs.Matching.{invertible-even}
 use Rattle.skew.specs.Inverse.{Matrix, Inverse, Invertible, apply-congruent, inverse-unique, same-entries}
 use Rattle.skew.specs.Column.{FirstDependent, Witness, witness-unique}
-use Rattle.skew.specs.Decide.{Outcome, inverse, column, eliminate, witness-singular, first-unique}
+use Rattle.skew.specs.Decide.{Outcome, inverse, column, outcome, witness-singular, first-unique}
 use Rattle.matching.specs.Decision.{Every, Ruling, accepted, refused}
 use Rattle.matching.specs.Graph.{Graph, over, tutte}
 use Rattle.matching.specs.Pairs.{everything}
@@ -110,7 +110,7 @@ module _ {p : ℕ} (P : OddPrime p) (g : Graph) (S : Subset) where
 
   -- opening has an outcome
   pub opens-some : (b : Buffers) → (o : Opening) × (after : Buffers) × Opens p g S b o after
-  opens-some b = go (ruling p g b) refl (eliminate P (g .n) (tutte g p) (skew P g S) S)
+  opens-some b = go (ruling p g b) refl (outcome P (g .n) (tutte g p) (skew P g S) S)
     where
       go : (v : Ruling) → ruling p g b ≡ v → Outcome p (g .n) (tutte g p) S → (o : Opening) × (after : Buffers) × Opens p g S b o after
       go (refused r) e _ = (not-opened r, b, refuses-opening r e)

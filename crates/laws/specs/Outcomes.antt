@@ -7,7 +7,7 @@ use lib.ListN.{length, take, replicate}
 use Rattle.modular.specs.Prime.{OddPrime}
 use Rattle.residue.specs.Modulus.{modulus, modulus-prime}
 use Rattle.skew.specs.Subset.{Subset}
-use Rattle.skew.specs.Decide.{Outcome, inverse, column, eliminate, witness-singular}
+use Rattle.skew.specs.Decide.{Outcome, inverse, column, outcome, witness-singular}
 use Rattle.skew.specs.Matching.{invertible-even}
 use Rattle.matching.specs.Decision.{Refusal, Ruling, accepted, refused}
 use Rattle.matching.specs.Graph.{Graph, tutte}
@@ -80,7 +80,7 @@ lists-some input = go (read (take input-limit input) .reading) (read (take input
     go : (r : Reading) → ReadsAs (take input-limit input) r → (text : List ℕ) × Lists input text
     go (unread why) R = (_, refuses-sheet R)
     go (sheet n weights edges) R =
-        ends (eliminate modulus-prime (g .n) (tutte g modulus) (skew modulus-prime g everything) everything)
+        ends (outcome modulus-prime (g .n) (tutte g modulus) (skew modulus-prime g everything) everything)
       where
         g : Graph
         g = graph n weights edges

@@ -14,3 +14,9 @@ opening-of (Refused r) = definition.not-opened (because (r .cause) (r .place))
 
 abbrev pub buffers : (inverse sequence witness work : List ℕ) → Buffers
 buffers inverse sequence witness work = record { inverse = inverse; sequence = sequence; witness = witness; work = work }
+
+-- for how many vertices words are written
+abbrev pub extent : ℕ → definition.Opening → ℕ
+extent n (definition.opened s) = n
+extent n (definition.singular f) = n
+extent n (definition.not-opened r) = 0

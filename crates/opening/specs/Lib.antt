@@ -1,3 +1,3 @@
--- What opening answers, and what it computes.
+-- What opening answers, and what it leaves.
 pub mod Answers
-pub mod Solved
+pub mod Begun

@@ -1,13 +1,19 @@
 -- What is lent to the filling of a table, and what the table then holds. Assumes nothing.
+use mathlib.Core.Path.{_≡_, refl, ap, _∙_}
+use mathlib.Core.Logic.{_≢_}
 use mathlib.Core.List.{List}
-use Prim.Native.Nat.{ℕ, _+_, _*_, _-_, _/_, _%_, _≤_, _<_}
+use Prim.Native.Nat.{ℕ, _+_, _*_, _-_, _/_, _≤_, _<_}
 use native.Mathlib.Nat.{mul-le-mul}
 use native.Mathlib.Omega.{arith}
-use lib.ListN.{length}
-use Rattle.lists.specs.Values.{list-of}
-use Rattle.lists.specs.Table.{index-below}
-use Rattle.residue.specs.Modulus.{modulus}
-use Rattle.matching.specs.Graph.{Graph, over, largest, pair-count, tutte}
+use native.Mathlib.Decide.{ℕ-discrete}
+use lib.ListN.{length, getD}
+use Rattle.lists.specs.Values.{list-of, length-list-of, getD-list-of}
+use Rattle.lists.specs.Part.{replaced, length-replaced}
+use Rattle.lists.specs.Table.{table, index-below, row-fits, row-left, row-inside, row-other}
+use Rattle.skew.specs.Subset.{Subset}
+use Rattle.skew.specs.Inverse.{Matrix}
+use Rattle.skew.specs.Exchange.{select}
+use Rattle.matching.specs.Graph.{Graph, over, largest, pair-count, upper}
 use Rattle.laws.specs.Weights.{index-closed, index-fits}
 
 -- a graph of at most 96 vertices whose tables are long enough
@@ -16,13 +22,62 @@ pub record Complete (n : ℕ) (adjacency weights : List ℕ) : Type 0 where
   pub cells : n * n ≤ length adjacency
   pub weights-enough : pair-count n ≤ length weights
 
--- a row of the matrix
-abbrev pub row-of : Graph → ℕ → List ℕ
-row-of g i = list-of (g .n) (λ j. tutte g modulus i j)
+-- an entry above the diagonal; 0 unless both vertices are in the set
+abbrev pub restricted : Graph → Subset → Matrix
+restricted g S i j = select (S i) (select (S j) (upper g i j) 0) 0
 
--- the table of the matrix, row by row
-abbrev pub filled : Graph → List ℕ
-filled g = list-of (g .n * g .n) (λ x. tutte g modulus (x / g .n) (x % g .n))
+-- so many words of a row, from the diagonal on
+abbrev pub row-of : Graph → Subset → ℕ → ℕ → List ℕ
+row-of g S i size = list-of size (λ k. restricted g S i (i + 1 + k))
+
+-- the first m rows are filled above the diagonal, and nothing else is changed
+pub record Filled (g : Graph) (S : Subset) (m : ℕ) (t t' : List ℕ) : Type 0 where
+  pub size : length t' ≡ length t
+  pub above : (i j : ℕ) → i < m → i < j → j < g .n → table (g .n) t' i j ≡ restricted g S i j
+  pub on-below : (i j : ℕ) → i < g .n → j ≤ i → table (g .n) t' i j ≡ table (g .n) t i j
+
+pub filled-start : (g : Graph) (S : Subset) (t : List ℕ) → Filled g S 0 t t
+filled-start g S t = record { size = refl; above = λ i j l. absurd (omega arith); on-below = λ i j _ _. refl }
+
+-- row m
+module _ (g : Graph) (S : Subset) {m : ℕ} {t s : List ℕ} (F : Filled g S m t s) (hm : m < g .n) (full : length t ≡ g .n * g .n) where
+  pub filled-next : {part : List ℕ} (size : ℕ) → m + 1 + size ≡ g .n → part ≡ row-of g S m size
+      → Filled g S (m + 1) t (replaced s (m * g .n + (m + 1)) size part)
+  filled-next {part} size e q = record {
+    size = length-replaced s (m * n + (m + 1)) size part room len ∙ F .size;
+    above = λ i j l h hj. above i j l h hj (ℕ-discrete i m);
+    on-below = λ i j hi l. below i j hi l (ℕ-discrete i m);
+  }
+    where
+      n : ℕ
+      n = g .n
+
+      full' : length s ≡ n * n
+      full' = F .size ∙ full
+
+      room : m * n + (m + 1) + size ≤ length s
+      room = omega (arith, full', row-fits n m hm)
+
+      len : length part ≡ size
+      len = rw q (length-list-of size _)
+
+      other : (i j : ℕ) → j < n → i ≢ m → table n (replaced s (m * n + (m + 1)) size part) i j ≡ table n s i j
+      other = row-other n m (m + 1) (m * n + (m + 1)) size s part refl len hm (omega arith) full'
+
+      above : (i j : ℕ) → i < m + 1 → i < j → j < n → Dec (i ≡ m) → table n (replaced s (m * n + (m + 1)) size part) i j ≡ restricted g S i j
+      above i j l h hj (no d) = other i j hj d ∙ F .above i j (omega arith) h hj
+      above i j l h hj (yes w) =
+          let z : m + 1 + (j - (m + 1)) ≡ j = omega arith in
+          rw w
+          (row-inside n m (m + 1) (m * n + (m + 1)) size s part refl len hm (omega arith) full' j (omega arith) (omega arith)
+          ∙ ap (λ l. getD l (j - (m + 1)) 0) q
+          ∙ getD-list-of size _ (j - (m + 1)) (omega arith)
+          ∙ ap (restricted g S m) z)
+
+      below : (i j : ℕ) → i < n → j ≤ i → Dec (i ≡ m) → table n (replaced s (m * n + (m + 1)) size part) i j ≡ table n t i j
+      below i j hi l (no d) = other i j (omega arith) d ∙ F .on-below i j hi l
+      below i j hi l (yes w) =
+          rw w (row-left n m (m + 1) (m * n + (m + 1)) size s part refl len hm (omega arith) full' j (omega arith) ∙ F .on-below m j hm (omega arith))
 
 module _ {n : ℕ} {adjacency weights : List ℕ} (L : Complete n adjacency weights) (i j : ℕ) where
   -- products of indices are small

@@ -1,11 +1,11 @@
-// The Tutte matrix of a graph in order, as a table of numbers below 65521.
-use residue::Residue;
+// The Tutte matrix of a graph in order, on a set of vertices: its entries above the diagonal, as a table of words. The set is a byte for
+// each vertex, not 0 for those in it.
 ghost use mathlib.Core.Path.{_≡_};
-ghost use Prim.Native.Nat.{_*_, _<_};
+ghost use Prim.Native.Nat.{_+_, _*_, _<_};
 ghost use lib.ListN.{length};
-ghost use Rattle.matching.specs.Graph.{upper, tutte, over};
-ghost use Rattle.residue.specs.Modulus.{modulus};
-ghost use Rattle.tutte.specs.Table.{Complete, row-of, filled};
+ghost use Rattle.skew.specs.Subset.{marked};
+ghost use Rattle.matching.specs.Graph.{upper, over};
+ghost use Rattle.tutte.specs.Table.{Complete, restricted, row-of, Filled};
 
 // The weight of i < j where they are adjacent, else 0.
 fn upper(n: usize, adjacency: &[u8], weights: &[u16], i: usize, j: usize) -> u16
@@ -20,47 +20,46 @@ fn upper(n: usize, adjacency: &[u8], weights: &[u16], i: usize, j: usize) -> u16
     }
 }
 
-// Row i, column j of the matrix.
-fn entry(n: usize, adjacency: &[u8], weights: &[u16], i: usize, j: usize) -> u16
-    requires { ⌜ Complete n (now adjacency) (now weights) ⌝ }
-    requires { ⌜ (i < n) × (j < n) ⌝ }
-    ensures { λ r. ⌜ r ≡ tutte (over n (now (adjacency .entry)) (now (weights .entry))) modulus i j ⌝ }
+// The same, but 0 unless both are in the set.
+fn entry(n: usize, adjacency: &[u8], weights: &[u16], set: &[u8], i: usize, j: usize) -> u16
+    requires { ⌜ Complete n (now adjacency) (now weights) × (length (now set) ≡ n) ⌝ }
+    requires { ⌜ (i < j) × (j < n) ⌝ }
+    ensures { λ r. ⌜ r ≡ restricted (over n (now (adjacency .entry)) (now (weights .entry))) (marked (now (set .entry))) i j ⌝ }
 {
-    if i < j {
-        return upper(n, adjacency, weights, i, j);
+    if set[i] == 0 {
+        return 0;
     }
-    if j < i {
-        let weight = upper(n, adjacency, weights, j, i);
-        let negative = Residue { value: weight }.negate();
-        return negative.value;
+    if set[j] == 0 {
+        return 0;
     }
-    0
+    upper(n, adjacency, weights, i, j)
 }
 
-// Row i of the matrix.
-fn fill_row(n: usize, adjacency: &[u8], weights: &[u16], i: usize, row: &mut [u64])
-    requires { ⌜ Complete n (now adjacency) (now weights) ⌝ }
-    requires { ⌜ (i < n) × (length (now row) ≡ n) ⌝ }
-    ensures { λ _. ⌜ now (row .exit) ≡ row-of (over n (now (adjacency .entry)) (now (weights .entry))) i ⌝ }
+// Row i from the diagonal on.
+fn fill_row(n: usize, adjacency: &[u8], weights: &[u16], set: &[u8], i: usize, row: &mut [u64])
+    requires { ⌜ Complete n (now adjacency) (now weights) × (length (now set) ≡ n) ⌝ }
+    requires { ⌜ (i < n) × (i + 1 + length (now row) ≡ n) ⌝ }
+    ensures { λ _. ⌜ now (row .exit) ≡ row-of (over n (now (adjacency .entry)) (now (weights .entry))) (marked (now (set .entry))) i (length (now (row .entry))) ⌝ }
 {
-    let mut j = 0;
-    while j < n {
-        row[j] = entry(n, adjacency, weights, i, j) as u64;
-        j += 1;
+    let mut k = 0;
+    while k < row.len() {
+        row[k] = entry(n, adjacency, weights, set, i, i + 1 + k) as u64;
+        k += 1;
     }
 }
 
-// The whole matrix, row by row.
-pub fn fill(n: usize, adjacency: &[u8], weights: &[u16], table: &mut [u64])
-    requires { ⌜ Complete n (now adjacency) (now weights) ⌝ }
+// All entries above the diagonal; the other words of the table stay as they are. For proved callers.
+pub fn fill(n: usize, adjacency: &[u8], weights: &[u16], set: &[u8], table: &mut [u64])
+    requires { ⌜ Complete n (now adjacency) (now weights) × (length (now set) ≡ n) ⌝ }
     requires { ⌜ length (now table) ≡ n * n ⌝ }
-    ensures { λ _. ⌜ now (table .exit) ≡ filled (over n (now (adjacency .entry)) (now (weights .entry))) ⌝ }
+    ensures { λ _. ⌜ Filled (over n (now (adjacency .entry)) (now (weights .entry))) (marked (now (set .entry))) n (now (table .entry)) (now (table .exit)) ⌝ }
 {
     let mut i = 0;
     while i < n {
-        let at = i * n;
-        let end = at + n;
-        fill_row(n, adjacency, weights, i, &mut table[at..end]);
+        let lo = i + 1;
+        let at = i * n + lo;
+        let end = i * n + n;
+        fill_row(n, adjacency, weights, set, i, &mut table[at..end]);
         i += 1;
     }
 }

@@ -12,18 +12,18 @@ use Rattle.host.proofs.open_bytes.Statement.{statement}
 use Rattle.host.proofs.open_bytes.Tie as tie
 
 -- the array has room for those that are counted
-counted : (at : tie.After-room) → at .room .result ≤ 4560
-counted at = le-trans (at .room .ensures .capped) (rw (at .before .weights-needed .ensures) (needed-small _))
+counted : (at : tie.After-fitting) → at .fitting .result ≤ 4560
+counted at = le-trans (at .fitting .ensures .capped) (rw (at .before .weights-needed .ensures) (needed-small _))
 
 -- and as many come back
-unpacked : (at : tie.After-unpack) → length (at .unpack .last .1 .0) ≡ at .before .before .room .result
+unpacked : (at : tie.After-unpack) → length (at .unpack .last .1 .0) ≡ at .before .before .fitting .result
 unpacked at = at .unpack .kept .1 .0 ∙ length-part _ 4560 0 (counted (at .before .before))
 
 weights-needed-requires : tie.Need-weights-needed-requires
 weights-needed-requires c κs = search needs
 
-room-requires : tie.Need-room-requires
-room-requires c κs = search needs
+fitting-requires : tie.Need-fitting-requires
+fitting-requires c κs = search needs
 
 array-borrow-prefix-values : tie.Need-array-borrow-prefix-values
 array-borrow-prefix-values c = counted c
@@ -32,7 +32,7 @@ slice-aggregate-unpack : tie.Need-slice-aggregate-unpack
 slice-aggregate-unpack c = sym (length-part _ 4560 0 (counted (c .before)))
 
 unpack-requires : tie.Need-unpack-requires
-unpack-requires c κs = omega (arith, c .before .room .ensures .fits, length-part _ 4560 0 (counted (c .before)))
+unpack-requires c κs = omega (arith, c .before .fitting .ensures .fits, length-part _ 4560 0 (counted (c .before)))
 
 array-share-prefix-values : tie.Need-array-share-prefix-values
 array-share-prefix-values c = part-filled _ (c .before .unpack .last .1 .0) _ (unpacked (c .before)) .0
@@ -63,20 +63,17 @@ same-length-5 c = search needs
 same-length-6 : tie.Need-same-length-6
 same-length-6 c = search needs
 
-same-length-7 : tie.Need-same-length-7
-same-length-7 c = search needs
-
 returns : tie.Need-returns
 returns c =
-    let opened = c .before .before .before .before .before .before .before .before .before .before .before .before .before .before in
-    let taken = opened .before .before .before .before .before .before .before .before .before .before in
+    let opened = c .before .before .before .before .before .before .before .before .before .before .before .before in
+    let taken = opened .before .before .before .before .before .before .before .before .before in
     let counting = taken .before .before in
-    let s = counting .before .before .before .before .before .before .before .before .before .before .before in
+    let s = counting .before .before .before .before .before .before .before .before .before .before in
     record {
       lent = _;
       front = record {
-        count = counting .room .result;
-        enough = rw (counting .before .weights-needed .ensures) at (counting .room .ensures);
+        count = counting .fitting .result;
+        enough = rw (counting .before .weights-needed .ensures) at (counting .fitting .ensures);
         first =
             part-filled _ (taken .unpack .last .1 .0) _ (unpacked taken) .1
             ∙ taken .unpack .ensures
@@ -90,7 +87,7 @@ open-bytes-spec =
     tie.close
     (tie.spec
     weights-needed-requires
-    room-requires
+    fitting-requires
     array-borrow-prefix-values
     slice-aggregate-unpack
     unpack-requires
@@ -103,5 +100,4 @@ open-bytes-spec =
     same-length-4
     same-length-5
     same-length-6
-    same-length-7
     returns)

@@ -1,26 +1,40 @@
 -- `host::open_over` meets its contract: the words that opening leaves are within the lent ones and are stored as bytes.
 -- Assumes nothing.
-use mathlib.Core.Path.{refl}
+use mathlib.Core.Path.{_≡_, refl, sym, ap, _∙_}
+use mathlib.Core.List.{List, _++_}
+use Prim.Native.Nat.{ℕ, _*_, _≤_}
 use native.Mathlib.Omega.{arith}
-use borrow.Author.Needs.{needs}
+use lib.ListN.{length, drop, replicate, length-replicate}
+use lib.Seq.{length-take-le}
 use Rattle.lists.specs.Table.{square-small}
-use Rattle.matching.specs.Opening.{Buffers}
+use Rattle.residue.specs.Modulus.{modulus}
+use Rattle.matching.specs.Graph.{over}
+use Rattle.matching.specs.Pairs.{everything}
+use Rattle.matching.specs.Opening.{Opens}
 use Rattle.opening.specs.Answers.{opening-of, buffers}
-use Rattle.host.specs.Opened.{Within, opens-within, opens-small, same-buffers}
+use Rattle.opening.specs.Begun.{Within, opens-within}
+use Rattle.host.specs.Opened.{opens-small, same-buffers, zeros-stored}
+use borrow.Author.Needs.{needs}
 use Rattle.host.proofs.open_over.Statement.{statement}
 use Rattle.host.proofs.open_over.Tie as tie
 
--- what opening leaves in the lent words
-abbrev left : tie.After-begin → Buffers
-left at = let l = at .begin .last .1 .1 .1 in buffers (l .0) (l .1 .0) (l .1 .1 .0) (l .1 .1 .1 .0)
+abbrev begun : tie.After-extent → tie.After-begin-apart
+begun at = at .before .before .before .before .before .before .before
 
--- and that what is stored of it is there
-within : (at : tie.After-extent) → Within (at .extent .result) (left (at .before .before .before .before .before .before .before .before .before))
+abbrev start : tie.After-extent → tie.Start
+start at = begun at .before .before .before .before .before .before .before .before .before .before .before .before
+
+-- what is stored is there
+within : (at : tie.After-extent)
+    → Within (at .extent .result) (let a = start at .args in buffers (a .table .now) (a .sequence .now) (a .vector .now) (replicate (a .room) 0))
 within at =
-    rw (← at .extent .ensures) at (opens-within (at .before .before .before .before .before .before .before .before .before .begin .ensures .0))
+    rw (← at .extent .ensures) at (opens-within (begun at .begin-apart .ensures (replicate (start at .args .room) 0) (length-replicate _ _)))
 
-begin-requires : tie.Need-begin-requires
-begin-requires c κs = search needs
+zeros-fit : (at : tie.After-extent) → 2 * (at .extent .result * at .extent .result) ≤ length (start at .args .work .now)
+zeros-fit at = omega (arith, within at .work, length-replicate {A = ℕ} (start at .args .room) 0, start at .pre .2)
+
+begin-apart-requires : tie.Need-begin-apart-requires
+begin-apart-requires c κs = search needs
 
 extent-requires : tie.Need-extent-requires
 extent-requires c κs = search needs
@@ -31,28 +45,29 @@ mul-size c = record { fits = omega (arith, square-small _ (within c .size)) }
 store-requires : tie.Need-store-requires
 store-requires c κs =
     let told = c .before .before in
-    let begun = told .before .before .before .before .before .before .before .before .before in
-    let s = begun .before .before .before .before .before .before .before .before .before .before .before .before .before .before in
-    (within told .inverse, omega (arith, within told .inverse, begun .begin .kept .1 .1 .1 .0, s .pre .0))
+    (omega (arith, within told .inverse, begun told .begin-apart .kept .1 .1 .1 .0), omega (arith, within told .inverse, start told .pre .0))
 
 store-requires-2 : tie.Need-store-requires-2
 store-requires-2 c κs =
     let told = c .before .before .before .before .before .before .before in
-    let begun = told .before .before .before .before .before .before .before .before .before in
-    let s = begun .before .before .before .before .before .before .before .before .before .before .before .before .before .before in
-    (within told .witness, omega (arith, within told .witness, begun .begin .kept .1 .1 .1 .1 .1 .0, s .pre .1))
+    (omega (arith, within told .witness, begun told .begin-apart .kept .1 .1 .1 .1 .1 .0), omega (arith, within told .witness, start told .pre .1))
 
-store-requires-3 : tie.Need-store-requires-3
-store-requires-3 c κs =
-    let told = c .before .before .before .before .before .before .before .before .before .before .before .before in
-    let begun = told .before .before .before .before .before .before .before .before .before in
-    let s = begun .before .before .before .before .before .before .before .before .before .before .before .before .before .before in
-    (within told .work, omega (arith, within told .work, begun .begin .kept .1 .1 .1 .1 .1 .1 .0, s .pre .2))
+mul-zeros : tie.Need-mul-zeros
+mul-zeros c = let told = c .before .before .before .before .before .before .before .before .before .before in record { fits = omega (arith, square-small _ (within told .size)) }
+
+slice-relend-prefix-fill-bytes : tie.Need-slice-relend-prefix-fill-bytes
+slice-relend-prefix-fill-bytes c = zeros-fit (c .before .before .before .before .before .before .before .before .before .before)
+
+slice-aggregate-fill-bytes : tie.Need-slice-aggregate-fill-bytes
+slice-aggregate-fill-bytes c = let told = c .before .before .before .before .before .before .before .before .before .before .before in sym (length-take-le _ (start told .args .work .now) (zeros-fit told))
+
+fill-bytes-requires : tie.Need-fill-bytes-requires
+fill-bytes-requires c κs = search needs
 
 number-requires : tie.Need-number-requires
 number-requires c κs =
-    let told = c .before .before .before .before .before .before .before .before .before .before .before .before .before .before .before in
-    opens-small (told .before .before .before .before .before .before .before .before .before .begin .ensures .0)
+    let told = c .before .before .before .before .before .before .before .before .before .before .before .before .before .before in
+    opens-small (begun told .begin-apart .ensures (replicate (start told .args .room) 0) (length-replicate _ _))
 
 same-length : tie.Need-same-length
 same-length c = search needs
@@ -72,34 +87,38 @@ same-length-5 c = search needs
 same-length-6 : tie.Need-same-length-6
 same-length-6 c = search needs
 
-same-length-7 : tie.Need-same-length-7
-same-length-7 c = search needs
-
 returns : tie.Need-returns
 returns c =
-    let third = c .before .before .before in
-    let second = third .before .before .before .before .before in
-    let first = second .before .before .before .before .before in
-    let told = first .before .before .before in
-    let begun = told .before .before .before .before .before .before .before .before .before in
+    let told = c .before .before .before .before .before .before .before .before .before .before .before .before .before .before .before in
+    let s = start told in
+    let k = begun told .begin-apart in
+    let size = told .extent .result * told .extent .result in
+    let e : c .before .before .before .fill-bytes .last .0 ≡ replicate (2 * size) 0 =
+    c .before .before .before .fill-bytes .ensures ∙ rw (length-take-le (2 * size) (s .args .work .now) (zeros-fit told)) in
     record {
-      opening = opening-of (begun .begin .result);
-      left = left begun;
-      outcome = begun .begin .ensures .0;
+      opening = opening-of (k .result);
+      left = buffers (k .last .1 .1 .1 .0) (k .last .1 .1 .1 .1 .0) (k .last .1 .1 .1 .1 .1 .0) _;
+      outcome = k .ensures (replicate (s .args .room) 0) (length-replicate _ _);
       numbered = c .number .ensures;
-      stored = rw (← told .extent .ensures) (same-buffers (first .store .ensures) refl (second .store2 .ensures) (third .store3 .ensures));
+      stored =
+          rw (← told .extent .ensures)
+          (same-buffers (c .before .before .before .before .before .before .before .before .before .before .before .before .store .ensures) refl (c .before .before .before .before .before .before .before .store2 .ensures)
+          (ap (λ (l : List ℕ). l ++ drop (2 * size) (s .args .work .now)) e ∙ sym (zeros-stored size (replicate (s .args .room) 0) (s .args .work .now))));
     }
 
 pub open-over-spec : {M : Type 1} → statement M
 open-over-spec =
     tie.close
     (tie.spec
-    begin-requires
+    begin-apart-requires
     extent-requires
     mul-size
     store-requires
     store-requires-2
-    store-requires-3
+    mul-zeros
+    slice-relend-prefix-fill-bytes
+    slice-aggregate-fill-bytes
+    fill-bytes-requires
     number-requires
     same-length
     same-length-2
@@ -107,5 +126,4 @@ open-over-spec =
     same-length-4
     same-length-5
     same-length-6
-    same-length-7
     returns)

@@ -1,46 +1,58 @@
--- `host::saszvigom_open` meets its contract: of each array it lends as many words as the bytes hold. Assumes nothing.
-use mathlib.Core.Path.{refl, sym}
+-- `host::saszvigom_open` meets its contract: a refusal for the size or the lengths writes nothing, and else words are lent.
+-- Assumes nothing.
+use mathlib.Core.Path.{_≡_, refl}
+use Prim.Native.Nat.{_/_}
 use native.Mathlib.Omega.{arith}
-use borrow.Author.Needs.{needs}
-use Rattle.lists.specs.Part.{length-part}
-use Rattle.residue.specs.Modulus.{modulus-prime}
+use lib.ListN.{length}
+use Rattle.residue.specs.Modulus.{modulus, modulus-prime}
+use Rattle.matching.specs.Decision.{because, refused}
+use Rattle.matching.specs.Graph.{over}
+use Rattle.matching.specs.Opening.{Buffers, ruling}
+use Rattle.matching.specs.Pairs.{everything}
+use Rattle.matching.specs.Host.{words, unpacked, HostOpens}
 use Rattle.laws.specs.Determined.{host-opened-exactly}
-use Rattle.host.specs.Room.{part-room}
-use Rattle.host.specs.Opened.{host-opens}
+use Rattle.checks.specs.declared.Refusal.{Refusal}
+use Rattle.checks.specs.declared.Ruling.the-variants.{Refused}
+use Rattle.opening.specs.Answers.{buffers}
+use Rattle.packing.specs.Words.{words-half}
+use Rattle.host.specs.Opened.{Judged, host-refuses, place-small}
+use borrow.Author.Needs.{needs}
 use Rattle.host.proofs.saszvigom_open.Statement.{statement}
 use Rattle.host.proofs.saszvigom_open.Tie as tie
 
-room-requires : tie.Need-room-requires
-room-requires c κs = search needs
+abbrev host : tie.After-judge-room → Buffers
+host at = let a = at .before .before .before .before .before .before .before .args in buffers (a .inverse .now) (a .sequence .now) (a .witness .now) (a .work .now)
 
-room-requires-2 : tie.Need-room-requires-2
-room-requires-2 c κs = search needs
+refuses : (at : tie.After-judge-room) {why : Refusal} → at .judge-room .result ≡ Refused why
+    → (let a = at .before .before .before .before .before .before .before .args in ruling modulus (over (a .n) (a .adjacency .now) (words (a .weights .now))) (unpacked (host at)) ≡ refused (because (why .cause) (why .place)))
+refuses at e =
+    let a = at .before .before .before .before .before .before .before .args in
+    let g = over (a .n) (a .adjacency .now) (words (a .weights .now)) in
+    rw (words-half (a .inverse .now), words-half (a .witness .now), words-half (a .work .now))
+    (rw e at (at .judge-room .ensures g refl refl (words-half (a .weights .now))))
 
-room-requires-3 : tie.Need-room-requires-3
-room-requires-3 c κs = search needs
+judge-room-requires : tie.Need-judge-room-requires
+judge-room-requires c κs = search needs
 
-array-borrow-prefix-table : tie.Need-array-borrow-prefix-table
-array-borrow-prefix-table c = search needs
+enum-known-ruling : tie.Need-enum-known-ruling
+enum-known-ruling c = search needs
 
-slice-aggregate-open-bytes : tie.Need-slice-aggregate-open-bytes
-slice-aggregate-open-bytes c = sym (length-part _ 9216 0 (c .before .before .before .room .ensures .capped))
+number-requires : tie.Need-number-requires
+number-requires c κs = place-small modulus _ (unpacked (host (c .before .before .before))) (refuses (c .before .before .before) (c .before .ruling .given .1))
 
-array-borrow-prefix-vector : tie.Need-array-borrow-prefix-vector
-array-borrow-prefix-vector c = search needs
+returns : tie.Need-returns
+returns c =
+    let at = c .before .before .before .before in
+    let a = c .before .before .before .before .before .before .before .before .before .before .before .args in
+    let o : HostOpens modulus (a .n) (a .adjacency .now) (a .weights .now) everything (host at) (c .number .result) (host at) =
+    rw (c .number .ensures) (host-refuses (a .n) (a .adjacency .now) (a .weights .now) (host at) (refuses at (c .before .before .ruling .given .1))) in
+    (o, host-opened-exactly modulus-prime _ o)
 
-slice-aggregate-open-bytes-2 : tie.Need-slice-aggregate-open-bytes-2
-slice-aggregate-open-bytes-2 c = sym (length-part _ 96 0 (c .before .before .before .room2 .ensures .capped))
+enum-told : tie.Need-enum-told
+enum-told c = search needs
 
-array-borrow-prefix-scratch : tie.Need-array-borrow-prefix-scratch
-array-borrow-prefix-scratch c = search needs
-
-slice-aggregate-open-bytes-3 : tie.Need-slice-aggregate-open-bytes-3
-slice-aggregate-open-bytes-3 c = sym (length-part _ 9216 0 (c .before .before .before .room3 .ensures .capped))
-
-open-bytes-requires : tie.Need-open-bytes-requires
-open-bytes-requires c κs =
-    let counted = c .before .before .before .before .before .before .before in
-    (part-room (counted .before .before .room .ensures) .fits, part-room (counted .before .room2 .ensures) .fits, part-room (counted .room3 .ensures) .fits)
+open-words-requires : tie.Need-open-words-requires
+open-words-requires c κs = search needs
 
 same-length : tie.Need-same-length
 same-length c = search needs
@@ -54,38 +66,22 @@ same-length-3 c = search needs
 same-length-4 : tie.Need-same-length-4
 same-length-4 c = search needs
 
-returns : tie.Need-returns
-returns c =
-    let opened = c .before .before .before .before .before .before .before .before .before .before .before in
-    let counted = opened .before .before .before .before .before .before .before .before in
-    let known = counted .before .before .before in
-    let o =
-    host-opens (opened .open-bytes .ensures)
-    (record {
-      inverse = part-room (counted .before .before .room .ensures);
-      sequence = refl;
-      witness = part-room (counted .before .room2 .ensures);
-      work = part-room (counted .room3 .ensures);
-    })
-    (λ x. omega (arith, known .before .before .before .slice-known .given x)) (λ x. omega (arith, known .before .slice-known3 .given x)) (λ x. omega (arith, known .slice-known4 .given x)) in
-    (o, host-opened-exactly modulus-prime _ o)
+returns-2 : tie.Need-returns-2
+returns-2 c =
+    (c .before .before .before .before .before .before .before .before .open-words .ensures, host-opened-exactly modulus-prime _ (c .before .before .before .before .before .before .before .before .open-words .ensures))
 
 pub saszvigom-open-spec : {M : Type 1} → statement M
 saszvigom-open-spec =
     tie.close
     (tie.spec
-    room-requires
-    room-requires-2
-    room-requires-3
-    array-borrow-prefix-table
-    slice-aggregate-open-bytes
-    array-borrow-prefix-vector
-    slice-aggregate-open-bytes-2
-    array-borrow-prefix-scratch
-    slice-aggregate-open-bytes-3
-    open-bytes-requires
+    judge-room-requires
+    enum-known-ruling
+    number-requires
+    returns
+    enum-told
+    open-words-requires
     same-length
     same-length-2
     same-length-3
     same-length-4
-    returns)
+    returns-2)

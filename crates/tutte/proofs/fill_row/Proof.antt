@@ -1,23 +1,31 @@
--- `tutte::fill_row` meets its contract. The invariant of its loop: the first j words are those of the row, the others as they came.
+-- `tutte::fill_row` meets its contract. The invariant of its loop: the first k words are those of the row, the others as they came.
 -- Assumes nothing.
-use mathlib.Core.Path.{_∙_}
-use Prim.Native.Nat.{_-_}
+use mathlib.Core.Path.{_≡_}
+use Prim.Native.Nat.{_+_, _-_}
 use native.Mathlib.Omega.{arith}
-use borrow.Author.Needs.{needs}
+use lib.ListN.{length}
 use Rattle.lists.specs.Written.{Written, written-start, written-more, written-all}
-use Rattle.residue.specs.Modulus.{modulus}
-use Rattle.matching.specs.Graph.{tutte, over}
+use Rattle.skew.specs.Subset.{marked}
+use Rattle.matching.specs.Graph.{over}
+use Rattle.tutte.specs.Table.{restricted}
+use borrow.Author.Needs.{needs}
 use Rattle.tutte.proofs.fill_row.Statement.{statement}
 use Rattle.tutte.proofs.fill_row.Tie as tie
 
 abbrev Inv-loop : tie.InvT-loop
-Inv-loop n adjacency weights i row₀ j₀ row j = Written (λ k. tutte (over n adjacency weights) modulus i k) row₀ row j
+Inv-loop n adjacency weights set i row₀ k₀ row k = Written (λ m. restricted (over n adjacency weights) (marked set) i (i + 1 + m)) row₀ row k
 
 abbrev μ-loop : tie.MeasureT-loop
-μ-loop n adjacency weights i row₀ j₀ row j = n - j
+μ-loop n adjacency weights set i row₀ k₀ row k = length row₀ - k
 
 loop-holds : tie.Need-loop-holds Inv-loop μ-loop
 loop-holds c = written-start _ _
+
+add-entry : tie.Need-add-entry Inv-loop μ-loop
+add-entry c = search needs
+
+add-entry-2 : tie.Need-add-entry-2 Inv-loop μ-loop
+add-entry-2 c = search needs
 
 entry-requires : tie.Need-entry-requires Inv-loop μ-loop
 entry-requires c κs = search needs
@@ -29,13 +37,13 @@ mul-row : tie.Need-mul-row Inv-loop μ-loop
 mul-row c = search needs
 
 slice-write-row : tie.Need-slice-write-row Inv-loop μ-loop
-slice-write-row c = omega arith
+slice-write-row c = search needs
 
-add-j : tie.Need-add-j Inv-loop μ-loop
-add-j c = omega arith
+add-k : tie.Need-add-k Inv-loop μ-loop
+add-k c = search needs
 
 loop-less : tie.Need-loop-less Inv-loop μ-loop
-loop-less c = omega arith
+loop-less c = search needs
 
 loop-again : tie.Need-loop-again Inv-loop μ-loop
 loop-again c = written-more _ (c .before .before .loop .inv) (omega arith) (c .entry .ensures)
@@ -44,9 +52,7 @@ same-length : tie.Need-same-length Inv-loop μ-loop
 same-length c = c .before .loop .inv .size
 
 returns : tie.Need-returns Inv-loop μ-loop
-returns c =
-    let s = c .before .before .before .before .before in
-    written-all (c .before .loop .inv) (omega arith) ∙ rw (s .pre .1 .1)
+returns c = written-all (c .before .loop .inv) (omega arith)
 
 pub fill-row-spec : {M : Type 1} → statement M
 fill-row-spec =
@@ -55,11 +61,13 @@ fill-row-spec =
     Inv-loop
     μ-loop
     loop-holds
+    add-entry
+    add-entry-2
     entry-requires
     cast-row
     mul-row
     slice-write-row
-    add-j
+    add-k
     loop-less
     loop-again
     same-length

@@ -1,0 +1,92 @@
+-- `exchange::run` meets its contract: before each turn the indices before c are exchanged.
+-- Assumes nothing.
+use mathlib.Core.Path.{_≡_, sym, _∙_}
+use Prim.Native.Nat.{_-_}
+use native.Mathlib.Omega.{arith}
+use lib.ListN.{length}
+use Rattle.skew.specs.Subset.{marked}
+use Rattle.skew.specs.Inverse.{Matrix}
+use Rattle.exchange.specs.Run.{Holds, Running, Bounded, bounded-ready, bounded-next, running-start, running-next, running-stuck, running-end}
+use borrow.Author.Needs.{needs}
+use Rattle.exchange.proofs.run.Statement.{statement}
+use Rattle.exchange.proofs.run.Tie as tie
+
+abbrev Inv-loop : tie.InvT-loop
+Inv-loop t₀ n waiting₀ c₀ t waiting c = Bounded n c t waiting × ((A : Matrix) → Holds n A (marked waiting₀) t₀ → Running n A (marked waiting₀) c t waiting)
+
+abbrev μ-loop : tie.MeasureT-loop
+μ-loop t₀ n waiting₀ c₀ t waiting c = n - c
+
+abbrev start : tie.At-loop Inv-loop μ-loop → tie.Start Inv-loop μ-loop
+start at = at .before .before .before
+
+-- the lengths at the head of a turn are those at the start
+table-size : (at : tie.At-loop Inv-loop μ-loop) → length (at .loop .t) ≡ length (start at .args .t .now)
+table-size at = at .loop .inv .0 .table-square .size ∙ sym (start at .pre .0 .size)
+
+waiting-size : (at : tie.At-loop Inv-loop μ-loop) → length (at .loop .waiting) ≡ length (start at .args .waiting .now)
+waiting-size at = at .loop .inv .0 .size ∙ sym (start at .pre .2)
+
+loop-holds : tie.Need-loop-holds Inv-loop μ-loop
+loop-holds c =
+    let s = c .before .before in (
+      record {
+        table-square = s .pre .0;
+        small = record { at = λ i j hi hj. omega (arith, s .pre .1 .at i j hi hj) };
+        size = s .pre .2;
+        reached = omega arith;
+      },
+      λ A H. running-start (s .args .waiting .now) H,
+    )
+
+turn-requires : tie.Need-turn-requires Inv-loop μ-loop
+turn-requires c κs = bounded-ready (c .before .before .before .loop .inv .0) (c .before .before .loop-test .taken)
+
+same-length : tie.Need-same-length Inv-loop μ-loop
+same-length c = c .before .before .before .before .before .turn .kept .0 ∙ table-size (c .before .before .before .before .before .before .before .before .before)
+
+same-length-2 : tie.Need-same-length-2 Inv-loop μ-loop
+same-length-2 c = c .before .before .before .before .before .turn .kept .1 .1 .1 .0 ∙ waiting-size (c .before .before .before .before .before .before .before .before .before)
+
+returns : tie.Need-returns Inv-loop μ-loop
+returns c = λ A H. running-stuck (c .before .before .before .before .before .before .before .before .before .loop .inv .1 A H) (c .before .before .before .before .before .before .before .before .loop-test .taken) (c .before .before .before .before .before .turn .ensures) (c .if1 .taken)
+
+add-c : tie.Need-add-c Inv-loop μ-loop
+add-c c = search needs
+
+loop-less : tie.Need-loop-less Inv-loop μ-loop
+loop-less c = search needs
+
+loop-again : tie.Need-loop-again Inv-loop μ-loop
+loop-again c =
+    let at = c .before .before .before .before .before .before .before .before .before .loop in
+    let h = c .before .before .before .before .before .before .before .before .loop-test .taken in
+    let k = c .before .before .before .before .before .turn in
+    (bounded-next (at .inv .0) h (k .ensures) (k .kept .0) (k .kept .1 .1 .1 .0), λ A H. running-next (at .inv .1 A H) h (at .inv .0 .size) (k .ensures) (c .if1 .left))
+
+same-length-3 : tie.Need-same-length-3 Inv-loop μ-loop
+same-length-3 c = table-size (c .before)
+
+same-length-4 : tie.Need-same-length-4 Inv-loop μ-loop
+same-length-4 c = waiting-size (c .before)
+
+returns-2 : tie.Need-returns-2 Inv-loop μ-loop
+returns-2 c = λ A H. running-end (c .before .loop .inv .1 A H) (c .loop-test .left)
+
+pub run-spec : {M : Type 1} → statement M
+run-spec =
+    tie.close
+    (tie.spec
+    Inv-loop
+    μ-loop
+    loop-holds
+    turn-requires
+    same-length
+    same-length-2
+    returns
+    add-c
+    loop-less
+    loop-again
+    same-length-3
+    same-length-4
+    returns-2)

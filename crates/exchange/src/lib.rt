@@ -1,0 +1,77 @@
+// Symmetric exchange of pairs of indices of a skew matrix modulo 65521, to its end, in a square table of which only the words above the
+// diagonal count.
+ghost use mathlib.Core.Path.{_≡_};
+ghost use lib.ListN.{length};
+ghost use Rattle.lists.specs.Table.{Square};
+ghost use Rattle.skew.specs.Subset.{marked};
+ghost use Rattle.skew.specs.Inverse.{Matrix};
+ghost use Rattle.pivot.specs.Words.{Small};
+ghost use Rattle.exchange.specs.Run.{Weight, Ready, Found, Turned, Holds, Ended};
+use residue::Residue;
+
+// How exchange ends: with the inverse, or at the first dependent column.
+pub enum Outcome {
+    Inverse,
+    Column(usize),
+}
+
+// 0 where the index does not wait or w is 0.
+fn weight(waits: u8, w: u64) -> u64
+    ensures { λ x. ⌜ Weight waits w x ⌝ }
+{
+    if waits == 0 {
+        return 0;
+    }
+    w % Residue::MODULUS
+}
+
+// The lowest partner of c: an index after c that waits, where row c is not 0; or n.
+fn partner(t: &[u64], n: usize, c: usize, waiting: &[u8]) -> usize
+    requires { ⌜ Ready n c (now t) (now waiting) ⌝ }
+    ensures { λ r. ⌜ Found n c (now (t .entry)) (now (waiting .entry)) r ⌝ }
+{
+    let mut r = c + 1;
+    while r < n {
+        let at = c * n + r;
+        if weight(waiting[r], t[at]) != 0 {
+            return r;
+        }
+        r += 1;
+    }
+    r
+}
+
+// Exchanges c with its lowest partner, and neither waits any more; n where it has none, and c where it does not wait.
+fn turn(t: &mut [u64], n: usize, c: usize, waiting: &mut [u8]) -> usize
+    requires { ⌜ Ready n c (now t) (now waiting) ⌝ }
+    ensures { λ r. ⌜ Turned n c (now (t .entry)) (now (waiting .entry)) (now (t .exit)) (now (waiting .exit)) r ⌝ }
+{
+    if waiting[c] == 0 {
+        return c;
+    }
+    let r = partner(t, n, c, waiting);
+    if r == n {
+        return r;
+    }
+    pivot::exchange(t, n, c, r);
+    waiting[c] = 0;
+    waiting[r] = 0;
+    r
+}
+
+// Exchanges the indices that wait, to the end or to the first dependent column. For proved callers. The contract is about any skew
+// matrix that the table holds on the set of these indices; outside the set the table holds 0.
+pub fn run(t: &mut [u64], n: usize, waiting: &mut [u8]) -> Outcome
+    requires { ⌜ Square n (now t) × Small 65536 n (now t) × (length (now waiting) ≡ n) ⌝ }
+    ensures { λ o. ⌜ ((A : Matrix) → Holds n A (marked (now (waiting .entry))) (now (t .entry)) → Ended n A (marked (now (waiting .entry))) (now (t .exit)) (now (waiting .exit)) o) ⌝ }
+{
+    let mut c = 0;
+    while c < n {
+        let r = turn(t, n, c, waiting);
+        if r == n {
+            return Outcome::Column(c);
+        }
+        c += 1;
+    }
+    Outcome::Inverse
+}

@@ -1,0 +1,2 @@
+-- Laws of words as bytes.
+pub mod Words

@@ -1,0 +1,24 @@
+-- `pivot::reciprocal` meets its contract.
+-- Assumes nothing.
+use mathlib.Core.Path.{_≡_, _∙_}
+use native.Mathlib.Nat.{mod-eq-of-lt}
+use borrow.Author.Needs.{needs}
+use Rattle.pivot.proofs.reciprocal.Statement.{statement}
+use Rattle.pivot.proofs.reciprocal.Tie as tie
+
+make-requires : tie.Need-make-requires
+make-requires c κs = search needs
+
+invert-requires : tie.Need-invert-requires
+invert-requires c κs = search needs
+
+cast-result : tie.Need-cast-result
+cast-result c = search needs
+
+returns : tie.Need-returns
+returns c =
+    let e : c .before .before .make .result .value ≡ c .before .before .before .args .k = c .before .before .make .ensures ∙ mod-eq-of-lt (c .before .before .before .pre) in
+    (c .before .invert .ensures .0 .below, rw e at (c .before .invert .ensures .0))
+
+pub reciprocal-spec : {M : Type 1} → statement M
+reciprocal-spec = tie.close (tie.spec make-requires invert-requires cast-result returns)

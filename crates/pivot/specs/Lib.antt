@@ -1,0 +1,3 @@
+-- One exchange on words, in reading order.
+pub mod Words
+pub mod Step

@@ -1,0 +1,158 @@
+// One exchange of two indices of a skew matrix modulo 65521, in a square table of which only the words above the diagonal count. Words are
+// exact up to multiples of the modulus: one is reduced where it is read, and sums are not reduced.
+ghost use mathlib.Core.Path.{_≡_};
+ghost use Prim.Native.Nat.{_+_, _*_, _-_, _%_, _≤_, _<_};
+ghost use lib.ListN.{length, getD, set};
+ghost use Rattle.lists.specs.Table.{vector, Square};
+ghost use Rattle.modular.specs.Reciprocal.{Reciprocal};
+ghost use Rattle.residue.specs.Modulus.{modulus};
+ghost use Rattle.pivot.specs.Words.{limit, Words, Below, place, residue, scaled, plus-two};
+ghost use Rattle.pivot.specs.Step.{Taken, Updating, UpdatedTo, Stepping, Columns, Stepped};
+use residue::Residue;
+
+// The residue of entry (k, c), which becomes 0.
+fn take(t: &mut [u64], n: usize, k: usize, c: usize) -> u32
+    requires { ⌜ Square n (now t) × (k < n) × (c < n) ⌝ }
+    ensures { λ x. ⌜ (x ≡ residue k c (getD (now (t .entry)) (place n k c) 0)) × (now (t .exit) ≡ set (now (t .entry)) (place n k c) 0) ⌝ }
+{
+    if k < c {
+        let at = k * n + c;
+        let above = t[at] % Residue::MODULUS;
+        t[at] = 0;
+        return above as u32;
+    }
+    let at = c * n + k;
+    let below = t[at] % Residue::MODULUS;
+    t[at] = 0;
+    negative(below)
+}
+
+// The negative of a residue.
+fn negative(x: u64) -> u32
+    requires { ⌜ x < modulus ⌝ }
+    ensures { λ r. ⌜ r ≡ (modulus - x) % modulus ⌝ }
+{
+    if x == 0 {
+        return 0;
+    }
+    (Residue::MODULUS - x) as u32
+}
+
+// Column c, whose entries become 0, with those of row c.
+fn take_column(t: &mut [u64], n: usize, c: usize, x: &mut [u32])
+    requires { ⌜ Square n (now t) × (c < n) × (length (now x) ≡ n) ⌝ }
+    ensures { λ _. ⌜ Taken n n c (now (t .entry)) (now (t .exit)) × Words (λ k. residue k c (getD (now (t .entry)) (place n k c) 0)) (now (x .exit)) ⌝ }
+{
+    let mut k = 0;
+    while k < n {
+        x[k] = take(t, n, k, c);
+        k += 1;
+    }
+}
+
+// The words of x times g, reduced.
+fn multiples(x: &[u32], g: u64, u: &mut [u64])
+    requires { ⌜ (length (now u) ≡ length (now x)) × Below modulus (now x) × (g ≤ modulus) ⌝ }
+    ensures { λ _. ⌜ Words (scaled g (vector (now (x .entry)))) (now (u .exit)) ⌝ }
+{
+    let mut j = 0;
+    while j < u.len() {
+        u[j] = x[j] as u64 * g % Residue::MODULUS;
+        j += 1;
+    }
+}
+
+// Adds a times u and b times v to a row that starts in column lo. The remainders are of numbers below 2^32, and so change nothing; they
+// let the compiler multiply halves.
+fn add(row: &mut [u64], lo: usize, u: &[u64], v: &[u64], a: u32, b: u32)
+    requires { ⌜ (lo + length (now row) ≤ length (now u)) × (lo + length (now row) ≤ length (now v)) × Below limit (now row) × Below modulus (now u) × Below modulus (now v) × (a < modulus) × (b < modulus) ⌝ }
+    ensures { λ _. ⌜ Words (plus-two (vector (now (row .entry))) lo (vector (now (u .entry))) (vector (now (v .entry))) a b) (now (row .exit)) ⌝ }
+{
+    if a + b == 0 {
+        return;
+    }
+    let mut j = 0;
+    while j < row.len() {
+        let k = lo + j;
+        row[j] += a as u64 * (u[k] % 4294967296) + b as u64 * (v[k] % 4294967296);
+        j += 1;
+    }
+}
+
+// What is added above the diagonal. A row starts at an even column, at its diagonal or after it; the word on the diagonal does not count.
+fn update(t: &mut [u64], n: usize, x: &[u32], y: &[u32], u: &[u64], v: &[u64])
+    requires { ⌜ Updating n (now t) (now x) (now y) (now u) (now v) ⌝ }
+    ensures { λ _. ⌜ UpdatedTo n n (now (x .entry)) (now (y .entry)) (now (u .entry)) (now (v .entry)) (now (t .entry)) (now (t .exit)) ⌝ }
+{
+    let mut i = 0;
+    while i < n {
+        let lo = (i + 1) / 2 * 2;
+        let at = i * n + lo;
+        let end = i * n + n;
+        add(&mut t[at..end], lo, u, v, y[i], x[i]);
+        i += 1;
+    }
+}
+
+fn reciprocal(k: u32) -> u64
+    requires { ⌜ k < modulus ⌝ }
+    ensures { λ h. ⌜ (h < modulus) × Reciprocal modulus k h ⌝ }
+{
+    let h = Residue::make(k as u64).invert();
+    h.value as u64
+}
+
+// Columns c and r with -1 at their own index and 0 at the other, and the reciprocal of entry (r, c). The table loses both.
+fn columns(t: &mut [u64], n: usize, c: usize, r: usize, x: &mut [u32], y: &mut [u32]) -> u64
+    requires { ⌜ Stepping n c r (now t) × (length (now x) ≡ n) × (length (now y) ≡ n) ⌝ }
+    ensures { λ h. ⌜ Columns n c r (now (t .entry)) (now (t .exit)) (now (x .exit)) (now (y .exit)) h ⌝ }
+{
+    take_column(t, n, c, x);
+    let h = reciprocal(x[r]);
+    take_column(t, n, r, y);
+    x[c] = 65520;
+    x[r] = 0;
+    y[r] = 65520;
+    h
+}
+
+fn exchange_over(
+    t: &mut [u64],
+    n: usize,
+    c: usize,
+    r: usize,
+    x: &mut [u32],
+    y: &mut [u32],
+    u: &mut [u64],
+    v: &mut [u64],
+)
+    requires { ⌜ Stepping n c r (now t) ⌝ }
+    requires { ⌜ (length (now x) ≡ n) × (length (now y) ≡ n) × (length (now u) ≡ n) × (length (now v) ≡ n) ⌝ }
+    ensures { λ _. ⌜ Stepped n c r (now (t .entry)) (now (t .exit)) ⌝ }
+{
+    let h = columns(t, n, c, r, x, y);
+    multiples(x, Residue::MODULUS - h, u);
+    multiples(y, h, v);
+    update(t, n, x, y, u, v);
+}
+
+// Exchanges c and r, where c < r. For proved callers.
+pub fn exchange(t: &mut [u64], n: usize, c: usize, r: usize)
+    requires { ⌜ Stepping n c r (now t) ⌝ }
+    ensures { λ _. ⌜ Stepped n c r (now (t .entry)) (now (t .exit)) ⌝ }
+{
+    let mut x = [0u32; 96];
+    let mut y = [0u32; 96];
+    let mut u = [0u64; 96];
+    let mut v = [0u64; 96];
+    exchange_over(
+        t,
+        n,
+        c,
+        r,
+        &mut x[..n],
+        &mut y[..n],
+        &mut u[..n],
+        &mut v[..n],
+    );
+}

@@ -1,0 +1,180 @@
+// The inverse of the Tutte matrix of a graph in order, on a set of vertices, or the witness of its first dependent column. The set is a byte
+// for each vertex, not 0 for those in it.
+use exchange::Outcome;
+use residue::Residue;
+ghost use mathlib.Core.Path.{_≡_};
+ghost use Prim.Native.Nat.{ℕ, _+_, _*_, _<_};
+ghost use lib.ListN.{length, replicate};
+ghost use Rattle.lists.specs.Values.{list-of};
+ghost use Rattle.lists.specs.Table.{vector, Square};
+ghost use Rattle.skew.specs.Subset.{Subset, marked};
+ghost use Rattle.matching.specs.Graph.{over};
+ghost use Rattle.tutte.specs.Table.{Complete};
+ghost use Rattle.exchange.specs.Run.{word, witness-word};
+ghost use Rattle.solve.specs.Solved.{Copied, Blank, Solved};
+
+// Every word v.
+pub fn fill_words(words: &mut [u16], v: u16)
+    ensures { λ _. ⌜ now (words .exit) ≡ replicate (length (now (words .entry))) v ⌝ }
+{
+    let mut i = 0;
+    while i < words.len() {
+        words[i] = v;
+        i += 1;
+    }
+}
+
+fn copy(bytes: &[u8], target: &mut [u8])
+    requires { ⌜ length (now target) ≡ length (now bytes) ⌝ }
+    ensures { λ _. ⌜ now (target .exit) ≡ now (bytes .entry) ⌝ }
+{
+    let mut i = 0;
+    while i < target.len() {
+        target[i] = bytes[i];
+        i += 1;
+    }
+}
+
+// Entry (i, j) of the skew matrix that a table holds above its diagonal.
+fn entry(t: &[u64], n: usize, i: usize, j: usize) -> u16
+    requires { ⌜ Square n (now t) × (i < n) × (j < n) ⌝ }
+    ensures { λ r. ⌜ r ≡ word n (now (t .entry)) i j ⌝ }
+{
+    if i < j {
+        let at = i * n + j;
+        return (t[at] % Residue::MODULUS) as u16;
+    }
+    if j < i {
+        let at = j * n + i;
+        let below = t[at] % Residue::MODULUS;
+        return ((Residue::MODULUS - below) % Residue::MODULUS) as u16;
+    }
+    0
+}
+
+fn write_row(t: &[u64], n: usize, i: usize, row: &mut [u16])
+    requires { ⌜ Square n (now t) × (i < n) × (length (now row) ≡ n) ⌝ }
+    ensures { λ _. ⌜ now (row .exit) ≡ list-of n (word n (now (t .entry)) i) ⌝ }
+{
+    let mut j = 0;
+    while j < n {
+        row[j] = entry(t, n, i, j);
+        j += 1;
+    }
+}
+
+// The whole matrix, in 16 bits.
+fn write_inverse(t: &[u64], n: usize, inverse: &mut [u16])
+    requires { ⌜ Square n (now t) × (length (now inverse) ≡ n * n) ⌝ }
+    ensures { λ _. ⌜ Copied n n (now (t .entry)) (now (inverse .entry)) (now (inverse .exit)) ⌝ }
+{
+    let mut i = 0;
+    while i < n {
+        let at = i * n;
+        let end = at + n;
+        write_row(t, n, i, &mut inverse[at..end]);
+        i += 1;
+    }
+}
+
+// The witness at vertex k: row f where k does not wait, and else 1 at f and 0 elsewhere.
+fn witness_word(t: &[u64], n: usize, f: usize, k: usize, waiting: &[u8]) -> u16
+    requires { ⌜ Square n (now t) × (f < n) × (k < n) × (length (now waiting) ≡ n) ⌝ }
+    ensures { λ r. ⌜ r ≡ witness-word n (now (t .entry)) (now (waiting .entry)) f k ⌝ }
+{
+    if waiting[k] == 0 {
+        return entry(t, n, f, k);
+    }
+    if f == k {
+        return 1;
+    }
+    0
+}
+
+fn write_witness(t: &[u64], n: usize, f: usize, waiting: &[u8], witness: &mut [u16])
+    requires { ⌜ Square n (now t) × (f < n) × (length (now waiting) ≡ n) × (length (now witness) ≡ n) ⌝ }
+    ensures { λ _. ⌜ now (witness .exit) ≡ list-of n (witness-word n (now (t .entry)) (now (waiting .entry)) f) ⌝ }
+{
+    let mut k = 0;
+    while k < n {
+        witness[k] = witness_word(t, n, f, k, waiting);
+        k += 1;
+    }
+}
+
+// Solves in a table of zeros, with room for a byte for each vertex.
+fn solve_over(
+    n: usize,
+    adjacency: &[u8],
+    weights: &[u16],
+    set: &[u8],
+    t: &mut [u64],
+    waiting: &mut [u8],
+    inverse: &mut [u16],
+    witness: &mut [u16],
+) -> Outcome
+    requires { ⌜ Complete n (now adjacency) (now weights) × (length (now set) ≡ n) × Blank n (now t) × (length (now waiting) ≡ n) ⌝ }
+    requires { ⌜ (length (now inverse) ≡ n * n) × (length (now witness) ≡ n) ⌝ }
+    ensures { λ o. ⌜ ((S : Subset) → ((i : ℕ) → i < n → S i ≡ marked (now (set .entry)) i) → Solved (over n (now (adjacency .entry)) (now (weights .entry))) S o (now (inverse .exit)) (now (witness .exit))) ⌝ }
+{
+    copy(set, waiting);
+    tutte::fill(n, adjacency, weights, set, t);
+    let outcome = exchange::run(t, n, waiting);
+    match outcome {
+        Outcome::Inverse => {
+            write_inverse(t, n, inverse);
+            fill_words(witness, 0);
+            Outcome::Inverse
+        }
+        Outcome::Column(f) => {
+            write_witness(t, n, f, waiting, witness);
+            fill_words(inverse, 0);
+            Outcome::Column(f)
+        }
+    }
+}
+
+// The inverse for a set of vertices, 0 in the other rows and columns, and no witness; or the witness, and no inverse. For proved callers, who
+// have accepted the graph. A small graph has a small table, which takes less time to clear.
+pub fn solve(
+    n: usize,
+    adjacency: &[u8],
+    weights: &[u16],
+    set: &[u8],
+    inverse: &mut [u16],
+    witness: &mut [u16],
+) -> Outcome
+    requires { ⌜ Complete n (now adjacency) (now weights) × (length (now set) ≡ n) ⌝ }
+    requires { ⌜ (length (now inverse) ≡ n * n) × (length (now witness) ≡ n) ⌝ }
+    ensures { λ o. ⌜ ((S : Subset) → ((i : ℕ) → i < n → S i ≡ marked (now (set .entry)) i) → Solved (over n (now (adjacency .entry)) (now (weights .entry))) S o (now (inverse .exit)) (now (witness .exit))) ⌝ }
+{
+    let size = n * n;
+    if n <= 32 {
+        // 32 * 32 words.
+        let mut t = [0u64; 1024];
+        let mut waiting = [0u8; 32];
+        return solve_over(
+            n,
+            adjacency,
+            weights,
+            set,
+            &mut t[..size],
+            &mut waiting[..n],
+            inverse,
+            witness,
+        );
+    }
+    // 96 * 96 words.
+    let mut t = [0u64; 9216];
+    let mut waiting = [0u8; 96];
+    solve_over(
+        n,
+        adjacency,
+        weights,
+        set,
+        &mut t[..size],
+        &mut waiting[..n],
+        inverse,
+        witness,
+    )
+}
