@@ -9,7 +9,6 @@ use native.Mathlib.Decide.{decLt}
 use lib.ListN.{length, getD, take, replicate}
 use lib.Seq.{length-take-le, getD-take}
 use Rattle.lists.specs.Part.{length-part}
-use Rattle.lists.specs.Table.{square-small}
 use Rattle.skew.specs.Choose.{choose, choose-yes, choose-no}
 use Rattle.matching.specs.Decision.{Every, Finding, absent, at, unless, judge}
 use Rattle.matching.specs.Graph.{largest, pair-count, over}

@@ -66,7 +66,7 @@ fn open_over(
     packing::store(table, size, inverse);
     packing::store(vector, m, witness);
     let zeros = 2 * size;
-    opening::fill_bytes(&mut work[..zeros], 0);
+    buffers::fill_bytes(&mut work[..zeros], 0);
     number(o)
 }
 

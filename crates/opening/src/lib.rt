@@ -4,9 +4,7 @@ use checks::Ruling;
 use exchange::Outcome;
 use session::Session;
 ghost use mathlib.Core.Path.{_≡_};
-ghost use mathlib.Core.List.{List};
-ghost use Prim.Native.Nat.{ℕ};
-ghost use lib.ListN.{length, replicate};
+ghost use lib.ListN.{length};
 ghost use Rattle.residue.specs.Modulus.{modulus};
 ghost use Rattle.matching.specs.Graph.{over};
 ghost use Rattle.matching.specs.Pairs.{everything};
@@ -19,17 +17,6 @@ pub enum Opening {
     Opened(Session),
     Singular(usize),
     Refused(Refusal),
-}
-
-// Every byte v.
-pub fn fill_bytes(bytes: &mut [u8], v: u8)
-    ensures { λ _. ⌜ now (bytes .exit) ≡ replicate (length (now (bytes .entry))) v ⌝ }
-{
-    let mut i = 0;
-    while i < bytes.len() {
-        bytes[i] = v;
-        i += 1;
-    }
 }
 
 // For how many vertices words are written: for none where opening is refused.
@@ -58,7 +45,7 @@ fn begin_accepted(
     // Every vertex is in play.
     let all = [1u8; 96];
     let size = n * n;
-    fill_bytes(&mut sequence[..n], 255);
+    buffers::fill_bytes(&mut sequence[..n], 255);
     let outcome = solve::solve(
         n,
         adjacency,
@@ -124,6 +111,6 @@ pub fn begin(
     );
     let m = extent(n, o);
     let size = m * m;
-    solve::fill_words(&mut work[..size], 0);
+    buffers::fill_words(&mut work[..size], 0);
     o
 }

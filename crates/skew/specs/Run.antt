@@ -1,13 +1,13 @@
 -- Exchange, index by index: what holds at c on the way. Assumes nothing.
 use mathlib.Core.Path.{_≡_}
-use Prim.Native.Nat.{ℕ, suc, _+_, _<_}
+use Prim.Native.Nat.{ℕ, suc, _<_}
 use native.Mathlib.Omega.{arith}
 use native.Mathlib.Decide.{decLt}
 use Rattle.modular.specs.Congruence.{Congruent, _⊖_, linear}
 use Rattle.modular.specs.Prime.{Odd, OddPrime}
 use Rattle.skew.specs.Subset.{Subset, _∈_, _∉_, Without, clash}
 use Rattle.skew.specs.Inverse.{Matrix, Vector, Skew}
-use Rattle.skew.specs.Column.{Dependent, FirstDependent, Witness, dependent-of-witness}
+use Rattle.skew.specs.Column.{FirstDependent, Witness, dependent-of-witness}
 use Rattle.skew.specs.Exchange.{source, Index, Exchange, Exchanged, exchange-start, exchange-step, skew-diagonal}
 use Rattle.skew.specs.Order.{Staircase, Passed, staircase-start, staircase-step, passed-on, passed-step, exchange-independent, exchange-witness}
 

@@ -1,5 +1,5 @@
 -- A skew matrix by its entries above the diagonal, and exchange in such a table. Assumes nothing.
-use mathlib.Core.Path.{_≡_, ap, _∙_}
+use mathlib.Core.Path.{_≡_, _∙_}
 use mathlib.Core.Logic.{_≢_}
 use Prim.Native.Nat.{ℕ, _+_, _*_, _<_}
 use native.Mathlib.Omega.{arith}
@@ -10,7 +10,7 @@ use Rattle.skew.specs.Choose.{choose, choose-yes, choose-no}
 use Rattle.skew.specs.Inverse.{Matrix, Vector, Skew}
 use Rattle.skew.specs.Update.{Update, updated, update-skew}
 use Rattle.skew.specs.Exchange.{Exchanged, skew-diagonal}
-use Rattle.skew.specs.Pivot.{cleared, cleared-skew, keep, Bordered, update-exchanged}
+use Rattle.skew.specs.Pivot.{cleared, cleared-skew, Bordered, update-exchanged}
 
 -- the skew matrix whose entries above the diagonal are those of t
 unfoldable pub mirror : {p : ℕ} → Odd p → Matrix → Matrix

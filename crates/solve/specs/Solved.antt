@@ -1,6 +1,5 @@
 -- What solving leaves, in the terms of the definitions. Assumes nothing.
-use mathlib.Core.Path.{_≡_, refl, sym, ap, _∙_}
-use mathlib.Core.Logic.{_≢_}
+use mathlib.Core.Path.{_≡_, refl, ap, _∙_}
 use mathlib.Core.List.{List}
 use Prim.Native.Nat.{ℕ, zero, suc, _+_, _*_, _-_, _/_, _%_, _≤_, _<_}
 use native.Mathlib.Omega.{arith}
@@ -9,15 +8,15 @@ use lib.ListN.{length, getD, replicate, take}
 use lib.Seq.{getD-take}
 use Rattle.lists.specs.Values.{list-of, length-list-of, getD-list-of}
 use Rattle.lists.specs.Part.{replaced, length-replaced, length-part}
-use Rattle.lists.specs.Table.{table, vector, row-fits, row-below, column-below, index-of, index-below, row-inside, row-other, square-small, Square}
-use Rattle.modular.specs.Congruence.{Congruent, equals, _⨾_, _⊖_, linear}
+use Rattle.lists.specs.Table.{table, row-fits, row-below, column-below, index-of, index-below, row-inside, row-other, Square}
+use Rattle.modular.specs.Congruence.{Congruent, equals, _⨾_}
 use Rattle.residue.specs.Modulus.{modulus, modulus-prime}
 use Rattle.skew.specs.Choose.{choose-yes, choose-no}
-use Rattle.skew.specs.Subset.{Subset, _∈_, _∉_, Member, inside, outside, member?}
-use Rattle.skew.specs.Inverse.{Matrix, Vector, Skew, Inverse, apply-congruent, same-entries, same-members}
+use Rattle.skew.specs.Subset.{Subset, Member, inside, outside, member?}
+use Rattle.skew.specs.Inverse.{Matrix, Skew, Inverse, same-entries, same-members}
 use Rattle.skew.specs.Column.{FirstDependent, Witness}
 use Rattle.skew.specs.Same.{members-first, members-witness}
-use Rattle.skew.specs.Exchange.{select, Index}
+use Rattle.skew.specs.Exchange.{select}
 use Rattle.skew.specs.Triangle.{mirror-above, mirror-skew, by-triangle}
 use Rattle.matching.specs.Graph.{Graph, tutte, tutte-upper, weight, upper}
 use Rattle.matching.specs.Session.{InverseTable}

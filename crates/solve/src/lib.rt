@@ -4,25 +4,14 @@ use exchange::Outcome;
 use residue::Residue;
 ghost use mathlib.Core.Path.{_≡_};
 ghost use Prim.Native.Nat.{ℕ, _+_, _*_, _<_};
-ghost use lib.ListN.{length, replicate};
+ghost use lib.ListN.{length};
 ghost use Rattle.lists.specs.Values.{list-of};
-ghost use Rattle.lists.specs.Table.{vector, Square};
+ghost use Rattle.lists.specs.Table.{Square};
 ghost use Rattle.skew.specs.Subset.{Subset, marked};
 ghost use Rattle.matching.specs.Graph.{over};
 ghost use Rattle.tutte.specs.Table.{Complete};
 ghost use Rattle.exchange.specs.Run.{word, witness-word};
 ghost use Rattle.solve.specs.Solved.{Copied, Blank, Solved};
-
-// Every word v.
-pub fn fill_words(words: &mut [u16], v: u16)
-    ensures { λ _. ⌜ now (words .exit) ≡ replicate (length (now (words .entry))) v ⌝ }
-{
-    let mut i = 0;
-    while i < words.len() {
-        words[i] = v;
-        i += 1;
-    }
-}
 
 fn copy(bytes: &[u8], target: &mut [u8])
     requires { ⌜ length (now target) ≡ length (now bytes) ⌝ }
@@ -123,12 +112,12 @@ fn solve_over(
     match outcome {
         Outcome::Inverse => {
             write_inverse(t, n, inverse);
-            fill_words(witness, 0);
+            buffers::fill_words(witness, 0);
             Outcome::Inverse
         }
         Outcome::Column(f) => {
             write_witness(t, n, f, waiting, witness);
-            fill_words(inverse, 0);
+            buffers::fill_words(inverse, 0);
             Outcome::Column(f)
         }
     }

@@ -1,24 +1,28 @@
--- `opening::fill_bytes` meets its contract. Its loop writes one byte after the other. Assumes nothing.
+-- `buffers::fill_words` meets its contract. Its loop writes one word after the other. Assumes nothing.
 use mathlib.Core.Path.{refl, _∙_}
 use Prim.Native.Nat.{_-_}
 use native.Mathlib.Omega.{arith}
 use lib.ListN.{length}
+use borrow.Author.Needs.{needs}
 use Rattle.lists.specs.Values.{list-of-constant}
 use Rattle.lists.specs.Written.{Written, written-start, written-more, written-all}
-use Rattle.opening.proofs.fill_bytes.Statement.{statement}
-use Rattle.opening.proofs.fill_bytes.Tie as tie
+use Rattle.buffers.proofs.fill_words.Statement.{statement}
+use Rattle.buffers.proofs.fill_words.Tie as tie
 
 abbrev Inv-loop : tie.InvT-loop
-Inv-loop bytes₀ v i₀ bytes i = Written (λ _. v) bytes₀ bytes i
+Inv-loop words₀ v i₀ words i = Written (λ _. v) words₀ words i
 
 abbrev μ-loop : tie.MeasureT-loop
-μ-loop bytes₀ v i₀ bytes i = length bytes₀ - i
+μ-loop words₀ v i₀ words i = length words₀ - i
 
 loop-holds : tie.Need-loop-holds Inv-loop μ-loop
 loop-holds c = written-start _ _
 
-slice-write-bytes : tie.Need-slice-write-bytes Inv-loop μ-loop
-slice-write-bytes c = omega arith
+mul-words : tie.Need-mul-words Inv-loop μ-loop
+mul-words c = search needs
+
+slice-write-words : tie.Need-slice-write-words Inv-loop μ-loop
+slice-write-words c = omega arith
 
 add-i : tie.Need-add-i Inv-loop μ-loop
 add-i c = omega arith
@@ -35,14 +39,15 @@ same-length c = c .before .loop .inv .size
 returns : tie.Need-returns Inv-loop μ-loop
 returns c = written-all (c .before .loop .inv) (omega arith) ∙ list-of-constant _ _
 
-pub fill-bytes-spec : {M : Type 1} → statement M
-fill-bytes-spec =
+pub fill-words-spec : {M : Type 1} → statement M
+fill-words-spec =
     tie.close
     (tie.spec
     Inv-loop
     μ-loop
     loop-holds
-    slice-write-bytes
+    mul-words
+    slice-write-words
     add-i
     loop-less
     loop-again

@@ -1,0 +1,25 @@
+// Buffers that are filled with one value.
+ghost use mathlib.Core.Path.{_≡_};
+ghost use lib.ListN.{length, replicate};
+
+// Every word v.
+pub fn fill_words(words: &mut [u16], v: u16)
+    ensures { λ _. ⌜ now (words .exit) ≡ replicate (length (now (words .entry))) v ⌝ }
+{
+    let mut i = 0;
+    while i < words.len() {
+        words[i] = v;
+        i += 1;
+    }
+}
+
+// Every byte v.
+pub fn fill_bytes(bytes: &mut [u8], v: u8)
+    ensures { λ _. ⌜ now (bytes .exit) ≡ replicate (length (now (bytes .entry))) v ⌝ }
+{
+    let mut i = 0;
+    while i < bytes.len() {
+        bytes[i] = v;
+        i += 1;
+    }
+}
