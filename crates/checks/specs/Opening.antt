@@ -1,11 +1,11 @@
--- Laws of the causes 3 and 4, and of opening's 1 to 4, case by case. Assumes nothing.
+-- Laws of the causes 3 and 4, and of 1 to 4 as session calls and opening look at them, case by case. Assumes nothing.
 use mathlib.Core.Path.{_≡_, sym, _∙_}
 use mathlib.Core.List.{List, [], _∷_}
 use Prim.Native.Nat.{ℕ, _*_, _≤_}
 use lib.ListN.{length}
 use Rattle.matching.specs.Decision.{absent, at, Refusal, because, Ruling, accepted, refused, Cause, judge}
 use Rattle.matching.specs.Graph.{Graph, largest, pair-count}
-use Rattle.matching.specs.Causes.{Lent, lent-always, lent-besides, too-large, too-short, bad-cell, bad-weight, opening-ruling}
+use Rattle.matching.specs.Causes.{Lent, lent-always, lent-besides, too-large, too-short, bad-cell, bad-weight, opening-causes, opening-ruling}
 use Rattle.laws.specs.Sound.{judge-refused, judge-next}
 use Rattle.checks.specs.Answers.{then}
 use Rattle.checks.specs.Lengths.{short-then, lengths-refused, lengths-accepted}
@@ -25,29 +25,38 @@ module _ (p : ℕ) (g : Graph) where
   pub graph-accepted : bad-cell g .finding ≡ absent → absent ≡ bad-weight p g .finding → judge graph-causes ≡ accepted
   graph-accepted a e = judge-next (bad-cell g) (bad-weight p g ∷ []) a ∙ judge-next (bad-weight p g) [] (sym e)
 
-  module _ (inverse sequence witness work : ℕ) where
+  module _ (inverse sequence : ℕ) where
     abbrev pub before : List Lent
     before = lent-always (g .n) (length (g .adjacency)) (length (g .weights)) inverse sequence
-
-    abbrev pub after : List Lent
-    after = lent-besides (g .n) witness work
 
     -- what is judged of the size and the first lengths
     abbrev pub lengths-judged : Ruling
     lengths-judged = judge (too-large (g .n) ∷ too-short before ∷ [])
 
-    pub opening-lengths : (r : Refusal) → refused r ≡ lengths-judged → refused r ≡ opening-ruling p g inverse sequence witness work
-    unfolding opening-ruling
-    opening-lengths r e = sym (lengths-refused (g .n) before after graph-causes r (sym e))
-
-    pub opening-rest : accepted ≡ lengths-judged → (b c : Ruling) → b ≡ judge (too-short after ∷ []) → c ≡ judge graph-causes
-        → then b c ≡ opening-ruling p g inverse sequence witness work
-    unfolding opening-ruling
-    opening-rest e b c q r =
-        rw (q, r) (sym (short-then after graph-causes)) ∙ sym (lengths-accepted (g .n) before after graph-causes (sym e) .2)
-
     -- what the graph's check needs
     pub tables-long : accepted ≡ lengths-judged → (g .n ≤ largest) × (g .n * g .n ≤ length (g .adjacency)) × (pair-count (g .n) ≤ length (g .weights))
     tables-long e =
-        let judged = lengths-accepted (g .n) before after graph-causes (sym e) in
+        let judged = lengths-accepted (g .n) before [] graph-causes (sym e) in
         (judged .0, judged .1 .0, judged .1 .1 .0)
+
+    -- a session call's 1 to 4
+    pub session-lengths : (r : Refusal) → refused r ≡ lengths-judged → refused r ≡ judge (opening-causes p g before)
+    session-lengths r e = sym (lengths-refused (g .n) before [] graph-causes r (sym e))
+
+    pub session-rest : accepted ≡ lengths-judged → (c : Ruling) → c ≡ judge graph-causes → c ≡ judge (opening-causes p g before)
+    session-rest e c r = r ∙ sym (lengths-accepted (g .n) before [] graph-causes (sym e) .2)
+
+    -- opening's
+    module _ (witness work : ℕ) where
+      abbrev pub after : List Lent
+      after = lent-besides (g .n) witness work
+
+      pub opening-lengths : (r : Refusal) → refused r ≡ lengths-judged → refused r ≡ opening-ruling p g inverse sequence witness work
+      unfolding opening-ruling
+      opening-lengths r e = sym (lengths-refused (g .n) before after graph-causes r (sym e))
+
+      pub opening-rest : accepted ≡ lengths-judged → (b c : Ruling) → b ≡ judge (too-short after ∷ []) → c ≡ judge graph-causes
+          → then b c ≡ opening-ruling p g inverse sequence witness work
+      unfolding opening-ruling
+      opening-rest e b c q r =
+          rw (q, r) (sym (short-then after graph-causes)) ∙ sym (lengths-accepted (g .n) before after graph-causes (sym e) .2)

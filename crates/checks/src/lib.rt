@@ -6,7 +6,7 @@ ghost use lib.ListN.{length};
 ghost use Rattle.residue.specs.Modulus.{modulus};
 ghost use Rattle.matching.specs.Decision.{judge};
 ghost use Rattle.matching.specs.Graph.{largest, pair-count, over, kind-of};
-ghost use Rattle.matching.specs.Causes.{lent-always, lent-besides, first-short, too-large, too-short, bad-cell, bad-weight, opening-ruling};
+ghost use Rattle.matching.specs.Causes.{lent-always, lent-besides, first-short, too-large, too-short, bad-cell, bad-weight, opening-causes, opening-ruling};
 ghost use Rattle.checks.specs.Answers.{finding-of, ruling-of, then, InRow, Located};
 use residue::Residue;
 
@@ -215,6 +215,28 @@ fn earlier(a: Ruling, b: Ruling) -> Ruling
         Ruling::Accepted => b,
         Ruling::Refused(refusal) => Ruling::Refused(refusal),
     }
+}
+
+// Causes 1 to 4 as a session call looks at them. The last two are the lengths of the other buffers lent to it.
+pub fn judge_session(
+    n: usize,
+    adjacency: &[u8],
+    weights: &[u16],
+    inverse: usize,
+    sequence: usize,
+) -> Ruling
+    ensures { λ r. ⌜ ruling-of r ≡ judge (opening-causes modulus (over n (now (adjacency .entry)) (now (weights .entry))) (lent-always n (length (now (adjacency .entry))) (length (now (weights .entry))) inverse sequence)) ⌝ }
+{
+    if let Ruling::Refused(refusal) = judge_lengths(
+        n,
+        adjacency.len(),
+        weights.len(),
+        inverse,
+        sequence,
+    ) {
+        return Ruling::Refused(refusal);
+    }
+    judge_graph(n, adjacency, weights)
 }
 
 // Causes 1 to 4 as opening looks at them. The last four are the lengths of the other buffers lent to it.

@@ -6,11 +6,8 @@ use native.Mathlib.Omega.{arith}
 use native.Mathlib.Decide.{decLt}
 use lib.ListN.{length, getD, take, drop, length-append, List·getD-append, take-append-drop}
 use lib.Seq.{length-take-le, getD-take, drop-at}
-use Rattle.lists.specs.Table.{index-below}
-use Rattle.modular.specs.Congruence.{equals}
 use Rattle.modular.specs.Prime.{OddPrime}
 use Rattle.skew.specs.Subset.{Subset, _∈_, _∉_, Member, inside, outside, member?}
-use Rattle.skew.specs.Inverse.{same-entries}
 use Rattle.skew.specs.Matching.{invertible-even}
 use Rattle.matching.specs.Decision.{Refusal, Every, At, Ruling, accepted, refused}
 use Rattle.matching.specs.Graph.{Graph, tutte, largest, InOrder}
@@ -21,20 +18,12 @@ use Rattle.matching.specs.Model.{Call, undo, Answer, done, denied, Step, skew, 
 use Rattle.matching.specs.Calls.{Returned, state-after, Handles, unsound, refuses, carries, Runs, none, more}
 use Rattle.matching.specs.Demand.{Once, StateOf, Undoes, FollowsModel}
 use Rattle.laws.specs.Sound.{Sound, session-accepted}
-use Rattle.laws.specs.Determined.{inverse-table-unique}
+use Rattle.laws.specs.Determined.{inverse-table-unique, table-over}
 use Rattle.laws.specs.Facts.{open-partner, picks-to-come, step-nonsingular, after-nonsingular, unlike}
 use Rattle.laws.specs.Rules.{rule-step}
 use Rattle.laws.specs.History.{Valid, Change, appended, removed, unchanged, change, change-valid, Moves, stays, change-moves, appended-once}
 use Rattle.laws.specs.Sequence.{length-sequence, well-formed-sequence, pairs-on-sequence, length-pairs-on, sequence-on, Inside, valid-on, place-in}
 use Rattle.laws.specs.Carried.{refused-keeps}
-
--- a table with something else after its words
-table-over : {p : ℕ} {g : Graph} {L : Subset} (words other : List ℕ) → ((x : ℕ) → x < g .n * g .n → getD other x 0 ≡ getD words x 0) → InverseTable p g L words
-    → InverseTable p g L other
-table-over {p} {g} words other e I = record {
-  small = λ x h. rw (e x h) (I .small x h);
-  is-inverse = same-entries p (g .n) (tutte g p) _ (λ i j hi hj. equals (e (i * g .n + j) (index-below (g .n) i j hi hj))) (I .is-inverse);
-}
 
 -- new words over new ones of the same length
 onto-again : (new newer old : List ℕ) → length newer ≡ length new → onto newer (onto new old) ≡ onto newer old

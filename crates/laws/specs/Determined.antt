@@ -29,6 +29,14 @@ pub count-everything : (n : ℕ) → count n everything ≡ n
 count-everything zero = count-none everything
 count-everything (suc n) = simp (count-suc, count-everything n) (omega arith)
 
+-- a table with the same first words
+pub table-over : {p : ℕ} {g : Graph} {L : Subset} (words other : List ℕ) → ((x : ℕ) → x < g .n * g .n → getD other x 0 ≡ getD words x 0) → InverseTable p g L words
+    → InverseTable p g L other
+table-over {p} {g} words other e I = record {
+  small = λ x h. rw (e x h) (I .small x h);
+  is-inverse = same-entries p (g .n) (tutte g p) _ (λ i j hi hj. equals (e (i * g .n + j) (index-below (g .n) i j hi hj))) (I .is-inverse);
+}
+
 module _ {p : ℕ} (P : OddPrime p) (g : Graph) (S : Subset) where
   -- one buffer only holds the inverse on a set
   pub inverse-table-unique : {L : Subset} {u v : List ℕ} → length u ≡ g .n * g .n → length v ≡ g .n * g .n → InverseTable p g L u → InverseTable p g L v → u ≡ v

@@ -9,7 +9,7 @@ use native.Mathlib.Decide.{ℕ-discrete, decLt}
 use lib.ListN.{length, getD, take, replicate, length-append, length-replicate, getD-replicate, List·getD-append}
 use lib.Seq.{getD-append-seam, getD-append-add, take-suc, length-take-le, getD-take, ext-getD}
 use Rattle.modular.specs.Prime.{OddPrime}
-use Rattle.skew.specs.Subset.{Subset, _∈_, _∉_, clash, Without, without, smaller, bit, remove, remove-other, count, count-none, count-suc, count-without}
+use Rattle.skew.specs.Subset.{Subset, _∈_, _∉_, clash, Without, without, smaller, bit, remove, remove-same, remove-other, count, count-none, count-suc, count-without}
 use Rattle.matching.specs.Decision.{Every}
 use Rattle.matching.specs.Graph.{Graph, cell}
 use Rattle.matching.specs.Pairs.{Pair, Pairs, unused, bytes, sequence, pairs-on, unmatched}
@@ -222,13 +222,37 @@ abbrev pub Inside : Subset → ℕ → List ℕ → Type 0
 Inside S made s = Every (made + made) (λ x. getD s x 0 ∈ S)
 
 -- a vertex in play that is none of the first bytes is left
-left-on : (S : Subset) (s : List ℕ) (v k : ℕ) → v ∈ S → Every (k + k) (λ x. getD s x 0 ≢ v) → v ∈ unmatched S (pairs-on s k)
+pub left-on : (S : Subset) (s : List ℕ) (v k : ℕ) → v ∈ S → Every (k + k) (λ x. getD s x 0 ≢ v) → v ∈ unmatched S (pairs-on s k)
 unfolding pairs-on unmatched
 left-on S s v zero m d = m
 left-on S s v (suc k) m d =
     remove-other (remove (unmatched S (pairs-on s k)) (getD s (k + k) 0)) (getD s (k + k + 1) 0) v (λ e. d (k + k + 1) (omega arith) (sym e))
     ∙ remove-other (unmatched S (pairs-on s k)) (getD s (k + k) 0) v (λ e. d (k + k) (omega arith) (sym e))
     ∙ left-on S s v k m (λ x l. d x (omega arith))
+
+-- and none of the first bytes is
+pub used-on : (S : Subset) (s : List ℕ) (k x : ℕ) → x < k + k → getD s x 0 ∉ unmatched S (pairs-on s k)
+unfolding pairs-on unmatched
+used-on S s zero x l = absurd (omega arith)
+used-on S s (suc k) x l = go (ℕ-discrete (getD s x 0) (getD s (k + k + 1) 0)) (ℕ-discrete (getD s x 0) (getD s (k + k) 0)) (λ h. used-on S s k x h)
+  where
+    U : Subset
+    U = unmatched S (pairs-on s k)
+
+    go : Dec (getD s x 0 ≡ getD s (k + k + 1) 0) → Dec (getD s x 0 ≡ getD s (k + k) 0) → (x < k + k → getD s x 0 ∉ U)
+        → getD s x 0 ∉ remove (remove U (getD s (k + k) 0)) (getD s (k + k + 1) 0)
+    go (yes e) _ r = rw e (remove-same (remove U (getD s (k + k) 0)) (getD s (k + k + 1) 0))
+    go (no d) (yes e) r =
+        remove-other (remove U (getD s (k + k) 0)) (getD s (k + k + 1) 0) (getD s x 0) d ∙ rw e (remove-same U (getD s (k + k) 0))
+    go (no d) (no c) r =
+        remove-other (remove U (getD s (k + k) 0)) (getD s (k + k + 1) 0) (getD s x 0) d
+        ∙ remove-other U (getD s (k + k) 0) (getD s x 0) c
+        ∙ r (before (ℕ-discrete x (k + k)) (ℕ-discrete x (k + k + 1)))
+      where
+        before : Dec (x ≡ k + k) → Dec (x ≡ k + k + 1) → x < k + k
+        before (yes q) _ = absurd (c (ap (λ y. getD s y 0) q))
+        before (no _) (yes q) = absurd (d (ap (λ y. getD s y 0) q))
+        before (no f) (no g) = omega arith
 
 module _ {p : ℕ} (P : OddPrime p) (g : Graph) (S : Subset) (made : ℕ) (s : List ℕ) (W : WellFormed g made s) (I : Inside S made s) where
   valid-up-to : (k : ℕ) → k ≤ made → Valid P g S (pairs-on s k)

@@ -1,14 +1,14 @@
 -- What an accepting ruling says: the size, the lengths, the tables and the session are in order; and conversely. Assumes nothing.
 use mathlib.Core.Path.{_≡_, refl, ap}
 use mathlib.Core.Logic.{_↔_}
-use mathlib.Core.List.{List, [], _∷_}
+use mathlib.Core.List.{List, [], _∷_, _++_}
 use Prim.Native.Nat.{ℕ, _*_, _/_, _%_, _≤_, _<_}
 use native.Mathlib.Omega.{arith}
 use native.Mathlib.Decide.{ℕ-discrete, decLt}
 use lib.ListN.{length}
 use Rattle.skew.specs.Choose.{choose}
 use Rattle.skew.specs.Subset.{Subset}
-use Rattle.matching.specs.Decision.{because, refused, Every, not?, First, nowhere, first-at, Finding, absent, at, when, found, Cause, accepted, judge, unless}
+use Rattle.matching.specs.Decision.{because, refused, Every, not?, First, nowhere, first-at, Finding, absent, at, when, found, Cause, accepted, judge, unless, Refusal}
 use Rattle.matching.specs.Graph.{Graph, largest, pair-count, fault, InRange, InOrder}
 use Rattle.matching.specs.Session.{State, graph-of, pairs-of, InverseTable, WellFormed}
 use Rattle.matching.specs.Pairs.{unmatched}
@@ -56,6 +56,25 @@ found-at (first-at y m e′ h) x l e k = go (decLt x y) (decLt y x)
     go (yes o) _ = absurd (h x o e)
     go (no _) (yes o) = absurd (k y o e′)
     go (no a) (no b) = ap at (omega arith)
+
+-- a list of causes, and then another
+pub judge-first : (a b : List Cause) {r : Refusal} → judge a ≡ refused r → judge (a ++ b) ≡ refused r
+judge-first [] b e = absurd (let z : _≡_ {A = ℕ} 0 1 = cc in omega arith)
+judge-first (c ∷ a) b {r} e = go (c .finding) e (λ k. judge-first a b k)
+  where
+    go : (f : Finding) → unless f (c .number) (judge a) ≡ refused r → (judge a ≡ refused r → judge (a ++ b) ≡ refused r)
+        → unless f (c .number) (judge (a ++ b)) ≡ refused r
+    go absent e k = k e
+    go (at x) e k = e
+
+pub judge-second : (a b : List Cause) → judge a ≡ accepted → judge (a ++ b) ≡ judge b
+judge-second [] b e = refl
+judge-second (c ∷ a) b e = go (c .finding) e (λ k. judge-second a b k)
+  where
+    go : (f : Finding) → unless f (c .number) (judge a) ≡ accepted → (judge a ≡ accepted → judge (a ++ b) ≡ judge b)
+        → unless f (c .number) (judge (a ++ b)) ≡ judge b
+    go absent e k = k e
+    go (at x) e k = absurd (let z : _≡_ {A = ℕ} 0 1 = cc in omega arith)
 
 -- the first cause that applies
 pub judge-refused : (c : Cause) (later : List Cause) (x : ℕ) → c .finding ≡ at x → judge (c ∷ later) ≡ refused (because (c .number) x)

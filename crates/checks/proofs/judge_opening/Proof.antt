@@ -28,14 +28,14 @@ judge-besides-requires : tie.Need-judge-besides-requires
 judge-besides-requires c κs =
     let judged = c .before .before in
     let a = judged .before .before .before .args in
-    tables-long modulus (over (a .n) (a .adjacency .now) (a .weights .now)) (a .inverse) (a .sequence) (a .witness) (a .work)
+    tables-long modulus (over (a .n) (a .adjacency .now) (a .weights .now)) (a .inverse) (a .sequence)
     (rw (c .enum-told .given .1) at (judged .judge-lengths .ensures)) .0
 
 judge-graph-requires : tie.Need-judge-graph-requires
 judge-graph-requires c κs =
     let judged = c .before .before .before in
     let a = judged .before .before .before .args in
-    tables-long modulus (over (a .n) (a .adjacency .now) (a .weights .now)) (a .inverse) (a .sequence) (a .witness) (a .work)
+    tables-long modulus (over (a .n) (a .adjacency .now) (a .weights .now)) (a .inverse) (a .sequence)
     (rw (c .before .enum-told .given .1) at (judged .judge-lengths .ensures))
 
 earlier-requires : tie.Need-earlier-requires

@@ -1,0 +1,194 @@
+-- A sequence of pairs that is in order, pair by pair, and the vertices that its pairs leave. Assumes nothing.
+use mathlib.Core.Path.{_≡_, refl, sym, _∙_}
+use mathlib.Core.Logic.{_≢_}
+use mathlib.Core.Bool.{Bool, true, false, true≢false, not}
+use mathlib.Core.List.{List}
+use Prim.Native.Nat.{ℕ, _+_, _*_, _≤_, _<_}
+use native.Mathlib.Numerals.{add-one}
+use native.Mathlib.Omega.{arith}
+use native.Mathlib.Decide.{ℕ-discrete}
+use lib.ListN.{length, getD, set, replicate, length-set, length-replicate, getD-replicate}
+use lib.Seq.{getD-set-same, getD-set-other}
+use Rattle.skew.specs.Subset.{_∈_, clash, marked, marked-in, marked-out, marked-nonzero, marked-same, remove, remove-same, remove-other}
+use Rattle.matching.specs.Decision.{Every}
+use Rattle.matching.specs.Graph.{over, largest}
+use Rattle.matching.specs.Pairs.{everything, unused, unmatched, pairs-on}
+use Rattle.matching.specs.Session.{WellFormed}
+use Rattle.laws.specs.Sequence.{left-on, used-on}
+
+-- an adjacency table that is long enough
+pub record Lent (n : ℕ) (adjacency : List ℕ) : Type 0 where
+  pub size : n ≤ largest
+  pub cells : n * n ≤ length adjacency
+
+-- r says whether A holds
+pub record Tells (A : Type 0) (r : Bool) : Type 0 where
+  pub when-true : r ≡ true → A
+  pub when-false : r ≡ false → ¬ A
+
+pub tells-true : {A : Type 0} → A → Tells A true
+tells-true a = record { when-true = λ _. a; when-false = λ e. absurd (true≢false e) }
+
+-- what a test of the negative says
+pub not-true : (r : Bool) → not r ≡ true → r ≡ false
+not-true true e = sym e
+not-true false e = refl
+
+pub not-false : (r : Bool) → not r ≡ false → r ≡ true
+not-false true e = refl
+not-false false e = sym e
+
+pub tells-false : {A : Type 0} → ¬ A → Tells A false
+tells-false n = record { when-true = λ e. absurd (true≢false (sym e)); when-false = λ _. n }
+
+-- the smaller first, both below n, adjacent, and both in the set
+pub record PairFits (n : ℕ) (adjacency marks : List ℕ) (a b : ℕ) : Type 0 where
+  pub ordered : a < b
+  pub below : b < n
+  pub adjacent : getD adjacency (a * n + b) 0 ≡ 1
+  pub a-in : getD marks a 0 ≢ 0
+  pub b-in : getD marks b 0 ≢ 0
+
+-- the first k pairs are in order: a part of `WellFormed`
+pub record UpTo (n : ℕ) (adjacency s : List ℕ) (k : ℕ) : Type 0 where
+  pub ordered : Every k (λ j. getD s (j + j) 0 < getD s (j + j + 1) 0)
+  pub below : Every k (λ j. getD s (j + j + 1) 0 < n)
+  pub adjacent : Every k (λ j. getD adjacency (getD s (j + j) 0 * n + getD s (j + j + 1) 0) 0 ≡ 1)
+  pub different : Every (k + k) (λ y. Every y (λ x. getD s x 0 ≢ getD s y 0))
+
+-- the marks are the vertices that the first k pairs leave
+pub record Left (n : ℕ) (s : List ℕ) (k : ℕ) (marks : List ℕ) : Type 0 where
+  pub size : length marks ≡ n
+  pub same : (v : ℕ) → v < n → marked marks v ≡ unmatched everything (pairs-on s k) v
+
+-- whether the first k pairs are in order, and the marks that are then left
+pub record Taken (n : ℕ) (adjacency s : List ℕ) (k : ℕ) (marks : List ℕ) (r : Bool) : Type 0 where
+  pub in-order : Tells (UpTo n adjacency s k) r
+  pub left : r ≡ true → Left n s k marks
+
+abbrev pub UnusedFrom : List ℕ → ℕ → ℕ → Type 0
+UnusedFrom s start n = (x : ℕ) → start ≤ x → x < n → getD s x 0 ≡ unused
+
+-- what the check says, and the marks that it leaves
+pub record Formed (n : ℕ) (adjacency s : List ℕ) (made : ℕ) (marks : List ℕ) (r : Bool) : Type 0 where
+  pub well : (weights : List ℕ) → Tells (WellFormed (over n adjacency weights) made s) r
+  pub left : r ≡ true → Left n s made marks
+
+pub left-start : (n : ℕ) (s : List ℕ) → Left n s 0 (replicate n 1)
+unfolding pairs-on unmatched
+left-start n s = record {
+  size = length-replicate n 1;
+  same = λ v b. marked-in _ v (λ e. omega (arith, getD-replicate {A = ℕ} n v 1 0 b));
+}
+
+pub upto-start : (n : ℕ) (adjacency s : List ℕ) → UpTo n adjacency s 0
+upto-start n adjacency s = record {
+  ordered = λ j l. absurd (omega arith);
+  below = λ j l. absurd (omega arith);
+  adjacent = λ j l. absurd (omega arith);
+  different = λ y l. absurd (omega arith);
+}
+
+module _ {n : ℕ} {adjacency s marks : List ℕ} {k : ℕ} (L : Left n s k marks) where
+  -- a pair more
+  pub upto-more : UpTo n adjacency s k → PairFits n adjacency marks (getD s (k + k) 0) (getD s (k + k + 1) 0) → UpTo n adjacency s (k + 1)
+  upto-more U F = record {
+    ordered = λ j l. last j l (λ i. getD s (i + i) 0 < getD s (i + i + 1) 0) (U .ordered) (F .ordered) (ℕ-discrete j k);
+    below = λ j l. last j l (λ i. getD s (i + i + 1) 0 < n) (U .below) (F .below) (ℕ-discrete j k);
+    adjacent = λ j l. last j l (λ i. getD adjacency (getD s (i + i) 0 * n + getD s (i + i + 1) 0) 0 ≡ 1) (U .adjacent) (F .adjacent) (ℕ-discrete j k);
+    different = λ y l x o. apart y l x o (ℕ-discrete y (k + k)) (ℕ-discrete y (k + k + 1)) (ℕ-discrete x (k + k));
+  }
+    where
+      last : (j : ℕ) → j < k + 1 → (Q : ℕ → Type 0) → Every k Q → Q k → Dec (j ≡ k) → Q j
+      last j l Q h q (yes e) = rw e q
+      last j l Q h q (no d) = h j (omega arith)
+
+      left-of : (v : ℕ) → v < n → getD marks v 0 ≢ 0 → v ∈ unmatched everything (pairs-on s k)
+      left-of v b d = sym (L .same v b) ∙ marked-in marks v d
+
+      fresh : (v : ℕ) → v < n → getD marks v 0 ≢ 0 → (x : ℕ) → x < k + k → getD s x 0 ≢ v
+      fresh v b d x l e = clash (left-of v b d) (rw e at (used-on everything s k x l))
+
+      a-below : getD s (k + k) 0 < n
+      a-below = omega (arith, F .ordered, F .below)
+
+      apart : (y : ℕ) → y < k + 1 + (k + 1) → (x : ℕ) → x < y → Dec (y ≡ k + k) → Dec (y ≡ k + k + 1) → Dec (x ≡ k + k) → getD s x 0 ≢ getD s y 0
+      apart y l x o (yes e) _ _ = rw e (fresh (getD s (k + k) 0) a-below (F .a-in) x (omega arith))
+      apart y l x o (no _) (yes e) (yes f) = rw (e, f) (λ q. omega (arith, F .ordered))
+      apart y l x o (no _) (yes e) (no f) = rw e (fresh (getD s (k + k + 1) 0) (F .below) (F .b-in) x (omega arith))
+      apart y l x o (no c) (no d) _ = U .different y (omega arith) x o
+
+  pub left-more : PairFits n adjacency marks (getD s (k + k) 0) (getD s (k + k + 1) 0) → (marks′ : List ℕ)
+      → marks′ ≡ set (set marks (getD s (k + k) 0) 0) (getD s (k + k + 1) 0) 0 → Left n s (k + 1) marks′
+  unfolding pairs-on unmatched
+  left-more F marks′ q = rw (q, add-one) (record { size = simp length-set (L .size); same = λ v h. go v h (ℕ-discrete v b) (ℕ-discrete v a) })
+    where
+      a : ℕ
+      a = getD s (k + k) 0
+
+      b : ℕ
+      b = getD s (k + k + 1) 0
+
+      U : ℕ → Bool
+      U = unmatched everything (pairs-on s k)
+
+      go : (v : ℕ) → v < n → Dec (v ≡ b) → Dec (v ≡ a) → marked (set (set marks a 0) b 0) v ≡ remove (remove U a) b v
+      go v h (yes e) _ =
+          marked-out _ v (rw e (getD-set-same (set marks a 0) b 0 0 (simp length-set (omega (arith, L .size, F .below)))))
+          ∙ sym (rw e (remove-same (remove U a) b))
+      go v h (no d) (yes e) =
+          marked-out _ v (getD-set-other (set marks a 0) b v 0 0 d ∙ rw e (getD-set-same marks a 0 0 (omega (arith, L .size, F .ordered, F .below))))
+          ∙ sym (remove-other (remove U a) b v d ∙ rw e (remove-same U a))
+      go v h (no d) (no c) =
+          marked-same _ marks v (getD-set-other (set marks a 0) b v 0 0 d ∙ getD-set-other marks a v 0 0 c)
+          ∙ L .same v h
+          ∙ sym (remove-other (remove U a) b v d ∙ remove-other U a v c)
+
+  -- a sequence in order has a pair in order there
+  pub upto-fits : {m : ℕ} → k < m → UpTo n adjacency s m → PairFits n adjacency marks (getD s (k + k) 0) (getD s (k + k + 1) 0)
+  upto-fits h U = record {
+    ordered = U .ordered k h;
+    below = U .below k h;
+    adjacent = U .adjacent k h;
+    a-in = in-marks _ (omega (arith, U .ordered k h, U .below k h)) (λ x l. U .different (k + k) (omega arith) x l);
+    b-in = in-marks _ (U .below k h) (λ x l. U .different (k + k + 1) (omega arith) x (omega arith));
+  }
+    where
+      in-marks : (v : ℕ) → v < n → Every (k + k) (λ x. getD s x 0 ≢ v) → getD marks v 0 ≢ 0
+      in-marks v b d = marked-nonzero marks v (L .same v b ∙ left-on everything s v k refl d)
+
+-- the parts of well formed
+pub formed-all : {n made : ℕ} {adjacency s : List ℕ} → made + made ≤ n → UpTo n adjacency s made → UnusedFrom s (made + made) n
+    → (weights : List ℕ) → WellFormed (over n adjacency weights) made s
+formed-all f U r weights = record {
+  few = f;
+  ordered = U .ordered;
+  below = U .below;
+  adjacent = U .adjacent;
+  different = U .different;
+  rest = λ x h l. r x l h;
+}
+
+pub formed-up-to : {n made : ℕ} {adjacency weights s : List ℕ} → WellFormed (over n adjacency weights) made s → UpTo n adjacency s made
+formed-up-to W = record { ordered = W .ordered; below = W .below; adjacent = W .adjacent; different = W .different }
+
+-- the check's answers
+module _ (n : ℕ) (adjacency s : List ℕ) (made : ℕ) (marks : List ℕ) where
+  unformed : ((weights : List ℕ) → ¬ WellFormed (over n adjacency weights) made s) → Formed n adjacency s made marks false
+  unformed d = record { well = λ weights. tells-false (d weights); left = λ e. absurd (true≢false (sym e)) }
+
+  pub too-many : n < made + made → Formed n adjacency s made marks false
+  too-many l = unformed (λ weights W. omega (arith, W .few))
+
+  pub out-of-order : ¬ UpTo n adjacency s made → Formed n adjacency s made marks false
+  out-of-order d = unformed (λ weights W. d (formed-up-to W))
+
+  pub by-rest : made + made ≤ n → UpTo n adjacency s made → Left n s made marks → (r : Bool) → Tells (UnusedFrom s (made + made) n) r
+      → Formed n adjacency s made marks r
+  by-rest f U L r T = record {
+    well = λ weights. record {
+      when-true = λ e. formed-all f U (T .when-true e) weights;
+      when-false = λ e W. T .when-false e (λ x l h. W .rest x h l);
+    };
+    left = λ _. L;
+  }

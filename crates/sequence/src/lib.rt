@@ -1,0 +1,92 @@
+// The check of a session's sequence of pairs, cause 5 of document 01's table, and the vertices that its pairs leave: a mark for each vertex,
+// not 0 for those left.
+ghost use mathlib.Core.Path.{_≡_};
+ghost use Prim.Native.Nat.{_+_, _≤_, _<_};
+ghost use lib.ListN.{length, set};
+ghost use Rattle.sequence.specs.Formed.{Lent, Tells, PairFits, Left, Taken, UnusedFrom, Formed};
+
+// The byte of a place that no pair has.
+pub const UNUSED: u8 = 255;
+
+// Whether a and b are a pair in order: the smaller first, both below n, adjacent, and both marked.
+fn fits(n: usize, adjacency: &[u8], marks: &[u8], a: usize, b: usize) -> bool
+    requires { ⌜ Lent n (now adjacency) × (length (now marks) ≡ n) ⌝ }
+    ensures { λ r. ⌜ Tells (PairFits n (now (adjacency .entry)) (now (marks .entry)) a b) r ⌝ }
+{
+    if b <= a {
+        return false;
+    }
+    if n <= b {
+        return false;
+    }
+    if adjacency[a * n + b] != 1 {
+        return false;
+    }
+    if marks[a] == 0 {
+        return false;
+    }
+    if marks[b] == 0 {
+        return false;
+    }
+    true
+}
+
+// Takes the marks of a and b away.
+fn unmark(marks: &mut [u8], a: usize, b: usize)
+    requires { ⌜ (a < length (now marks)) × (b < length (now marks)) ⌝ }
+    ensures { λ _. ⌜ now (marks .exit) ≡ set (set (now (marks .entry)) a 0) b 0 ⌝ }
+{
+    marks[a] = 0;
+    marks[b] = 0;
+}
+
+// Takes the marks of the first pairs away, as long as the pairs are in order; whether all of them are.
+fn take_pairs(n: usize, adjacency: &[u8], sequence: &[u8], made: usize, marks: &mut [u8]) -> bool
+    requires { ⌜ Lent n (now adjacency) × (made + made ≤ n) × (n ≤ length (now sequence)) × Left n (now sequence) 0 (now marks) ⌝ }
+    ensures { λ r. ⌜ Taken n (now (adjacency .entry)) (now (sequence .entry)) made (now (marks .exit)) r ⌝ }
+{
+    let mut k = 0;
+    while k < made {
+        let at = k + k;
+        let a = sequence[at] as usize;
+        let b = sequence[at + 1] as usize;
+        let fit = fits(n, adjacency, marks, a, b);
+        if !fit {
+            return false;
+        }
+        unmark(marks, a, b);
+        k += 1;
+    }
+    true
+}
+
+// Whether the bytes from start up to n are unused.
+fn unused_from(sequence: &[u8], start: usize, n: usize) -> bool
+    requires { ⌜ n ≤ length (now sequence) ⌝ }
+    ensures { λ r. ⌜ Tells (UnusedFrom (now (sequence .entry)) start n) r ⌝ }
+{
+    let mut i = start;
+    while i < n {
+        if sequence[i] != UNUSED {
+            return false;
+        }
+        i += 1;
+    }
+    true
+}
+
+// Whether a sequence with so many pairs is well formed; then the marks are those of the vertices left.
+pub fn formed(n: usize, adjacency: &[u8], sequence: &[u8], made: usize, marks: &mut [u8]) -> bool
+    requires { ⌜ Lent n (now adjacency) × (n ≤ length (now sequence)) × (length (now marks) ≡ n) ⌝ }
+    ensures { λ r. ⌜ Formed n (now (adjacency .entry)) (now (sequence .entry)) made (now (marks .exit)) r ⌝ }
+{
+    if n / 2 < made {
+        return false;
+    }
+    buffers::fill_bytes(marks, 1);
+    let taken = take_pairs(n, adjacency, sequence, made, marks);
+    if !taken {
+        return false;
+    }
+    unused_from(sequence, made + made, n)
+}

@@ -1,0 +1,159 @@
+-- What the confirmation of a session says. Assumes nothing.
+use mathlib.Core.Path.{_≡_, sym, ap, _∙_}
+use mathlib.Core.Bool.{Bool, false}
+use mathlib.Core.List.{List, [], _∷_}
+use Prim.Native.Nat.{ℕ, _*_, _≤_}
+use native.Mathlib.Omega.{arith}
+use lib.ListN.{length, getD, take}
+use lib.Seq.{length-take-le, getD-take}
+use Rattle.residue.specs.Modulus.{modulus, modulus-prime}
+use Rattle.skew.specs.Subset.{Subset}
+use Rattle.skew.specs.Decide.{witness-singular}
+use Rattle.matching.specs.Decision.{Refusal, because, Cause, accepted, refused, judge, not?}
+use Rattle.matching.specs.Graph.{Graph, over, tutte}
+use Rattle.matching.specs.Pairs.{everything, unmatched, pairs-on}
+use Rattle.matching.specs.Session.{State, graph-of, pairs-of, InverseTable, WellFormed}
+use Rattle.matching.specs.Opening.{Singular}
+use Rattle.matching.specs.Model.{skew}
+use Rattle.matching.specs.Decided.{well-formed?, inverse-table?}
+use Rattle.matching.specs.Causes.{lent-always, lent-to-session, opening-causes, ill-formed, not-inverse, session-ruling}
+use Rattle.laws.specs.Sound.{judge-accepted, graph-in-order, judge-first, judge-second, judge-refused, judge-next, when-at, unless-absent}
+use Rattle.laws.specs.Determined.{inverse-table-unique, table-over}
+use Rattle.checks.specs.Answers.{ruling-of}
+use Rattle.checks.specs.declared.Ruling.{Ruling}
+use Rattle.sequence.specs.Formed.{Lent, Tells, tells-false, Left}
+use Rattle.tutte.specs.Table.{Complete}
+
+-- a session over lent tables and buffers
+abbrev pub state : (size made : ℕ) (adjacency weights inverse sequence : List ℕ) → State
+state size made adjacency weights inverse sequence = record {
+  session = record { size = size; made = made };
+  adjacency = adjacency;
+  weights = weights;
+  inverse = inverse;
+  sequence = sequence;
+}
+
+-- the ruling of causes 1 to 6, and the marks of the vertices left where none applies
+pub record Confirmed (n made : ℕ) (adjacency weights inverse sequence marks : List ℕ) (r : Ruling) : Type 0 where
+  pub ruled : ruling-of r ≡ session-ruling modulus everything (state n made adjacency weights inverse sequence)
+  pub left : ruling-of r ≡ accepted → Left n sequence made marks
+
+-- none of the causes 1 to 4 applies
+pub record Judged (n : ℕ) (adjacency weights inverse sequence : List ℕ) : Type 0 where
+  pub four : judge (opening-causes modulus (over n adjacency weights) (lent-always n (length adjacency) (length weights) (length inverse) (length sequence))) ≡ accepted
+
+pub judged : (n : ℕ) (adjacency weights inverse sequence : List ℕ)
+    → accepted ≡ judge (opening-causes modulus (over n adjacency weights) (lent-always n (length adjacency) (length weights) (length inverse) (length sequence)))
+    → Judged n adjacency weights inverse sequence
+judged n adjacency weights inverse sequence e = record { four = sym e }
+
+-- what this makes ready
+pub record Ready (n : ℕ) (adjacency weights inverse sequence : List ℕ) : Type 0 where
+  pub lent : Lent n adjacency
+  pub complete : Complete n adjacency weights
+  pub inverse-fits : n * n ≤ length inverse
+  pub sequence-fits : n ≤ length sequence
+
+pub ready : {n : ℕ} {adjacency weights inverse sequence : List ℕ} → Judged n adjacency weights inverse sequence → Ready n adjacency weights inverse sequence
+ready {n} {adjacency} {weights} {inverse} {sequence} J =
+    let g = over n adjacency weights in
+    let buffers = lent-always n (length adjacency) (length weights) (length inverse) (length sequence) in
+    let k = graph-in-order modulus g buffers .0 (judge-accepted (opening-causes modulus g buffers) .0 (J .four)) in
+    record {
+      lent = record { size = k .1 .size; cells = k .0 .0 };
+      complete = record { size = k .1 .size; cells = k .0 .0; weights-enough = k .0 .1 .0 };
+      inverse-fits = k .0 .1 .1 .0;
+      sequence-fits = k .0 .1 .1 .1 .0;
+    }
+
+-- the inverse solved again, compared with what is held
+module _ (g : Graph) (S : Subset) (table inverse : List ℕ) (long : g .n * g .n ≤ length inverse) where
+  front : InverseTable modulus g S inverse → InverseTable modulus g S (take (g .n * g .n) inverse)
+  front I = table-over inverse _ (λ x h. getD-take (g .n * g .n) inverse x 0 h) I
+
+  pub held-same : length table ≡ g .n * g .n → InverseTable modulus g S table → (r : Bool) → Tells (table ≡ take (g .n * g .n) inverse) r
+      → Tells (InverseTable modulus g S inverse) r
+  held-same l I r T = record {
+    when-true = λ e. table-over table inverse (λ x h. sym (getD-take (g .n * g .n) inverse x 0 h) ∙ ap (λ w. getD w x 0) (sym (T .when-true e))) I;
+    when-false = λ e J. T .when-false e (inverse-table-unique modulus-prime g S l (length-take-le (g .n * g .n) inverse long) I (front J));
+  }
+
+pub held-none : (g : Graph) (S : Subset) (inverse : List ℕ) {f : ℕ} {w : List ℕ} → Singular modulus g S f w → Tells (InverseTable modulus g S inverse) false
+held-none g S inverse s =
+    tells-false (λ I. witness-singular modulus-prime (g .n) (tutte g modulus) (skew modulus-prime g S) S (s .kernel) (_, I .is-inverse))
+
+-- the causes in their order
+module _ (s : State) where
+  abbrev four : List Cause
+  four = opening-causes modulus (graph-of s) (lent-to-session s [])
+
+  abbrev five : Cause
+  five = ill-formed (graph-of s) (s .session .made) (s .sequence)
+
+  abbrev six : Cause
+  six = not-inverse modulus (graph-of s) (unmatched everything (pairs-of s)) (s .inverse)
+
+  pub refused-first : {r : Refusal} → judge four ≡ refused r → session-ruling modulus everything s ≡ refused r
+  unfolding session-ruling
+  refused-first e = judge-first four (five ∷ six ∷ []) e
+
+  module _ (ok : judge four ≡ accepted) where
+    pub refused-five : ¬ WellFormed (graph-of s) (s .session .made) (s .sequence) → session-ruling modulus everything s ≡ refused (because 5 0)
+    unfolding session-ruling ill-formed
+    refused-five d =
+        judge-second four (five ∷ six ∷ []) ok
+        ∙ judge-refused five (six ∷ []) 0 (when-at (not? (well-formed? (graph-of s) (s .session .made) (s .sequence))) 0 d)
+
+    module _ (W : WellFormed (graph-of s) (s .session .made) (s .sequence)) where
+      rest : session-ruling modulus everything s ≡ judge (six ∷ [])
+      unfolding session-ruling ill-formed
+      rest =
+          judge-second four (five ∷ six ∷ []) ok
+          ∙ judge-next five (six ∷ []) (unless-absent (well-formed? (graph-of s) (s .session .made) (s .sequence)) 0 .1 W)
+
+      pub refused-six : ¬ InverseTable modulus (graph-of s) (unmatched everything (pairs-of s)) (s .inverse)
+          → session-ruling modulus everything s ≡ refused (because 6 0)
+      unfolding not-inverse
+      refused-six d =
+          rest
+          ∙ judge-refused six [] 0 (when-at (not? (inverse-table? modulus (graph-of s) (unmatched everything (pairs-of s)) (s .inverse))) 0 d)
+
+      pub confirmed : InverseTable modulus (graph-of s) (unmatched everything (pairs-of s)) (s .inverse)
+          → session-ruling modulus everything s ≡ accepted
+      unfolding not-inverse
+      confirmed I =
+          rest
+          ∙ judge-next six [] (unless-absent (inverse-table? modulus (graph-of s) (unmatched everything (pairs-of s)) (s .inverse)) 0 .1 I)
+
+-- the answers of the confirmation
+module _ (n made : ℕ) (adjacency weights inverse sequence marks : List ℕ) (J : Judged n adjacency weights inverse sequence) where
+  abbrev lent-state : State
+  lent-state = state n made adjacency weights inverse sequence
+
+  pub not-formed : {r : Ruling} → ruling-of r ≡ refused (because 5 0) → ¬ WellFormed (over n adjacency weights) made sequence
+      → Confirmed n made adjacency weights inverse sequence marks r
+  not-formed e d = record {
+    ruled = e ∙ sym (refused-five lent-state (J .four) d);
+    left = λ q. absurd (let z : _≡_ {A = ℕ} 0 1 = cc in omega arith);
+  }
+
+  module _ (W : WellFormed (over n adjacency weights) made sequence) where
+    pub not-held : {r : Ruling} → ruling-of r ≡ refused (because 6 0) → ¬ InverseTable modulus (over n adjacency weights) (unmatched everything (pairs-on sequence made)) inverse
+        → Confirmed n made adjacency weights inverse sequence marks r
+    not-held e d = record {
+      ruled = e ∙ sym (refused-six lent-state (J .four) W d);
+      left = λ q. absurd (let z : _≡_ {A = ℕ} 0 1 = cc in omega arith);
+    }
+
+    pub all-held : {r : Ruling} → ruling-of r ≡ accepted → InverseTable modulus (over n adjacency weights) (unmatched everything (pairs-on sequence made)) inverse
+        → Left n sequence made marks → Confirmed n made adjacency weights inverse sequence marks r
+    all-held e I L = record { ruled = e ∙ sym (confirmed lent-state (J .four) W I); left = λ _. L }
+
+pub first-refused : (n made : ℕ) (adjacency weights inverse sequence marks : List ℕ) {r : Ruling} {why : Refusal} → ruling-of r ≡ refused why
+    → refused why ≡ judge (opening-causes modulus (over n adjacency weights) (lent-always n (length adjacency) (length weights) (length inverse) (length sequence)))
+    → Confirmed n made adjacency weights inverse sequence marks r
+first-refused n made adjacency weights inverse sequence marks e q = record {
+  ruled = e ∙ sym (refused-first (state n made adjacency weights inverse sequence) (sym q));
+  left = λ a. absurd (let z : _≡_ {A = ℕ} 0 1 = cc in omega arith);
+}

@@ -1,0 +1,53 @@
+-- `update::update_over` meets its contract: the multiples of x and y make the rows the update. Assumes nothing.
+use Prim.Native.Nat.{_-_}
+use native.Mathlib.Omega.{arith}
+use Rattle.residue.specs.Modulus.{modulus}
+use Rattle.update.specs.Rows.{updated}
+use borrow.Author.Needs.{needs}
+use Rattle.update.proofs.update_over.Statement.{statement}
+use Rattle.update.proofs.update_over.Tie as tie
+
+sub-negative : tie.Need-sub-negative
+sub-negative c = search needs
+
+multiples-requires : tie.Need-multiples-requires
+multiples-requires c κs = search needs
+
+cast-multiples : tie.Need-cast-multiples
+cast-multiples c = search needs
+
+multiples-requires-2 : tie.Need-multiples-requires-2
+multiples-requires-2 c κs = search needs
+
+update-rows-requires : tie.Need-update-rows-requires
+update-rows-requires c κs = search needs
+
+same-length : tie.Need-same-length
+same-length c = search needs
+
+same-length-2 : tie.Need-same-length-2
+same-length-2 c = search needs
+
+same-length-3 : tie.Need-same-length-3
+same-length-3 c = search needs
+
+returns : tie.Need-returns
+returns c =
+    let start = c .before .before .before .before .before .before .before .before .before .before .before .before .before .before .before .before .before .before .before in
+    let lent = start .pre .0 in
+    updated (start .args .g) (modulus - start .args .g) (c .before .before .update-rows .ensures) (omega arith)
+    (rw (lent .u-size) at (c .before .before .before .before .before .before .before .before .before .before .before .before .multiples .ensures)) (rw (lent .v-size) at (c .before .before .before .before .before .before .before .before .multiples2 .ensures))
+
+pub update-over-spec : {M : Type 1} → statement M
+update-over-spec =
+    tie.close
+    (tie.spec
+    sub-negative
+    multiples-requires
+    cast-multiples
+    multiples-requires-2
+    update-rows-requires
+    same-length
+    same-length-2
+    same-length-3
+    returns)
