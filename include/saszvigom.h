@@ -19,7 +19,7 @@
  * For C99 or C++11 and later. Link with libhost.a, which is for 64-bit x86 and
  * the System V ABI. It keeps no state, allocates nothing, and calls only memcpy,
  * memmove and memset. Threads may call it at once if none writes to a buffer
- * that another one uses. A call takes less than 256 KiB of stack.
+ * that another one uses. A call takes less than 128 KiB of stack.
  */
 #ifndef SASZVIGOM_H
 #define SASZVIGOM_H

@@ -52,11 +52,8 @@ pub record OpensBytes (n : ℕ) (adjacency weights : List ℕ) (w b : Buffers) (
   pub front : Front n weights lent
   pub opened-over : OpensOver n adjacency lent w b answer after
 
-pub place-small : (p : ℕ) (g : Graph) (b : Buffers) {r : Refusal} → ruling p g b ≡ refused r → r .place < 65536
-place-small p g b {r} e = numbers.opens-small {S = everything} {b = b} (refuses-opening r e) .place-below
-
 pub opens-small : {p : ℕ} {g : Graph} {S : Subset} {b left : Buffers} {o : Opening} → Opens p g S b o left → Small o
-opens-small {p} {g} {b = b} (refuses-opening r e) = place-small p g b e
+opens-small {S = S} {b = b} (refuses-opening r e) = numbers.opens-small {S = S} {b = b} (refuses-opening r e) .place-below
 opens-small (opens inverse e l I) = omega arith
 opens-small {p} {g} (finds-singular f witness e l s) =
     omega (arith, s .kernel .below, opening-accepted p g _ _ _ _ .0 e .1 .size)

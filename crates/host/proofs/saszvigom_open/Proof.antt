@@ -7,7 +7,7 @@ use lib.ListN.{length}
 use Rattle.residue.specs.Modulus.{modulus, modulus-prime}
 use Rattle.matching.specs.Decision.{because, refused}
 use Rattle.matching.specs.Graph.{over}
-use Rattle.matching.specs.Opening.{Buffers, ruling}
+use Rattle.matching.specs.Opening.{Buffers, ruling, refuses-opening}
 use Rattle.matching.specs.Pairs.{everything}
 use Rattle.matching.specs.Host.{words, unpacked, HostOpens}
 use Rattle.laws.specs.Determined.{host-opened-exactly}
@@ -15,7 +15,7 @@ use Rattle.checks.specs.declared.Refusal.{Refusal}
 use Rattle.checks.specs.declared.Ruling.the-variants.{Refused}
 use Rattle.opening.specs.Answers.{buffers}
 use Rattle.packing.specs.Words.{words-half}
-use Rattle.host.specs.Opened.{Judged, host-refuses, place-small}
+use Rattle.host.specs.Opened.{opens-small, host-refuses}
 use borrow.Author.Needs.{needs}
 use Rattle.host.proofs.saszvigom_open.Statement.{statement}
 use Rattle.host.proofs.saszvigom_open.Tie as tie
@@ -38,7 +38,8 @@ enum-known-ruling : tie.Need-enum-known-ruling
 enum-known-ruling c = search needs
 
 number-requires : tie.Need-number-requires
-number-requires c κs = place-small modulus _ (unpacked (host (c .before .before .before))) (refuses (c .before .before .before) (c .before .ruling .given .1))
+number-requires c κs =
+    let at = c .before .before .before in opens-small {S = everything} {b = unpacked (host at)} (refuses-opening _ (refuses at (c .before .ruling .given .1)))
 
 returns : tie.Need-returns
 returns c =
