@@ -1,8 +1,11 @@
--- Laws of the first weight out of range. Assumes nothing.
+-- How many weights a graph needs, and laws of the first one out of range. Assumes nothing.
 use mathlib.Core.Path.{_≡_}
-use Prim.Native.Nat.{ℕ, _<_}
+use Prim.Native.Nat.{ℕ, _≤_, _<_}
+use native.Mathlib.Omega.{arith}
+use native.Mathlib.Decide.{decLt}
+use Rattle.skew.specs.Choose.{choose, choose-yes, choose-no}
 use Rattle.matching.specs.Decision.{Every, absent, at}
-use Rattle.matching.specs.Graph.{Graph, pair-count, InRange}
+use Rattle.matching.specs.Graph.{Graph, largest, pair-count, InRange}
 use Rattle.matching.specs.Causes.{first-outside, bad-weight}
 use Rattle.laws.specs.Sound.{found-at, found-absent}
 
@@ -14,3 +17,13 @@ module _ (p : ℕ) (g : Graph) where
   pub weights-absent : Every (pair-count (g .n)) (InRange g p) → bad-weight p g .finding ≡ absent
   unfolding bad-weight
   weights-absent h = found-absent (first-outside p g) .1 (λ k m d. d (h k m))
+
+-- one for each pair of vertices, and none where there are too many vertices
+abbrev pub needed : ℕ → ℕ
+needed n = choose (decLt largest n) 0 (pair-count n)
+
+pub needed-none : (n : ℕ) → largest < n → needed n ≡ 0
+needed-none n h = choose-yes (decLt largest n) 0 (pair-count n) h
+
+pub needed-all : (n : ℕ) → n ≤ largest → needed n ≡ pair-count n
+needed-all n h = choose-no (decLt largest n) 0 (pair-count n) (λ l. omega arith)

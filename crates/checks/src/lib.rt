@@ -7,6 +7,7 @@ ghost use Rattle.residue.specs.Modulus.{modulus};
 ghost use Rattle.matching.specs.Decision.{judge};
 ghost use Rattle.matching.specs.Graph.{largest, pair-count, over, kind-of};
 ghost use Rattle.matching.specs.Causes.{lent-always, lent-besides, first-short, too-large, too-short, bad-cell, bad-weight, opening-causes, opening-ruling};
+ghost use Rattle.checks.specs.Weights.{needed};
 ghost use Rattle.checks.specs.Answers.{finding-of, ruling-of, then, InRow, Located};
 use residue::Residue;
 
@@ -45,7 +46,7 @@ pub enum Cells {
 }
 
 // How many pairs of vertices there are.
-pub fn pair_count(n: usize) -> usize
+fn pair_count(n: usize) -> usize
     requires { ⌜ n ≤ largest ⌝ }
     ensures { λ r. ⌜ r ≡ pair-count n ⌝ }
 {
@@ -53,6 +54,16 @@ pub fn pair_count(n: usize) -> usize
         return 0;
     }
     n * (n - 1) / 2
+}
+
+// How many weights a graph needs: one for each pair of vertices, and none where there are too many vertices.
+pub fn weights_needed(n: usize) -> usize
+    ensures { λ r. ⌜ r ≡ needed n ⌝ }
+{
+    if LARGEST < n {
+        return 0;
+    }
+    pair_count(n)
 }
 
 // The number of the first buffer that is too short, of those that opening and every session call are lent: 1 adjacency, 2 weights,

@@ -9,13 +9,14 @@ use native.Mathlib.Decide.{decLt}
 use lib.ListN.{length, getD, take, replicate}
 use lib.Seq.{length-take-le, getD-take}
 use Rattle.lists.specs.Part.{length-part}
-use Rattle.skew.specs.Choose.{choose, choose-yes, choose-no}
+use Rattle.skew.specs.Choose.{choose}
 use Rattle.matching.specs.Decision.{Every, Finding, absent, at, unless, judge}
 use Rattle.matching.specs.Graph.{largest, pair-count, over}
 use Rattle.matching.specs.Causes.{Lent, lent-to-opening, first-short, bad-cell, bad-weight, opening-ruling}
 use Rattle.matching.specs.Opening.{Buffers, ruling}
 use Rattle.matching.specs.Host.{words, unpacked}
 use Rattle.laws.specs.Sound.{when-at, when-absent, short-absent}
+use Rattle.checks.specs.Weights.{needed, needed-none, needed-all}
 use Rattle.packing.specs.Words.{words-length}
 use Rattle.host.specs.Same.{cells-same, weights-same}
 
@@ -54,16 +55,6 @@ choice-same a b needed number {later} {later′} e q = go (decLt a needed) (decL
     go (yes l) (no m) = absurd (omega (arith, e .1 (omega arith)))
     go (no l) (yes m) = absurd (omega (arith, e .0 (omega arith)))
     go (no _) (no _) = q
-
--- how many weights matter
-abbrev pub needed : ℕ → ℕ
-needed n = choose (decLt largest n) 0 (pair-count n)
-
-pub needed-none : (n : ℕ) → largest < n → needed n ≡ 0
-needed-none n h = choose-yes (decLt largest n) 0 (pair-count n) h
-
-pub needed-all : (n : ℕ) → n ≤ largest → needed n ≡ pair-count n
-needed-all n h = choose-no (decLt largest n) 0 (pair-count n) (λ l. omega arith)
 
 pub needed-small : (n : ℕ) → needed n ≤ 4560
 needed-small n = go (decLt largest n)

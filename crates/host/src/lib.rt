@@ -10,7 +10,7 @@ ghost use Rattle.matching.specs.Graph.{Graph};
 ghost use Rattle.matching.specs.Pairs.{everything};
 ghost use Rattle.matching.specs.Host.{opening-number, HostOpens, HostOpenedExactly};
 ghost use Rattle.opening.specs.Answers.{opening-of, buffers};
-ghost use Rattle.host.specs.Room.{Room, needed};
+ghost use Rattle.host.specs.Room.{Room};
 ghost use Rattle.host.specs.Opened.{Small, OpensOver, OpensBytes, Judged};
 
 // How many words this many bytes hold, counted up to the most that matter.
@@ -19,16 +19,6 @@ fn fitting(bytes: usize, most: usize) -> usize
 {
     let whole = bytes / 2;
     if whole < most { whole } else { most }
-}
-
-// How many weights matter: one for each pair of vertices, and none where there are too many vertices.
-fn weights_needed(n: usize) -> usize
-    ensures { λ r. ⌜ r ≡ needed n ⌝ }
-{
-    if checks::LARGEST < n {
-        return 0;
-    }
-    checks::pair_count(n)
 }
 
 // The number that the host is answered.
@@ -88,7 +78,7 @@ fn open_bytes(
 {
     // The weights of the largest graph: 96 * 95 / 2.
     let mut values = [0u16; 4560];
-    let most = weights_needed(n);
+    let most = checks::weights_needed(n);
     let count = fitting(weights.len(), most);
     packing::unpack(weights, &mut values[..count]);
     open_over(

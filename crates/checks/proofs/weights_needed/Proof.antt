@@ -1,9 +1,9 @@
--- `host::weights_needed` meets its contract. Assumes nothing.
+-- `checks::weights_needed` meets its contract. Assumes nothing.
 use mathlib.Core.Path.{sym, _∙_}
 use borrow.Author.Needs.{needs}
-use Rattle.host.specs.Room.{needed-none, needed-all}
-use Rattle.host.proofs.weights_needed.Statement.{statement}
-use Rattle.host.proofs.weights_needed.Tie as tie
+use Rattle.checks.specs.Weights.{needed-none, needed-all}
+use Rattle.checks.proofs.weights_needed.Statement.{statement}
+use Rattle.checks.proofs.weights_needed.Tie as tie
 
 returns : tie.Need-returns
 returns c = sym (needed-none _ (c .if1 .taken))
