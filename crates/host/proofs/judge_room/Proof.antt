@@ -1,15 +1,14 @@
 -- `host::judge_room` meets its contract: each refusal is a case of the definition.
 -- Assumes nothing.
-use mathlib.Core.Path.{_≡_, refl, sym}
+use mathlib.Core.Path.{refl, sym}
 use mathlib.Core.List.{[]}
 use native.Mathlib.Omega.{arith}
 use Rattle.lists.specs.Table.{square-small}
 use Rattle.residue.specs.Modulus.{modulus}
-use Rattle.matching.specs.Decision.{because, judge, refused, accepted}
-use Rattle.matching.specs.Graph.{Graph}
+use Rattle.matching.specs.Decision.{because, judge, refused}
 use Rattle.matching.specs.Causes.{lent-always}
 use Rattle.checks.specs.Lengths.{lengths-accepted, short-witness, short-work}
-use Rattle.checks.specs.Opening.{graph-causes, lengths-judged, opening-lengths, opening-rest}
+use Rattle.checks.specs.Opening.{graph-causes, opening-lengths, opening-rest}
 use borrow.Author.Needs.{needs}
 use Rattle.host.proofs.judge_room.Statement.{statement}
 use Rattle.host.proofs.judge_room.Tie as tie

@@ -7,10 +7,6 @@ use native.Mathlib.Omega.{arith}
 use lib.ListN.{length, drop, replicate, length-replicate}
 use lib.Seq.{length-take-le}
 use Rattle.lists.specs.Table.{square-small}
-use Rattle.residue.specs.Modulus.{modulus}
-use Rattle.matching.specs.Graph.{over}
-use Rattle.matching.specs.Pairs.{everything}
-use Rattle.matching.specs.Opening.{Opens}
 use Rattle.opening.specs.Answers.{opening-of, buffers}
 use Rattle.opening.specs.Begun.{Within, opens-within}
 use Rattle.host.specs.Opened.{opens-small, same-buffers, zeros-stored}

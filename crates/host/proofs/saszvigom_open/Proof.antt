@@ -1,9 +1,6 @@
 -- `host::saszvigom_open` meets its contract: a refusal for the size or the lengths writes nothing, and else words are lent.
 -- Assumes nothing.
 use mathlib.Core.Path.{_≡_, refl}
-use Prim.Native.Nat.{_/_}
-use native.Mathlib.Omega.{arith}
-use lib.ListN.{length}
 use Rattle.residue.specs.Modulus.{modulus, modulus-prime}
 use Rattle.matching.specs.Decision.{because, refused}
 use Rattle.matching.specs.Graph.{over}

@@ -1,9 +1,9 @@
 -- `pivot::columns` meets its contract.
 -- Assumes nothing.
-use mathlib.Core.Path.{_≡_, refl, _∙_}
+use mathlib.Core.Path.{refl, _∙_}
 use Prim.Native.Nat.{_<_}
 use native.Mathlib.Omega.{arith}
-use lib.ListN.{length, length-set}
+use lib.ListN.{length-set}
 use Rattle.pivot.specs.Words.{residue-small}
 use Rattle.pivot.specs.Step.{taken-clear, taken-both, first-bordered, second-bordered, first-below, second-below, column-unit}
 use borrow.Author.Needs.{needs}

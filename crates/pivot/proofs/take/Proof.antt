@@ -1,6 +1,6 @@
 -- `pivot::take` meets its contract.
 -- Assumes nothing.
-use mathlib.Core.Path.{sym, refl, _∙_, ap}
+use mathlib.Core.Path.{sym, refl, _∙_}
 use native.Mathlib.Omega.{arith}
 use Rattle.lists.specs.Table.{Room, row-room}
 use Rattle.pivot.specs.Words.{place-above, place-below, residue-above, residue-below}

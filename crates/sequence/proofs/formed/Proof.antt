@@ -1,8 +1,7 @@
 -- `sequence::formed` meets its contract: each return is one of the cases of the check. Assumes nothing.
-use mathlib.Core.Path.{_≡_}
 use native.Mathlib.Omega.{arith}
 use borrow.Author.Needs.{needs}
-use Rattle.sequence.specs.Formed.{Left, not-true, not-false, left-start, too-many, out-of-order, by-rest}
+use Rattle.sequence.specs.Formed.{not-true, not-false, left-start, too-many, out-of-order, by-rest}
 use Rattle.sequence.proofs.formed.Statement.{statement}
 use Rattle.sequence.proofs.formed.Tie as tie
 

@@ -4,8 +4,6 @@ use mathlib.Core.Bool.{true≢false}
 use mathlib.Core.Path.{_≡_, _∙_, sym}
 use Prim.Native.Nat.{_+_, _-_, _≤_}
 use native.Mathlib.Omega.{arith}
-use borrow.Author.Needs.{needs}
-use lib.ListN.{length}
 use Rattle.sequence.specs.Formed.{tells-true, tells-false, not-true, not-false, UpTo, Left, upto-start, upto-more, left-more, upto-fits}
 use Rattle.sequence.proofs.take_pairs.Statement.{statement}
 use Rattle.sequence.proofs.take_pairs.Tie as tie

@@ -1,7 +1,6 @@
 -- `solve::solve` meets its contract: it lends a table of n * n zeros, from 32 * 32 or from 96 * 96.
 -- Assumes nothing.
 use mathlib.Core.Path.{sym}
-use Prim.Native.Nat.{_*_}
 use native.Mathlib.Nat.{mul-le-mul}
 use Rattle.lists.specs.Part.{length-part}
 use Rattle.lists.specs.Table.{square-small}

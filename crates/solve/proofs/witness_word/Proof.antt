@@ -1,6 +1,6 @@
 -- `solve::witness_word` meets its contract.
 -- Assumes nothing.
-use mathlib.Core.Path.{_≡_, sym, ap, _∙_}
+use mathlib.Core.Path.{sym, ap, _∙_}
 use Rattle.skew.specs.Exchange.{delta, delta-same, delta-other}
 use Rattle.exchange.specs.Run.{witness-row, witness-unit}
 use borrow.Author.Needs.{needs}

@@ -4,7 +4,6 @@ use mathlib.Core.Path.{_≡_, ap}
 use Prim.Native.Nat.{_≤_, _-_}
 use native.Mathlib.Omega.{arith}
 use borrow.Author.Count.{below-none, below-more}
-use borrow.Author.Needs.{needs}
 use lib.ListN.{length, getD}
 use lib.Seq.{ext-getD}
 use Rattle.matching.specs.Decision.{Every}

@@ -1,6 +1,5 @@
 -- `tutte::fill_row` meets its contract. The invariant of its loop: the first k words are those of the row, the others as they came.
 -- Assumes nothing.
-use mathlib.Core.Path.{_≡_}
 use Prim.Native.Nat.{_+_, _-_}
 use native.Mathlib.Omega.{arith}
 use lib.ListN.{length}
