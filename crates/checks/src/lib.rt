@@ -1,6 +1,6 @@
 // The check of a graph as it is lent: the causes 1 to 4 of document 01's table with their places, in that order.
 ghost use mathlib.Core.Path.{_≡_};
-ghost use mathlib.Core.List.{List, [], _∷_};
+ghost use mathlib.Core.List.{List, [], _∷_, _++_};
 ghost use Prim.Native.Nat.{ℕ, _+_, _*_, _≤_, _<_};
 ghost use lib.ListN.{length};
 ghost use Rattle.residue.specs.Modulus.{modulus};
@@ -216,6 +216,24 @@ fn judge_besides(n: usize, witness: usize, work: usize) -> Ruling
         return Ruling::Refused(Refusal { cause: 2, place: 6 });
     }
     Ruling::Accepted
+}
+
+// Causes 1 and 2 as opening looks at them, for the size and the lengths of buffers 1 to 6.
+pub fn judge_room(
+    n: usize,
+    adjacency: usize,
+    weights: usize,
+    inverse: usize,
+    sequence: usize,
+    witness: usize,
+    work: usize,
+) -> Ruling
+    ensures { λ r. ⌜ ruling-of r ≡ judge (too-large n ∷ too-short (lent-always n adjacency weights inverse sequence ++ lent-besides n witness work) ∷ []) ⌝ }
+{
+    if let Ruling::Refused(refusal) = judge_lengths(n, adjacency, weights, inverse, sequence) {
+        return Ruling::Refused(refusal);
+    }
+    judge_besides(n, witness, work)
 }
 
 // The first of two rulings that is a refusal.

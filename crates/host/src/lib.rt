@@ -1,25 +1,17 @@
 // The entries that a host calls with numbers and byte slices. Words cross as two bytes, low first (docs/HOST.md).
-use checks::Refusal;
 use checks::Ruling;
 use opening::Opening;
 ghost use mathlib.Core.Path.{_≡_};
 ghost use Prim.Native.Nat.{_*_, _≤_};
-ghost use lib.ListN.{length, replicate};
+ghost use lib.ListN.{length};
 ghost use Rattle.residue.specs.Modulus.{modulus};
-ghost use Rattle.matching.specs.Graph.{Graph};
+ghost use Rattle.matching.specs.Graph.{over};
 ghost use Rattle.matching.specs.Pairs.{everything};
-ghost use Rattle.matching.specs.Host.{opening-number, HostOpens, HostOpenedExactly};
+ghost use Rattle.matching.specs.Host.{words, unpacked, opening-number, HostOpens, HostOpenedExactly};
+ghost use Rattle.checks.specs.Weights.{needed};
 ghost use Rattle.opening.specs.Answers.{opening-of, buffers};
-ghost use Rattle.host.specs.Room.{Room};
-ghost use Rattle.host.specs.Opened.{Small, OpensOver, OpensBytes, Judged};
-
-// How many words this many bytes hold, counted up to the most that matter.
-fn fitting(bytes: usize, most: usize) -> usize
-    ensures { λ r. ⌜ Room bytes most r ⌝ }
-{
-    let whole = bytes / 2;
-    if whole < most { whole } else { most }
-}
+ghost use Rattle.host.specs.Lent.{Fits, Stores, needed-weights, lent};
+ghost use Rattle.host.specs.Opened.{Small, OpensOver};
 
 // The number that the host is answered.
 fn number(o: Opening) -> u64
@@ -34,22 +26,22 @@ fn number(o: Opening) -> u64
 }
 
 // Opening over lent words, table for the inverse and vector for the witness; what it leaves in them is stored as bytes. The work buffer has
-// room for so many words, of which opening makes the first 0.
+// room for as many words as the table, of which opening makes the first 0.
 fn open_over(
     n: usize,
     adjacency: &[u8],
     weights: &[u16],
     table: &mut [u16],
     vector: &mut [u16],
-    room: usize,
     inverse: &mut [u8],
     sequence: &mut [u8],
     witness: &mut [u8],
     work: &mut [u8],
 ) -> u64
-    requires { ⌜ (2 * length (now table) ≤ length (now inverse)) × (2 * length (now vector) ≤ length (now witness)) × (2 * room ≤ length (now work)) ⌝ }
-    ensures { λ r. ⌜ OpensOver n (now (adjacency .entry)) (now (weights .entry)) (buffers (now (table .entry)) (now (sequence .entry)) (now (vector .entry)) (replicate room 0)) (buffers (now (inverse .entry)) (now (sequence .entry)) (now (witness .entry)) (now (work .entry))) r (buffers (now (inverse .exit)) (now (sequence .exit)) (now (witness .exit)) (now (work .exit))) ⌝ }
+    requires { ⌜ Stores (now table) (now vector) (buffers (now inverse) (now sequence) (now witness) (now work)) ⌝ }
+    ensures { λ r. ⌜ OpensOver n (now (adjacency .entry)) (now (weights .entry)) (lent (now (table .entry)) (now (sequence .entry)) (now (vector .entry))) (buffers (now (inverse .entry)) (now (sequence .entry)) (now (witness .entry)) (now (work .entry))) r (buffers (now (inverse .exit)) (now (sequence .exit)) (now (witness .exit)) (now (work .exit))) ⌝ }
 {
+    let room = table.len();
     let o = opening::begin_apart(n, adjacency, weights, table, sequence, vector, room);
     let m = opening::extent(n, o);
     let size = m * m;
@@ -60,26 +52,24 @@ fn open_over(
     number(o)
 }
 
-// The same over weights that are stored as bytes, of which those that matter are read.
+// The same over weights that are stored as bytes, of which those that the graph needs are read.
 fn open_bytes(
     n: usize,
     adjacency: &[u8],
     weights: &[u8],
     table: &mut [u16],
     vector: &mut [u16],
-    room: usize,
     inverse: &mut [u8],
     sequence: &mut [u8],
     witness: &mut [u8],
     work: &mut [u8],
 ) -> u64
-    requires { ⌜ (2 * length (now table) ≤ length (now inverse)) × (2 * length (now vector) ≤ length (now witness)) × (2 * room ≤ length (now work)) ⌝ }
-    ensures { λ r. ⌜ OpensBytes n (now (adjacency .entry)) (now (weights .entry)) (buffers (now (table .entry)) (now (sequence .entry)) (now (vector .entry)) (replicate room 0)) (buffers (now (inverse .entry)) (now (sequence .entry)) (now (witness .entry)) (now (work .entry))) r (buffers (now (inverse .exit)) (now (sequence .exit)) (now (witness .exit)) (now (work .exit))) ⌝ }
+    requires { ⌜ (2 * needed n ≤ length (now weights)) × Stores (now table) (now vector) (buffers (now inverse) (now sequence) (now witness) (now work)) ⌝ }
+    ensures { λ r. ⌜ OpensOver n (now (adjacency .entry)) (needed-weights n (now (weights .entry))) (lent (now (table .entry)) (now (sequence .entry)) (now (vector .entry))) (buffers (now (inverse .entry)) (now (sequence .entry)) (now (witness .entry)) (now (work .entry))) r (buffers (now (inverse .exit)) (now (sequence .exit)) (now (witness .exit)) (now (work .exit))) ⌝ }
 {
     // The weights of the largest graph: 96 * 95 / 2.
     let mut values = [0u16; 4560];
-    let most = checks::weights_needed(n);
-    let count = fitting(weights.len(), most);
+    let count = checks::weights_needed(n);
     packing::unpack(weights, &mut values[..count]);
     open_over(
         n,
@@ -87,7 +77,6 @@ fn open_bytes(
         &values[..count],
         table,
         vector,
-        room,
         inverse,
         sequence,
         witness,
@@ -105,22 +94,20 @@ fn open_words(
     witness: &mut [u8],
     work: &mut [u8],
 ) -> u64
+    requires { ⌜ Fits (over n (now adjacency) (words (now weights))) (unpacked (buffers (now inverse) (now sequence) (now witness) (now work))) ⌝ }
     ensures { λ r. ⌜ HostOpens modulus n (now (adjacency .entry)) (now (weights .entry)) everything (buffers (now (inverse .entry)) (now (sequence .entry)) (now (witness .entry)) (now (work .entry))) r (buffers (now (inverse .exit)) (now (sequence .exit)) (now (witness .exit)) (now (work .exit))) ⌝ }
 {
+    let size = n * n;
     if n <= 32 {
         // 32 * 32 and 32 words.
         let mut table = [0u16; 1024];
         let mut vector = [0u16; 32];
-        let inverse_room = fitting(inverse.len(), 1024);
-        let witness_room = fitting(witness.len(), 32);
-        let work_room = fitting(work.len(), 1024);
         return open_bytes(
             n,
             adjacency,
             weights,
-            &mut table[..inverse_room],
-            &mut vector[..witness_room],
-            work_room,
+            &mut table[..size],
+            &mut vector[..n],
             inverse,
             sequence,
             witness,
@@ -130,51 +117,17 @@ fn open_words(
     // The words of the largest graph: 96 * 96 and 96.
     let mut table = [0u16; 9216];
     let mut vector = [0u16; 96];
-    let inverse_room = fitting(inverse.len(), 9216);
-    let witness_room = fitting(witness.len(), 96);
-    let work_room = fitting(work.len(), 9216);
     open_bytes(
         n,
         adjacency,
         weights,
-        &mut table[..inverse_room],
-        &mut vector[..witness_room],
-        work_room,
+        &mut table[..size],
+        &mut vector[..n],
         inverse,
         sequence,
         witness,
         work,
     )
-}
-
-// Causes 1 and 2, for the size and how many bytes or words the buffers hold.
-fn judge_room(
-    n: usize,
-    adjacency: usize,
-    weights: usize,
-    inverse: usize,
-    sequence: usize,
-    witness: usize,
-    work: usize,
-) -> Ruling
-    ensures { λ r. ⌜ ((g : Graph) → g .n ≡ n → length (g .adjacency) ≡ adjacency → length (g .weights) ≡ weights → Judged g inverse sequence witness work r) ⌝ }
-{
-    if let Ruling::Refused(refusal) = checks::judge_lengths(
-        n,
-        adjacency,
-        weights,
-        inverse,
-        sequence,
-    ) {
-        return Ruling::Refused(refusal);
-    }
-    if witness < n {
-        return Ruling::Refused(Refusal { cause: 2, place: 5 });
-    }
-    if work < n * n {
-        return Ruling::Refused(Refusal { cause: 2, place: 6 });
-    }
-    Ruling::Accepted
 }
 
 // Opens a session: document 01, "Opening", through the host. Words are taken only where the size and the lengths are in order.
@@ -191,7 +144,7 @@ pub extern "C" fn saszvigom_open(
     ensures { λ r. ⌜ HostOpens modulus n (now (adjacency .entry)) (now (weights .entry)) everything (buffers (now (inverse .entry)) (now (sequence .entry)) (now (witness .entry)) (now (work .entry))) r (buffers (now (inverse .exit)) (now (sequence .exit)) (now (witness .exit)) (now (work .exit))) ⌝ }
     ensures { λ r. ⌜ HostOpenedExactly modulus n (now (adjacency .entry)) (now (weights .entry)) everything (buffers (now (inverse .entry)) (now (sequence .entry)) (now (witness .entry)) (now (work .entry))) r ⌝ }
 {
-    let ruling = judge_room(
+    let ruling = checks::judge_room(
         n as usize,
         adjacency.len(),
         weights.len() / 2,

@@ -1,29 +1,25 @@
--- `host::open_bytes` meets its contract: the weights that it unpacks are those that matter. Assumes nothing.
+-- `host::open_bytes` meets its contract: the weights that it unpacks are those that the graph needs. Assumes nothing.
 use mathlib.Core.Path.{_≡_, sym, ap, _∙_}
 use Prim.Native.Nat.{ℕ, _≤_}
-use native.Mathlib.Nat.{le-trans}
 use native.Mathlib.Omega.{arith}
-use lib.ListN.{length, take}
+use lib.ListN.{length, take, drop, replicate}
 use borrow.Author.Needs.{needs}
 use Rattle.lists.specs.Part.{length-part, part-filled}
 use Rattle.matching.specs.Host.{words}
-use Rattle.host.specs.Room.{needed-small}
+use Rattle.host.specs.Lent.{needed-small}
 use Rattle.host.proofs.open_bytes.Statement.{statement}
 use Rattle.host.proofs.open_bytes.Tie as tie
 
 -- the array has room for those that are counted
-counted : (at : tie.After-fitting) → at .fitting .result ≤ 4560
-counted at = le-trans (at .fitting .ensures .capped) (rw (at .before .weights-needed .ensures) (needed-small _))
+counted : (at : tie.After-weights-needed) → at .weights-needed .result ≤ 4560
+counted at = rw (at .weights-needed .ensures) (needed-small _)
 
 -- and as many come back
-unpacked : (at : tie.After-unpack) → length (at .unpack .last .1 .0) ≡ at .before .before .fitting .result
+unpacked : (at : tie.After-unpack) → length (at .unpack .last .1 .0) ≡ at .before .before .weights-needed .result
 unpacked at = at .unpack .kept .1 .0 ∙ length-part _ 4560 0 (counted (at .before .before))
 
 weights-needed-requires : tie.Need-weights-needed-requires
 weights-needed-requires c κs = search needs
-
-fitting-requires : tie.Need-fitting-requires
-fitting-requires c κs = search needs
 
 array-borrow-prefix-values : tie.Need-array-borrow-prefix-values
 array-borrow-prefix-values c = counted c
@@ -32,7 +28,7 @@ slice-aggregate-unpack : tie.Need-slice-aggregate-unpack
 slice-aggregate-unpack c = sym (length-part _ 4560 0 (counted (c .before)))
 
 unpack-requires : tie.Need-unpack-requires
-unpack-requires c κs = omega (arith, c .before .fitting .ensures .fits, length-part _ 4560 0 (counted (c .before)))
+unpack-requires c κs = omega (arith, c .before .weights-needed .ensures, c .before .before .before .before .before .before .before .before .before .before .pre .0, length-part _ 4560 0 (counted (c .before)))
 
 array-share-prefix-values : tie.Need-array-share-prefix-values
 array-share-prefix-values c = part-filled _ (c .before .unpack .last .1 .0) _ (unpacked (c .before)) .0
@@ -68,26 +64,14 @@ returns c =
     let opened = c .before .before .before .before .before .before .before .before .before .before .before .before in
     let taken = opened .before .before .before .before .before .before .before .before .before in
     let counting = taken .before .before in
-    let s = counting .before .before .before .before .before .before .before .before .before .before in
-    record {
-      lent = _;
-      front = record {
-        count = counting .fitting .result;
-        enough = rw (counting .before .weights-needed .ensures) at (counting .fitting .ensures);
-        first =
-            part-filled _ (taken .unpack .last .1 .0) _ (unpacked taken) .1
-            ∙ taken .unpack .ensures
-            ∙ ap (λ (k : ℕ). take k (words (s .args .weights .now))) (length-part _ 4560 0 (counted counting));
-      };
-      opened-over = opened .open-over .ensures;
-    }
+    let s = counting .before .before .before .before .before .before .before .before .before in
+    rw (part-filled (counting .weights-needed .result) (taken .unpack .last .1 .0) (drop (counting .weights-needed .result) (replicate 4560 0)) (unpacked taken) .1 ∙ taken .unpack .ensures ∙ ap (λ (k : ℕ). take k (words (s .args .weights .now))) (length-part _ 4560 0 (counted counting) ∙ counting .weights-needed .ensures)) at (opened .open-over .ensures)
 
 pub open-bytes-spec : {M : Type 1} → statement M
 open-bytes-spec =
     tie.close
     (tie.spec
     weights-needed-requires
-    fitting-requires
     array-borrow-prefix-values
     slice-aggregate-unpack
     unpack-requires

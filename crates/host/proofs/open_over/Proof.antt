@@ -9,6 +9,7 @@ use lib.Seq.{length-take-le}
 use Rattle.lists.specs.Table.{square-small}
 use Rattle.opening.specs.Answers.{opening-of, buffers}
 use Rattle.opening.specs.Begun.{Within, opens-within}
+use Rattle.host.specs.Lent.{lent}
 use Rattle.host.specs.Opened.{opens-small, same-buffers, zeros-stored}
 use borrow.Author.Needs.{needs}
 use Rattle.host.proofs.open_over.Statement.{statement}
@@ -22,12 +23,12 @@ start at = begun at .before .before .before .before .before .before .before .bef
 
 -- what is stored is there
 within : (at : tie.After-extent)
-    → Within (at .extent .result) (let a = start at .args in buffers (a .table .now) (a .sequence .now) (a .vector .now) (replicate (a .room) 0))
+    → Within (at .extent .result) (let a = start at .args in lent (a .table .now) (a .sequence .now) (a .vector .now))
 within at =
-    rw (← at .extent .ensures) at (opens-within (begun at .begin-apart .ensures (replicate (start at .args .room) 0) (length-replicate _ _)))
+    rw (← at .extent .ensures) at (opens-within (begun at .begin-apart .ensures (replicate (length (start at .args .table .now)) 0) (length-replicate _ _)))
 
 zeros-fit : (at : tie.After-extent) → 2 * (at .extent .result * at .extent .result) ≤ length (start at .args .work .now)
-zeros-fit at = omega (arith, within at .work, length-replicate {A = ℕ} (start at .args .room) 0, start at .pre .2)
+zeros-fit at = omega (arith, within at .work, length-replicate {A = ℕ} (length (start at .args .table .now)) 0, start at .pre .work)
 
 begin-apart-requires : tie.Need-begin-apart-requires
 begin-apart-requires c κs = search needs
@@ -41,12 +42,12 @@ mul-size c = record { fits = omega (arith, square-small _ (within c .size)) }
 store-requires : tie.Need-store-requires
 store-requires c κs =
     let told = c .before .before in
-    (omega (arith, within told .inverse, begun told .begin-apart .kept .1 .1 .1 .0), omega (arith, within told .inverse, start told .pre .0))
+    (omega (arith, within told .inverse, begun told .begin-apart .kept .1 .1 .1 .0), omega (arith, within told .inverse, start told .pre .inverse))
 
 store-requires-2 : tie.Need-store-requires-2
 store-requires-2 c κs =
     let told = c .before .before .before .before .before .before .before in
-    (omega (arith, within told .witness, begun told .begin-apart .kept .1 .1 .1 .1 .1 .0), omega (arith, within told .witness, start told .pre .1))
+    (omega (arith, within told .witness, begun told .begin-apart .kept .1 .1 .1 .1 .1 .0), omega (arith, within told .witness, start told .pre .witness))
 
 mul-zeros : tie.Need-mul-zeros
 mul-zeros c = let told = c .before .before .before .before .before .before .before .before .before .before in record { fits = omega (arith, square-small _ (within told .size)) }
@@ -63,7 +64,7 @@ fill-bytes-requires c κs = search needs
 number-requires : tie.Need-number-requires
 number-requires c κs =
     let told = c .before .before .before .before .before .before .before .before .before .before .before .before .before .before in
-    opens-small (begun told .begin-apart .ensures (replicate (start told .args .room) 0) (length-replicate _ _))
+    opens-small (begun told .begin-apart .ensures (replicate (length (start told .args .table .now)) 0) (length-replicate _ _))
 
 same-length : tie.Need-same-length
 same-length c = search needs
@@ -94,12 +95,12 @@ returns c =
     record {
       opening = opening-of (k .result);
       left = buffers (k .last .1 .1 .1 .0) (k .last .1 .1 .1 .1 .0) (k .last .1 .1 .1 .1 .1 .0) _;
-      outcome = k .ensures (replicate (s .args .room) 0) (length-replicate _ _);
+      outcome = k .ensures (replicate (length (s .args .table .now)) 0) (length-replicate _ _);
       numbered = c .number .ensures;
       stored =
           rw (← told .extent .ensures)
           (same-buffers (c .before .before .before .before .before .before .before .before .before .before .before .before .store .ensures) refl (c .before .before .before .before .before .before .before .store2 .ensures)
-          (ap (λ (l : List ℕ). l ++ drop (2 * size) (s .args .work .now)) e ∙ sym (zeros-stored size (replicate (s .args .room) 0) (s .args .work .now))));
+          (ap (λ (l : List ℕ). l ++ drop (2 * size) (s .args .work .now)) e ∙ sym (zeros-stored size (replicate (length (s .args .table .now)) 0) (s .args .work .now))));
     }
 
 pub open-over-spec : {M : Type 1} → statement M

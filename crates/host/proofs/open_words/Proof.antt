@@ -1,42 +1,73 @@
--- `host::open_words` meets its contract: of each array it lends as many words as the bytes hold.
+-- `host::open_words` meets its contract: of each array it lends as many words as the graph needs.
 -- Assumes nothing.
-use mathlib.Core.Path.{refl, sym}
-use Prim.Native.Nat.{ℕ}
+use mathlib.Core.Path.{sym}
+use mathlib.Core.List.{List}
+use Prim.Native.Nat.{ℕ, _*_, _≤_}
 use native.Mathlib.Nat.{mul-le-mul}
 use native.Mathlib.Omega.{arith}
-use lib.ListN.{length-replicate}
+use lib.ListN.{length, take, replicate}
 use Rattle.lists.specs.Part.{length-part}
 use Rattle.lists.specs.Table.{square-small}
-use Rattle.host.specs.Room.{part-room}
-use Rattle.host.specs.Opened.{host-opens}
+use Rattle.residue.specs.Modulus.{modulus}
+use Rattle.matching.specs.Opening.{Buffers}
+use Rattle.matching.specs.Pairs.{everything}
+use Rattle.matching.specs.Host.{HostOpens}
+use Rattle.checks.specs.Weights.{needed}
+use Rattle.opening.specs.Answers.{buffers}
+use Rattle.host.specs.Lent.{Stores, needed-weights, lent, weights-fit, stores}
+use Rattle.host.specs.Opened.{OpensOver, host-opens}
 use borrow.Author.Needs.{needs}
 use Rattle.host.proofs.open_words.Statement.{statement}
 use Rattle.host.proofs.open_words.Tie as tie
 
-fitting-requires : tie.Need-fitting-requires
-fitting-requires c κs = search needs
+abbrev start : tie.After-slice-known4 → tie.Start
+start at = at .before .before .before .before .before .before
 
-fitting-requires-2 : tie.Need-fitting-requires-2
-fitting-requires-2 c κs = search needs
+abbrev host : tie.After-slice-known4 → Buffers
+host at = let a = start at .args in buffers (a .inverse .now) (a .sequence .now) (a .witness .now) (a .work .now)
 
-fitting-requires-3 : tie.Need-fitting-requires-3
-fitting-requires-3 c κs = search needs
+-- the first words of two arrays
+abbrev words-of : tie.After-slice-known4 → ℕ → List ℕ
+words-of at m = let n = start at .args .n in take (n * n) (replicate m 0)
+
+abbrev vector-of : tie.After-slice-known4 → ℕ → List ℕ
+vector-of at k = take (start at .args .n) (replicate k 0)
+
+module _ (at : tie.After-slice-known4) (m k : ℕ) (cells : start at .args .n * start at .args .n ≤ m) (vertices : start at .args .n ≤ k) where
+  asked : (let a = start at .args in (2 * needed (a .n) ≤ length (a .weights .now)) × Stores (words-of at m) (vector-of at k) (host at))
+  asked =
+      let a = start at .args in (
+        weights-fit (a .n) (a .adjacency .now) (a .weights .now) (host at) (start at .pre),
+        stores (a .n) (a .adjacency .now) (a .weights .now) (host at) (start at .pre) _ _ (length-part _ m 0 cells) (length-part _ k 0 vertices),
+      )
+
+  opened : {answer : ℕ} {after : Buffers}
+      → (let a = start at .args in OpensOver (a .n) (a .adjacency .now) (needed-weights (a .n) (a .weights .now)) (lent (words-of at m) (a .sequence .now) (vector-of at k)) (host at) answer after)
+      → (let a = start at .args in HostOpens modulus (a .n) (a .adjacency .now) (a .weights .now) everything (host at) answer after)
+  opened =
+      let a = start at .args in
+      host-opens (a .n) (a .adjacency .now) (a .weights .now) (host at) (start at .pre) _ _ (length-part _ m 0 cells) (length-part _ k 0 vertices)
+      (λ x. omega (arith, at .before .before .before .slice-known .given x)) (λ x. omega (arith, at .before .slice-known3 .given x)) (λ x. omega (arith, at .slice-known4 .given x))
+
+mul-size : tie.Need-mul-size
+mul-size c = search needs
 
 array-borrow-prefix-table : tie.Need-array-borrow-prefix-table
-array-borrow-prefix-table c = search needs
+array-borrow-prefix-table c = mul-le-mul (c .if1 .taken) (c .if1 .taken)
 
 slice-aggregate-open-bytes : tie.Need-slice-aggregate-open-bytes
-slice-aggregate-open-bytes c = sym (length-part _ 1024 0 (c .before .before .before .fitting .ensures .capped))
+slice-aggregate-open-bytes c = sym (length-part _ 1024 0 (mul-le-mul (c .before .if1 .taken) (c .before .if1 .taken)))
 
 array-borrow-prefix-vector : tie.Need-array-borrow-prefix-vector
 array-borrow-prefix-vector c = search needs
 
 slice-aggregate-open-bytes-2 : tie.Need-slice-aggregate-open-bytes-2
-slice-aggregate-open-bytes-2 c = sym (length-part _ 32 0 (c .before .before .before .fitting2 .ensures .capped))
+slice-aggregate-open-bytes-2 c = sym (length-part _ 32 0 (c .before .before .if1 .taken))
 
 open-bytes-requires : tie.Need-open-bytes-requires
 open-bytes-requires c κs =
-    (part-room (c .before .before .before .before .before .before .before .before .fitting .ensures) .fits, part-room (c .before .before .before .before .before .before .before .fitting2 .ensures) .fits, c .before .before .before .before .before .before .fitting3 .ensures .fits)
+    let chosen = c .before .before .before .before .before .before in
+    asked (chosen .before) 1024 32 (mul-le-mul (chosen .if1 .taken) (chosen .if1 .taken)) (chosen .if1 .taken)
 
 same-length : tie.Need-same-length
 same-length c = search needs
@@ -52,45 +83,25 @@ same-length-4 c = search needs
 
 returns : tie.Need-returns
 returns c =
-    let counted = c .before .before .before .before .before .before .before .before .before .before .before .before .before .before .before .before .before in
-    let known = counted .before .before .before .before in
-    host-opens (c .before .before .before .before .before .before .before .before .before .before .open-bytes .ensures)
-    (record {
-      most = 32;
-      cells = 1024;
-      most-enough = λ _. counted .before .before .before .if1 .taken;
-      cells-enough = λ _. mul-le-mul (counted .before .before .before .if1 .taken) (counted .before .before .before .if1 .taken);
-      inverse = part-room (counted .before .before .fitting .ensures);
-      sequence = refl;
-      witness = part-room (counted .before .fitting2 .ensures);
-      work = rw (length-replicate {A = ℕ} (counted .fitting3 .result) 0) (counted .fitting3 .ensures);
-    })
-    (λ x. omega (arith, known .before .before .before .slice-known .given x)) (λ x. omega (arith, known .before .slice-known3 .given x)) (λ x. omega (arith, known .slice-known4 .given x))
-
-fitting-requires-4 : tie.Need-fitting-requires-4
-fitting-requires-4 c κs = search needs
-
-fitting-requires-5 : tie.Need-fitting-requires-5
-fitting-requires-5 c κs = search needs
-
-fitting-requires-6 : tie.Need-fitting-requires-6
-fitting-requires-6 c κs = search needs
+    let called = c .before .before .before .before .before .before .before .before .before .before in
+    let chosen = called .before .before .before .before .before .before .before in
+    opened (chosen .before) 1024 32 (mul-le-mul (chosen .if1 .taken) (chosen .if1 .taken)) (chosen .if1 .taken) (called .open-bytes .ensures)
 
 array-borrow-prefix-table-2 : tie.Need-array-borrow-prefix-table-2
-array-borrow-prefix-table-2 c = search needs
+array-borrow-prefix-table-2 c = square-small _ (start (c .before) .pre .0)
 
 slice-aggregate-open-bytes-3 : tie.Need-slice-aggregate-open-bytes-3
-slice-aggregate-open-bytes-3 c = sym (length-part _ 9216 0 (c .before .before .before .fitting4 .ensures .capped))
+slice-aggregate-open-bytes-3 c = sym (length-part _ 9216 0 (square-small _ (start (c .before .before) .pre .0)))
 
 array-borrow-prefix-vector-2 : tie.Need-array-borrow-prefix-vector-2
 array-borrow-prefix-vector-2 c = search needs
 
 slice-aggregate-open-bytes-4 : tie.Need-slice-aggregate-open-bytes-4
-slice-aggregate-open-bytes-4 c = sym (length-part _ 96 0 (c .before .before .before .fitting5 .ensures .capped))
+slice-aggregate-open-bytes-4 c = sym (length-part _ 96 0 (start (c .before .before .before) .pre .0))
 
 open-bytes-requires-2 : tie.Need-open-bytes-requires-2
 open-bytes-requires-2 c κs =
-    (part-room (c .before .before .before .before .before .before .before .before .fitting4 .ensures) .fits, part-room (c .before .before .before .before .before .before .before .fitting5 .ensures) .fits, c .before .before .before .before .before .before .fitting6 .ensures .fits)
+    let at = c .before .before .before .before .before .before .before in asked at 9216 96 (square-small _ (start at .pre .0)) (start at .pre .0)
 
 same-length-5 : tie.Need-same-length-5
 same-length-5 c = search needs
@@ -106,28 +117,15 @@ same-length-8 c = search needs
 
 returns-2 : tie.Need-returns-2
 returns-2 c =
-    let counted = c .before .before .before .before .before .before .before .before .before .before .before .before .before .before .before .before .before in
-    let known = counted .before .before .before .before in
-    host-opens (c .before .before .before .before .before .before .before .before .before .before .open-bytes2 .ensures)
-    (record {
-      most = 96;
-      cells = 9216;
-      most-enough = λ h. h;
-      cells-enough = square-small _;
-      inverse = part-room (counted .before .before .fitting4 .ensures);
-      sequence = refl;
-      witness = part-room (counted .before .fitting5 .ensures);
-      work = rw (length-replicate {A = ℕ} (counted .fitting6 .result) 0) (counted .fitting6 .ensures);
-    })
-    (λ x. omega (arith, known .before .before .before .slice-known .given x)) (λ x. omega (arith, known .before .slice-known3 .given x)) (λ x. omega (arith, known .slice-known4 .given x))
+    let called = c .before .before .before .before .before .before .before .before .before .before in
+    let at = called .before .before .before .before .before .before .before .before in
+    opened at 9216 96 (square-small _ (start at .pre .0)) (start at .pre .0) (called .open-bytes2 .ensures)
 
 pub open-words-spec : {M : Type 1} → statement M
 open-words-spec =
     tie.close
     (tie.spec
-    fitting-requires
-    fitting-requires-2
-    fitting-requires-3
+    mul-size
     array-borrow-prefix-table
     slice-aggregate-open-bytes
     array-borrow-prefix-vector
@@ -138,9 +136,6 @@ open-words-spec =
     same-length-3
     same-length-4
     returns
-    fitting-requires-4
-    fitting-requires-5
-    fitting-requires-6
     array-borrow-prefix-table-2
     slice-aggregate-open-bytes-3
     array-borrow-prefix-vector-2

@@ -1,6 +1,6 @@
 -- `host::saszvigom_open` meets its contract: a refusal for the size or the lengths writes nothing, and else words are lent.
 -- Assumes nothing.
-use mathlib.Core.Path.{_≡_, refl}
+use mathlib.Core.Path.{_≡_}
 use Rattle.residue.specs.Modulus.{modulus, modulus-prime}
 use Rattle.matching.specs.Decision.{because, refused}
 use Rattle.matching.specs.Graph.{over}
@@ -11,7 +11,7 @@ use Rattle.laws.specs.Determined.{host-opened-exactly}
 use Rattle.checks.specs.declared.Refusal.{Refusal}
 use Rattle.checks.specs.declared.Ruling.the-variants.{Refused}
 use Rattle.opening.specs.Answers.{buffers}
-use Rattle.packing.specs.Words.{words-half}
+use Rattle.host.specs.Lent.{room-refused, room-accepted}
 use Rattle.host.specs.Opened.{opens-small, host-refuses}
 use borrow.Author.Needs.{needs}
 use Rattle.host.proofs.saszvigom_open.Statement.{statement}
@@ -24,9 +24,7 @@ refuses : (at : tie.After-judge-room) {why : Refusal} → at .judge-room .result
     → (let a = at .before .before .before .before .before .before .before .args in ruling modulus (over (a .n) (a .adjacency .now) (words (a .weights .now))) (unpacked (host at)) ≡ refused (because (why .cause) (why .place)))
 refuses at e =
     let a = at .before .before .before .before .before .before .before .args in
-    let g = over (a .n) (a .adjacency .now) (words (a .weights .now)) in
-    rw (words-half (a .inverse .now), words-half (a .witness .now), words-half (a .work .now))
-    (rw e at (at .judge-room .ensures g refl refl (words-half (a .weights .now))))
+    room-refused (a .n) (a .adjacency .now) (a .weights .now) (host at) modulus (rw e at (at .judge-room .ensures))
 
 judge-room-requires : tie.Need-judge-room-requires
 judge-room-requires c κs = search needs
@@ -50,7 +48,10 @@ enum-told : tie.Need-enum-told
 enum-told c = search needs
 
 open-words-requires : tie.Need-open-words-requires
-open-words-requires c κs = search needs
+open-words-requires c κs =
+    let at = c .before .before .before .before .before .before in
+    let a = at .before .before .before .before .before .before .before .args in
+    room-accepted (a .n) (a .adjacency .now) (a .weights .now) (host at) (rw (c .before .before .before .before .enum-told .given .1) at (at .judge-room .ensures))
 
 same-length : tie.Need-same-length
 same-length c = search needs
