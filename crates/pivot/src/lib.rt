@@ -27,8 +27,8 @@ fn take(t: &mut [u64], n: usize, k: usize, c: usize) -> u32
     negative(below)
 }
 
-// The negative of a residue.
-fn negative(x: u64) -> u32
+// The negative of a residue. For proved callers.
+pub fn negative(x: u64) -> u32
     requires { ⌜ x < modulus ⌝ }
     ensures { λ r. ⌜ r ≡ (modulus - x) % modulus ⌝ }
 {

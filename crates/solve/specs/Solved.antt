@@ -1,14 +1,15 @@
 -- What solving leaves, in the terms of the definitions. Assumes nothing.
-use mathlib.Core.Path.{_≡_, refl, ap, _∙_}
+use mathlib.Core.Path.{_≡_, refl, sym, ap, _∙_}
+use mathlib.Core.Logic.{_≢_}
 use mathlib.Core.List.{List}
 use Prim.Native.Nat.{ℕ, zero, suc, _+_, _*_, _-_, _/_, _%_, _≤_, _<_}
 use native.Mathlib.Omega.{arith}
 use native.Mathlib.Decide.{ℕ-discrete, decLt}
-use lib.ListN.{length, getD, replicate, take}
-use lib.Seq.{getD-take}
-use Rattle.lists.specs.Values.{list-of, length-list-of, getD-list-of}
-use Rattle.lists.specs.Part.{replaced, length-replaced, length-part}
-use Rattle.lists.specs.Table.{table, row-fits, row-below, column-below, index-of, index-below, row-inside, row-other, Square}
+use lib.ListN.{length, getD, set, replicate, take, length-set}
+use lib.Seq.{getD-take, getD-set-same, getD-set-other}
+use Rattle.lists.specs.Values.{list-of, getD-list-of}
+use Rattle.lists.specs.Part.{length-part}
+use Rattle.lists.specs.Table.{table, row-below, column-below, index-of, index-below, same-place, Square}
 use Rattle.modular.specs.Congruence.{Congruent, equals, _⨾_}
 use Rattle.residue.specs.Modulus.{modulus, modulus-prime}
 use Rattle.skew.specs.Choose.{choose-yes, choose-no}
@@ -26,8 +27,8 @@ use Rattle.tutte.specs.Table.{restricted, Filled}
 use Rattle.exchange.specs.declared.Outcome.{Outcome}
 use Rattle.exchange.specs.declared.Outcome.the-variants as ended
 use Rattle.exchange.specs.declared.Outcome.the-variants.{Column}
-use Rattle.pivot.specs.Words.{Small, matrix}
-use Rattle.exchange.specs.Run.{Holds, word, word-small, word-matrix, witness-word, witness-small}
+use Rattle.pivot.specs.Words.{Small, matrix, place-above, place-below, residue, residue-above, residue-below}
+use Rattle.exchange.specs.Run.{Holds, word, word-diagonal, word-other, word-small, word-matrix, witness-word, witness-small}
 
 -- what is left in the inverse and in the witness
 abbrev pub Solved : Graph → Subset → Outcome → (inverse witness : List ℕ) → Type 0
@@ -97,49 +98,124 @@ module _ (g : Graph) (S : Subset) {t t' : List ℕ} (B : Blank (g .n) t) (F : Fi
           below (outside o) _ = rw o (omega arith)
       go i j hi hj (no l) = rw (F .on-below i j hi (omega arith), B .zero (i * n + j) (index-below n i j hi hj)) (omega arith)
 
--- the first m rows are copied
-pub record Copied (n m : ℕ) (t old words : List ℕ) : Type 0 where
-  pub size : length words ≡ length old
-  pub copied : (i j : ℕ) → i < m → j < n → table n words i j ≡ word n t i j
+-- an entry above the diagonal, and one below it
+pub word-above : (n : ℕ) (t : List ℕ) (i j : ℕ) → i < j → word n t i j ≡ table n t i j % modulus
+word-above n t i j l =
+    word-other n t i j (λ e. omega arith) ∙ ap (λ at. residue i j (getD t at 0)) (place-above n i j l) ∙ residue-above i j _ l
 
-pub copied-start : (n : ℕ) (t old : List ℕ) → Copied n 0 t old old
-copied-start n t old = record { size = refl; copied = λ i j l. absurd (omega arith) }
+pub word-below : (n : ℕ) (t : List ℕ) (i j : ℕ) → j < i → word n t i j ≡ (modulus - word n t j i) % modulus
+word-below n t i j l =
+    word-other n t i j (λ e. omega arith)
+    ∙ ap (λ at. residue i j (getD t at 0)) (place-below n i j (omega arith))
+    ∙ residue-below i j _ (omega arith)
+    ∙ rw (word-above n t j i l) refl
 
-pub copied-next : {n m : ℕ} {t old words row : List ℕ} → Copied n m t old words → m < n → length old ≡ n * n → row ≡ list-of n (word n t m)
-    → Copied n (m + 1) t old (replaced words (m * n) n row)
-copied-next {n} {m} {t} {old} {words} {row} C hm full e = record {
-  size = length-replaced words (m * n) n row (omega (arith, full', row-fits n m hm)) len ∙ C .size;
-  copied = λ i j l hj. at i j l hj (ℕ-discrete i m);
-}
-  where
-    full' : length words ≡ n * n
-    full' = C .size ∙ full
+-- a word written in a square table
+module _ (n i j v : ℕ) (words : List ℕ) (hj : j < n) where
+  set-here : i < n → length words ≡ n * n → table n (set words (i * n + j) v) i j ≡ v
+  set-here hi full = getD-set-same words (i * n + j) v 0 (omega (arith, index-below n i j hi hj))
 
-    len : length row ≡ n
-    len = rw e (length-list-of n _)
+  set-elsewhere : (a b : ℕ) → b < n → (a ≡ i → b ≢ j) → table n (set words (i * n + j) v) a b ≡ table n words a b
+  set-elsewhere a b hb d =
+      getD-set-other words (i * n + j) (a * n + b) v 0
+      (λ e. d (same-place n a b i j hb hj e .0) (same-place n a b i j hb hj e .1))
 
-    at : (i j : ℕ) → i < m + 1 → j < n → Dec (i ≡ m) → table n (replaced words (m * n) n row) i j ≡ word n t i j
-    at i j l hj (no d) =
-        row-other n m 0 (m * n) n words row (omega arith) len hm (omega arith) full' i j hj d ∙ C .copied i j (omega arith) hj
-    at i j l hj (yes q) =
-        rw q
-        (row-inside n m 0 (m * n) n words row (omega arith) len hm (omega arith) full' j (omega arith) (omega arith)
-        ∙ ap (λ l. getD l (j - 0) 0) e
-        ∙ getD-list-of n _ (j - 0) (omega arith)
-        ∙ ap (word n t m) (omega arith))
+-- the rows and columns before m are copied
+pub record Copied (n m : ℕ) (t words : List ℕ) : Type 0 where
+  pub size : length words ≡ n * n
+  pub row : (i j : ℕ) → i < m → j < n → table n words i j ≡ word n t i j
+  pub column : (i j : ℕ) → i < n → j < m → table n words i j ≡ word n t i j
+
+-- and row and column m from the diagonal up to k
+pub record Crossed (n m k : ℕ) (t words : List ℕ) : Type 0 where
+  pub before : Copied n m t words
+  pub right : (j : ℕ) → m ≤ j → j < k → table n words m j ≡ word n t m j
+  pub down : (i : ℕ) → m ≤ i → i < k → table n words i m ≡ word n t i m
+
+pub copied-start : (n : ℕ) (t words : List ℕ) → length words ≡ n * n → Copied n 0 t words
+copied-start n t words full = record { size = full; row = λ i j l. absurd (omega arith); column = λ i j hi l. absurd (omega arith) }
+
+module _ {n m : ℕ} {t : List ℕ} (hm : m < n) where
+  -- a word written from row and column m on
+  set-kept : {words : List ℕ} → Copied n m t words → (i j v : ℕ) → m ≤ i → m ≤ j → j < n → Copied n m t (set words (i * n + j) v)
+  set-kept {words} C i j v hi hj h = record {
+    size = simp length-set (C .size);
+    row = λ a b l hb. set-elsewhere n i j v words h a b hb (λ e. absurd (omega arith)) ∙ C .row a b l hb;
+    column = λ a b ha l. set-elsewhere n i j v words h a b (omega arith) (λ _ e. omega arith) ∙ C .column a b ha l;
+  }
+
+  pub crossed-start : {words : List ℕ} → Copied n m t words → Crossed n m (m + 1) t (set words (m * n + m) 0)
+  crossed-start {words} C = record {
+    before = set-kept C m m 0 (omega arith) (omega arith) hm;
+    right = λ j l h. let e : j ≡ m = omega arith in rw e diagonal;
+    down = λ i l h. let e : i ≡ m = omega arith in rw e diagonal;
+  }
+    where
+      diagonal : table n (set words (m * n + m) 0) m m ≡ word n t m m
+      diagonal = set-here n m m 0 words hm hm (C .size) ∙ sym (word-diagonal n t m m refl)
+
+  pub crossed-next : {k v w : ℕ} {words : List ℕ} → Crossed n m k t words → m < k → k < n → v ≡ word n t m k → w ≡ word n t k m
+      → Crossed n m (k + 1) t (set (set words (m * n + k) v) (k * n + m) w)
+  crossed-next {k} {v} {w} {words} C hk h ev ew = record {
+    before = kept;
+    right = λ j l lj. right j l lj (ℕ-discrete j k);
+    down = λ i l li. down i l li (ℕ-discrete i k);
+  }
+    where
+      once : List ℕ
+      once = set words (m * n + k) v
+
+      first : Copied n m t once
+      first = set-kept (C .before) m k v (omega arith) (omega arith) h
+
+      kept : Copied n m t (set once (k * n + m) w)
+      kept = set-kept first k m w (omega arith) (omega arith) hm
+
+      right : (j : ℕ) → m ≤ j → j < k + 1 → Dec (j ≡ k) → table n (set once (k * n + m) w) m j ≡ word n t m j
+      right j l lj (yes q) =
+          rw q
+          (set-elsewhere n k m w once hm m k h (λ e. absurd (omega arith)) ∙ set-here n m k v words h hm (C .before .size) ∙ ev)
+      right j l lj (no d) =
+          set-elsewhere n k m w once hm m j (omega arith) (λ e. absurd (omega arith))
+          ∙ set-elsewhere n m k v words h m j (omega arith) (λ _ e. d e)
+          ∙ C .right j l (omega arith)
+
+      down : (i : ℕ) → m ≤ i → i < k + 1 → Dec (i ≡ k) → table n (set once (k * n + m) w) i m ≡ word n t i m
+      down i l li (yes q) = rw q (set-here n k m w once hm h (first .size) ∙ ew)
+      down i l li (no d) =
+          set-elsewhere n k m w once hm i m hm (λ e. absurd (d e))
+          ∙ set-elsewhere n m k v words h i m hm (λ _ e. omega arith)
+          ∙ C .down i l (omega arith)
+
+  pub crossed-end : {words : List ℕ} → Crossed n m n t words → Copied n (m + 1) t words
+  crossed-end {words} C = record {
+    size = C .before .size;
+    row = λ i j l hj. row i j l hj (decLt i m) (decLt j m);
+    column = λ i j hi l. column i j hi l (decLt i m) (decLt j m);
+  }
+    where
+      row : (i j : ℕ) → i < m + 1 → j < n → Dec (i < m) → Dec (j < m) → table n words i j ≡ word n t i j
+      row i j l hj (yes a) _ = C .before .row i j a hj
+      row i j l hj (no _) (yes b) = C .before .column i j (omega arith) b
+      row i j l hj (no a) (no b) = let e : i ≡ m = omega arith in rw e (C .right j (omega arith) hj)
+
+      column : (i j : ℕ) → i < n → j < m + 1 → Dec (i < m) → Dec (j < m) → table n words i j ≡ word n t i j
+      column i j hi l _ (yes b) = C .before .column i j hi b
+      column i j hi l (yes a) (no _) = C .before .row i j a (omega arith)
+      column i j hi l (no a) (no b) = let e : j ≡ m = omega arith in rw e (C .down i (omega arith) hi)
 
 -- how it ends, for any set with the same elements below n
 module _ (g : Graph) {S L : Subset} (agree : (i : ℕ) → i < g .n → L i ≡ S i) (t : List ℕ) where
-  pub inverse-solved : {old words : List ℕ} → Copied (g .n) (g .n) t old words → Inverse modulus (g .n) (tutte g modulus) S (matrix (g .n) t)
+  pub inverse-solved : {words : List ℕ} → Copied (g .n) (g .n) t words → Inverse modulus (g .n) (tutte g modulus) S (matrix (g .n) t)
       → InverseTable modulus g L words
   inverse-solved {words = words} C I = record {
     small = λ x l.
-        rw (← index-of (g .n) x, C .copied (x / g .n) (x % g .n) (row-below (g .n) x l) (column-below (g .n) x l))
+        rw (← index-of (g .n) x, C .row (x / g .n) (x % g .n) (row-below (g .n) x l) (column-below (g .n) x l))
         (word-small (g .n) t (x / g .n) (x % g .n));
     is-inverse =
         same-members modulus (g .n) (tutte g modulus) agree
         (same-entries modulus (g .n) (tutte g modulus) (table (g .n) words)
-        (λ i j hi hj. equals (C .copied i j hi hj) ⨾ word-matrix (g .n) t i j) I);
+        (λ i j hi hj. equals (C .row i j hi hj) ⨾ word-matrix (g .n) t i j) I);
   }
 
   pub column-solved : {f : ℕ} (waiting : List ℕ) {witness : List ℕ} → witness ≡ list-of (g .n) (witness-word (g .n) t waiting f)

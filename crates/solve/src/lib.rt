@@ -24,45 +24,54 @@ fn copy(bytes: &[u8], target: &mut [u8])
     }
 }
 
-// Entry (i, j) of the skew matrix that a table holds above its diagonal.
+// Entry (i, j) of the skew matrix that a table holds above its diagonal, where it stands there.
+fn above(t: &[u64], n: usize, i: usize, j: usize) -> u16
+    requires { ⌜ Square n (now t) × (i < j) × (j < n) ⌝ }
+    ensures { λ r. ⌜ r ≡ word n (now (t .entry)) i j ⌝ }
+{
+    let at = i * n + j;
+    (t[at] % Residue::MODULUS) as u16
+}
+
+// Any entry.
 fn entry(t: &[u64], n: usize, i: usize, j: usize) -> u16
     requires { ⌜ Square n (now t) × (i < n) × (j < n) ⌝ }
     ensures { λ r. ⌜ r ≡ word n (now (t .entry)) i j ⌝ }
 {
     if i < j {
-        let at = i * n + j;
-        return (t[at] % Residue::MODULUS) as u16;
+        return above(t, n, i, j);
     }
     if j < i {
-        let at = j * n + i;
-        let below = t[at] % Residue::MODULUS;
-        return ((Residue::MODULUS - below) % Residue::MODULUS) as u16;
+        return pivot::negative(above(t, n, j, i) as u64) as u16;
     }
     0
 }
 
-fn write_row(t: &[u64], n: usize, i: usize, row: &mut [u16])
-    requires { ⌜ Square n (now t) × (i < n) × (length (now row) ≡ n) ⌝ }
-    ensures { λ _. ⌜ now (row .exit) ≡ list-of n (word n (now (t .entry)) i) ⌝ }
+// Row and column m from the diagonal on, where those before are written.
+fn write_cross(t: &[u64], n: usize, m: usize, inverse: &mut [u16])
+    requires { ⌜ Square n (now t) × (m < n) × Copied n m (now t) (now inverse) ⌝ }
+    ensures { λ _. ⌜ Copied n (m + 1) (now (t .entry)) (now (inverse .exit)) ⌝ }
 {
-    let mut j = 0;
-    while j < n {
-        row[j] = entry(t, n, i, j);
-        j += 1;
+    let diagonal = m * n + m;
+    inverse[diagonal] = 0;
+    let mut k = m + 1;
+    while k < n {
+        let right = above(t, n, m, k);
+        inverse[m * n + k] = right;
+        inverse[k * n + m] = pivot::negative(right as u64) as u16;
+        k += 1;
     }
 }
 
 // The whole matrix, in 16 bits.
 fn write_inverse(t: &[u64], n: usize, inverse: &mut [u16])
     requires { ⌜ Square n (now t) × (length (now inverse) ≡ n * n) ⌝ }
-    ensures { λ _. ⌜ Copied n n (now (t .entry)) (now (inverse .entry)) (now (inverse .exit)) ⌝ }
+    ensures { λ _. ⌜ Copied n n (now (t .entry)) (now (inverse .exit)) ⌝ }
 {
-    let mut i = 0;
-    while i < n {
-        let at = i * n;
-        let end = at + n;
-        write_row(t, n, i, &mut inverse[at..end]);
-        i += 1;
+    let mut m = 0;
+    while m < n {
+        write_cross(t, n, m, inverse);
+        m += 1;
     }
 }
 
