@@ -12,7 +12,7 @@ fn word(low: u8, high: u8) -> u16
     low as u16 + 256 * (high as u16)
 }
 
-// The words of bytes, as many as there is room for.
+// The words of bytes, as many as there is room for. For proved callers.
 pub fn unpack(bytes: &[u8], target: &mut [u16])
     requires { ⌜ 2 * length (now target) ≤ length (now bytes) ⌝ }
     ensures { λ _. ⌜ now (target .exit) ≡ take (length (now (target .entry))) (words (now (bytes .entry))) ⌝ }
@@ -37,7 +37,7 @@ fn pack(words: &[u16], bytes: &mut [u8])
     }
 }
 
-// The bytes of the first words, so many of them.
+// The bytes of the first words, so many of them. For proved callers.
 pub fn store(words: &[u16], count: usize, bytes: &mut [u8])
     requires { ⌜ (count ≤ length (now words)) × (2 * count ≤ length (now bytes)) ⌝ }
     ensures { λ _. ⌜ now (bytes .exit) ≡ onto (bytes-of (take count (now (words .entry)))) (now (bytes .entry)) ⌝ }

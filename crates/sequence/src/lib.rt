@@ -75,7 +75,7 @@ fn unused_from(sequence: &[u8], start: usize, n: usize) -> bool
     true
 }
 
-// Whether a sequence with so many pairs is well formed; then the marks are those of the vertices left.
+// Whether a sequence with so many pairs is well formed; then the marks are those of the vertices left. For proved callers.
 pub fn formed(n: usize, adjacency: &[u8], sequence: &[u8], made: usize, marks: &mut [u8]) -> bool
     requires { ⌜ Lent n (now adjacency) × (n ≤ length (now sequence)) × (length (now marks) ≡ n) ⌝ }
     ensures { λ r. ⌜ Formed n (now (adjacency .entry)) (now (sequence .entry)) made (now (marks .exit)) r ⌝ }

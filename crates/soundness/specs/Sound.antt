@@ -67,20 +67,20 @@ ready {n} {adjacency} {weights} {inverse} {sequence} J =
       sequence-fits = k .0 .1 .1 .1 .0;
     }
 
--- the inverse solved again, compared with what is held
+-- the inverse solved again, compared with the words of a buffer
 module _ (g : Graph) (S : Subset) (table inverse : List ℕ) (long : g .n * g .n ≤ length inverse) where
   front : InverseTable modulus g S inverse → InverseTable modulus g S (take (g .n * g .n) inverse)
   front I = table-over inverse _ (λ x h. getD-take (g .n * g .n) inverse x 0 h) I
 
-  pub held-same : length table ≡ g .n * g .n → InverseTable modulus g S table → (r : Bool) → Tells (table ≡ take (g .n * g .n) inverse) r
+  pub inverse-compared : length table ≡ g .n * g .n → InverseTable modulus g S table → (r : Bool) → Tells (table ≡ take (g .n * g .n) inverse) r
       → Tells (InverseTable modulus g S inverse) r
-  held-same l I r T = record {
+  inverse-compared l I r T = record {
     when-true = λ e. table-over table inverse (λ x h. sym (getD-take (g .n * g .n) inverse x 0 h) ∙ ap (λ w. getD w x 0) (sym (T .when-true e))) I;
     when-false = λ e J. T .when-false e (inverse-table-unique modulus-prime g S l (length-take-le (g .n * g .n) inverse long) I (front J));
   }
 
-pub held-none : (g : Graph) (S : Subset) (inverse : List ℕ) {f : ℕ} {w : List ℕ} → Singular modulus g S f w → Tells (InverseTable modulus g S inverse) false
-held-none g S inverse s =
+pub inverse-none : (g : Graph) (S : Subset) (inverse : List ℕ) {f : ℕ} {w : List ℕ} → Singular modulus g S f w → Tells (InverseTable modulus g S inverse) false
+inverse-none g S inverse s =
     tells-false (λ I. witness-singular modulus-prime (g .n) (tutte g modulus) (skew modulus-prime g S) S (s .kernel) (_, I .is-inverse))
 
 -- the causes in their order
@@ -139,16 +139,16 @@ module _ (n made : ℕ) (adjacency weights inverse sequence marks : List ℕ) (J
   }
 
   module _ (W : WellFormed (over n adjacency weights) made sequence) where
-    pub not-held : {r : Ruling} → ruling-of r ≡ refused (because 6 0) → ¬ InverseTable modulus (over n adjacency weights) (unmatched everything (pairs-on sequence made)) inverse
+    pub not-confirmed : {r : Ruling} → ruling-of r ≡ refused (because 6 0) → ¬ InverseTable modulus (over n adjacency weights) (unmatched everything (pairs-on sequence made)) inverse
         → Confirmed n made adjacency weights inverse sequence marks r
-    not-held e d = record {
+    not-confirmed e d = record {
       ruled = e ∙ sym (refused-six lent-state (J .four) W d);
       left = λ q. absurd (let z : _≡_ {A = ℕ} 0 1 = cc in omega arith);
     }
 
-    pub all-held : {r : Ruling} → ruling-of r ≡ accepted → InverseTable modulus (over n adjacency weights) (unmatched everything (pairs-on sequence made)) inverse
+    pub all-confirmed : {r : Ruling} → ruling-of r ≡ accepted → InverseTable modulus (over n adjacency weights) (unmatched everything (pairs-on sequence made)) inverse
         → Left n sequence made marks → Confirmed n made adjacency weights inverse sequence marks r
-    all-held e I L = record { ruled = e ∙ sym (confirmed lent-state (J .four) W I); left = λ _. L }
+    all-confirmed e I L = record { ruled = e ∙ sym (confirmed lent-state (J .four) W I); left = λ _. L }
 
 pub first-refused : (n made : ℕ) (adjacency weights inverse sequence marks : List ℕ) {r : Ruling} {why : Refusal} → ruling-of r ≡ refused why
     → refused why ≡ judge (opening-causes modulus (over n adjacency weights) (lent-always n (length adjacency) (length weights) (length inverse) (length sequence)))

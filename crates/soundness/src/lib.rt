@@ -30,7 +30,7 @@ fn same(a: &[u16], b: &[u16]) -> bool
 }
 
 // Whether a buffer has the inverse for the vertices marked. The inverse is solved into the table, with a witness beside it.
-fn holds_over(
+fn is_inverse_over(
     n: usize,
     adjacency: &[u8],
     weights: &[u16],
@@ -54,7 +54,7 @@ fn holds_over(
 }
 
 // The same, with a table of its own.
-fn holds(n: usize, adjacency: &[u8], weights: &[u16], marks: &[u8], inverse: &[u16]) -> bool
+fn is_inverse(n: usize, adjacency: &[u8], weights: &[u16], marks: &[u8], inverse: &[u16]) -> bool
     requires { ⌜ Complete n (now adjacency) (now weights) × (length (now marks) ≡ n) × (n * n ≤ length (now inverse)) ⌝ }
     ensures { λ r. ⌜ ((S : Subset) → ((i : ℕ) → i < n → S i ≡ marked (now (marks .entry)) i) → Tells (InverseTable modulus (over n (now (adjacency .entry)) (now (weights .entry))) S (now (inverse .entry))) r) ⌝ }
 {
@@ -62,7 +62,7 @@ fn holds(n: usize, adjacency: &[u8], weights: &[u16], marks: &[u8], inverse: &[u
     let mut table = [0u16; 9216];
     let mut witness = [0u16; 96];
     let size = n * n;
-    holds_over(
+    is_inverse_over(
         n,
         adjacency,
         weights,
@@ -90,14 +90,15 @@ fn confirm_rest(
     if !formed {
         return Ruling::Refused(Refusal { cause: 5, place: 0 });
     }
-    let held = holds(n, adjacency, weights, marks, inverse);
-    if !held {
+    let correct = is_inverse(n, adjacency, weights, marks, inverse);
+    if !correct {
         return Ruling::Refused(Refusal { cause: 6, place: 0 });
     }
     Ruling::Accepted
 }
 
-// Whether a session is sound; then the first marks, one for each vertex, are those of the vertices left. There must be room for 96.
+// Whether a session is sound; then the first marks, one for each vertex, are those of the vertices left. There must be room for 96. For
+// proved callers.
 pub fn confirm(
     n: usize,
     made: usize,

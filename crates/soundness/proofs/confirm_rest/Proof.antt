@@ -2,7 +2,7 @@
 use mathlib.Core.Path.{refl, sym, _∙_}
 use Rattle.matching.specs.Pairs.{everything, unmatched, pairs-on}
 use Rattle.sequence.specs.Formed.{not-true, not-false}
-use Rattle.soundness.specs.Sound.{ready, not-formed, not-held, all-held}
+use Rattle.soundness.specs.Sound.{ready, not-formed, not-confirmed, all-confirmed}
 use borrow.Author.Needs.{needs}
 use Rattle.soundness.proofs.confirm_rest.Statement.{statement}
 use Rattle.soundness.proofs.confirm_rest.Tie as tie
@@ -22,8 +22,8 @@ returns c =
     let start = c .before .before .before .before .before .before .before .before .before .before in
     not-formed _ _ _ _ _ _ _ (start .pre .0) refl (formed .well (start .args .weights .now) .when-false (not-true _ (c .if1 .taken)))
 
-holds-requires : tie.Need-holds-requires
-holds-requires c κs =
+is-inverse-requires : tie.Need-is-inverse-requires
+is-inverse-requires c κs =
     let start = c .before .before .before .before .before .before .before .before .before .before .before in
     let R = ready (start .pre .0) in
     (R .complete, c .before .before .before .before .formed .kept .1 .1 .1 .1 .0 ∙ start .pre .1, R .inverse-fits)
@@ -37,8 +37,8 @@ returns-2 c =
     let start = c .before .before .before .before .before .before .before .before .before .before .before .before .before in
     let well = not-false _ (c .before .before .before .if1 .left) in
     let L = formed .left well in
-    let held = c .before .holds .ensures (unmatched everything (pairs-on (start .args .sequence .now) (start .args .made))) (λ i h. sym (L .same i h)) in
-    not-held _ _ _ _ _ _ _ (start .pre .0) (formed .well (start .args .weights .now) .when-true well) refl (held .when-false (not-true _ (c .if2 .taken)))
+    let told = c .before .is-inverse .ensures (unmatched everything (pairs-on (start .args .sequence .now) (start .args .made))) (λ i h. sym (L .same i h)) in
+    not-confirmed _ _ _ _ _ _ _ (start .pre .0) (formed .well (start .args .weights .now) .when-true well) refl (told .when-false (not-true _ (c .if2 .taken)))
 
 same-length-3 : tie.Need-same-length-3
 same-length-3 c = search needs
@@ -49,8 +49,8 @@ returns-3 c =
     let start = c .before .before .before .before .before .before .before .before .before .before .before .before .before in
     let well = not-false _ (c .before .before .before .if1 .left) in
     let L = formed .left well in
-    let held = c .before .holds .ensures (unmatched everything (pairs-on (start .args .sequence .now) (start .args .made))) (λ i h. sym (L .same i h)) in
-    all-held _ _ _ _ _ _ _ (start .pre .0) (formed .well (start .args .weights .now) .when-true well) refl (held .when-true (not-false _ (c .if2 .left))) L
+    let told = c .before .is-inverse .ensures (unmatched everything (pairs-on (start .args .sequence .now) (start .args .made))) (λ i h. sym (L .same i h)) in
+    all-confirmed _ _ _ _ _ _ _ (start .pre .0) (formed .well (start .args .weights .now) .when-true well) refl (told .when-true (not-false _ (c .if2 .left))) L
 
 pub confirm-rest-spec : {M : Type 1} → statement M
 confirm-rest-spec =
@@ -59,7 +59,7 @@ confirm-rest-spec =
     formed-requires
     same-length
     returns
-    holds-requires
+    is-inverse-requires
     same-length-2
     returns-2
     same-length-3

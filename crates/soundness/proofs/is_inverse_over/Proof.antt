@@ -1,4 +1,4 @@
--- `soundness::holds_over` meets its contract: the inverse solved is compared with what is held, and where there is none, none is held.
+-- `soundness::is_inverse_over` meets its contract: the inverse solved is compared with the words of the buffer, and where there is none, the buffer has none.
 -- Assumes nothing.
 use mathlib.Core.Path.{sym, subst, _∙_}
 use lib.Seq.{length-take-le}
@@ -6,9 +6,9 @@ use borrow.Author.Needs.{needs}
 use Rattle.matching.specs.Graph.{over}
 use Rattle.exchange.specs.declared.Outcome.{Outcome}
 use Rattle.solve.specs.Solved.{Solved}
-use Rattle.soundness.specs.Sound.{held-same, held-none}
-use Rattle.soundness.proofs.holds_over.Statement.{statement}
-use Rattle.soundness.proofs.holds_over.Tie as tie
+use Rattle.soundness.specs.Sound.{inverse-compared, inverse-none}
+use Rattle.soundness.proofs.is_inverse_over.Statement.{statement}
+use Rattle.soundness.proofs.is_inverse_over.Tie as tie
 
 solve-requires : tie.Need-solve-requires
 solve-requires c κs = search needs
@@ -43,7 +43,7 @@ returns c S agree =
     let start = at .before .before .before .before .before .before .before .before .before in
     let g = over (start .args .n) (start .args .adjacency .now) (start .args .weights .now) in
     let solved = subst (λ (o : Outcome). Solved g S o (at .solve .last .1 .1 .1 .1 .0) (at .solve .last .1 .1 .1 .1 .1 .0)) (c .before .before .before .enum-told .given .1) (at .solve .ensures S agree) in
-    held-same g S _ (start .args .inverse .now) (start .pre .0 .2) (at .solve .kept .1 .1 .1 .1 .0 ∙ start .pre .1 .0) (solved .0) _ (c .same .ensures)
+    inverse-compared g S _ (start .args .inverse .now) (start .pre .0 .2) (at .solve .kept .1 .1 .1 .1 .0 ∙ start .pre .1 .0) (solved .0) _ (c .same .ensures)
 
 same-length-3 : tie.Need-same-length-3
 same-length-3 c = search needs
@@ -57,10 +57,10 @@ returns-2 c S agree =
     let start = at .before .before .before .before .before .before .before .before .before in
     let g = over (start .args .n) (start .args .adjacency .now) (start .args .weights .now) in
     let solved = subst (λ (o : Outcome). Solved g S o (at .solve .last .1 .1 .1 .1 .0) (at .solve .last .1 .1 .1 .1 .1 .0)) (c .enum-told2 .given .1) (at .solve .ensures S agree) in
-    held-none g S (start .args .inverse .now) (solved .0)
+    inverse-none g S (start .args .inverse .now) (solved .0)
 
-pub holds-over-spec : {M : Type 1} → statement M
-holds-over-spec =
+pub is-inverse-over-spec : {M : Type 1} → statement M
+is-inverse-over-spec =
     tie.close
     (tie.spec
     solve-requires
