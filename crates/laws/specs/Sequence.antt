@@ -22,7 +22,7 @@ length-bytes [] = refl
 length-bytes (e ∷ earlier) = length-append (bytes earlier) (e .smaller ∷ e .larger ∷ []) ∙ omega (arith, length-bytes earlier)
 
 -- the bytes of a list of pairs end in those of the newest
-newest : (e : Pair) (earlier : Pairs) (rest : List ℕ) → bytes (e ∷ earlier) ++ rest ≡ bytes earlier ++ e .smaller ∷ e .larger ∷ rest
+pub newest : (e : Pair) (earlier : Pairs) (rest : List ℕ) → bytes (e ∷ earlier) ++ rest ≡ bytes earlier ++ e .smaller ∷ e .larger ∷ rest
 unfolding bytes
 newest e earlier rest = append-assoc (bytes earlier) (e .smaller ∷ e .larger ∷ []) rest
 

@@ -1,5 +1,5 @@
 -- A sequence of pairs that is in order, pair by pair, and the vertices that its pairs leave. Assumes nothing.
-use mathlib.Core.Path.{_≡_, refl, sym, _∙_}
+use mathlib.Core.Path.{_≡_, refl, sym, ap, _∙_}
 use mathlib.Core.Logic.{_≢_}
 use mathlib.Core.Bool.{Bool, true, false, true≢false, not}
 use mathlib.Core.List.{List}
@@ -9,7 +9,7 @@ use native.Mathlib.Omega.{arith}
 use native.Mathlib.Decide.{ℕ-discrete}
 use lib.ListN.{length, getD, set, replicate, length-set, length-replicate, getD-replicate}
 use lib.Seq.{getD-set-same, getD-set-other}
-use Rattle.skew.specs.Subset.{_∈_, clash, marked, marked-in, marked-out, marked-nonzero, marked-same, remove, remove-same, remove-other}
+use Rattle.skew.specs.Subset.{Subset, _∈_, clash, marked, marked-in, marked-out, marked-nonzero, marked-same, remove, remove-same, remove-other}
 use Rattle.matching.specs.Decision.{Every}
 use Rattle.matching.specs.Graph.{over, largest}
 use Rattle.matching.specs.Pairs.{everything, unused, unmatched, pairs-on}
@@ -89,6 +89,41 @@ upto-start n adjacency s = record {
   different = λ y l. absurd (omega arith);
 }
 
+-- the marks of two vertices taken away, and put back
+module _ {n a b : ℕ} (marks : List ℕ) (U : Subset) (size : length marks ≡ n) (ha : a < n) (hb : b < n) where
+  set-a : (x : ℕ) → getD (set marks a x) a 0 ≡ x
+  set-a x = getD-set-same marks a x 0 (omega arith)
+
+  set-b : (x : ℕ) → getD (set (set marks a x) b x) b 0 ≡ x
+  set-b x = getD-set-same (set marks a x) b x 0 (simp length-set (omega arith))
+
+  pub unmarked : ((v : ℕ) → v < n → marked marks v ≡ U v) → (v : ℕ) → v < n → marked (set (set marks a 0) b 0) v ≡ remove (remove U a) b v
+  unmarked same v h = go (ℕ-discrete v b) (ℕ-discrete v a)
+    where
+      go : Dec (v ≡ b) → Dec (v ≡ a) → marked (set (set marks a 0) b 0) v ≡ remove (remove U a) b v
+      go (yes e) _ = marked-out _ v (rw e (set-b 0)) ∙ sym (rw e (remove-same (remove U a) b))
+      go (no d) (yes e) =
+          marked-out _ v (getD-set-other (set marks a 0) b v 0 0 d ∙ rw e (set-a 0))
+          ∙ sym (remove-other (remove U a) b v d ∙ rw e (remove-same U a))
+      go (no d) (no c) =
+          marked-same _ marks v (getD-set-other (set marks a 0) b v 0 0 d ∙ getD-set-other marks a v 0 0 c)
+          ∙ same v h
+          ∙ sym (remove-other (remove U a) b v d ∙ remove-other U a v c)
+
+  pub remarked : a ∈ U → b ∈ U → ((v : ℕ) → v < n → marked marks v ≡ remove (remove U a) b v) → (v : ℕ) → v < n → marked (set (set marks a 1) b 1) v ≡ U v
+  remarked ma mb same v h = go (ℕ-discrete v b) (ℕ-discrete v a)
+    where
+      go : Dec (v ≡ b) → Dec (v ≡ a) → marked (set (set marks a 1) b 1) v ≡ U v
+      go (yes e) _ = marked-in _ v (λ z. omega (arith, z, ap (λ x. getD (set (set marks a 1) b 1) x 0) e, set-b 1)) ∙ sym (rw e mb)
+      go (no d) (yes e) =
+          marked-in _ v (λ z. omega (arith, z, getD-set-other (set marks a 1) b v 1 0 d, ap (λ x. getD (set marks a 1) x 0) e, set-a 1))
+          ∙ sym (rw e ma)
+      go (no d) (no c) =
+          marked-same _ marks v (getD-set-other (set marks a 1) b v 1 0 d ∙ getD-set-other marks a v 1 0 c)
+          ∙ same v h
+          ∙ remove-other (remove U a) b v d
+          ∙ remove-other U a v c
+
 module _ {n : ℕ} {adjacency s marks : List ℕ} {k : ℕ} (L : Left n s k marks) where
   -- a pair more
   pub upto-more : UpTo n adjacency s k → PairFits n adjacency marks (getD s (k + k) 0) (getD s (k + k + 1) 0) → UpTo n adjacency s (k + 1)
@@ -121,28 +156,10 @@ module _ {n : ℕ} {adjacency s marks : List ℕ} {k : ℕ} (L : Left n s k mark
   pub left-more : PairFits n adjacency marks (getD s (k + k) 0) (getD s (k + k + 1) 0) → (marks′ : List ℕ)
       → marks′ ≡ set (set marks (getD s (k + k) 0) 0) (getD s (k + k + 1) 0) 0 → Left n s (k + 1) marks′
   unfolding pairs-on unmatched
-  left-more F marks′ q = rw (q, add-one) (record { size = simp length-set (L .size); same = λ v h. go v h (ℕ-discrete v b) (ℕ-discrete v a) })
-    where
-      a : ℕ
-      a = getD s (k + k) 0
-
-      b : ℕ
-      b = getD s (k + k + 1) 0
-
-      U : ℕ → Bool
-      U = unmatched everything (pairs-on s k)
-
-      go : (v : ℕ) → v < n → Dec (v ≡ b) → Dec (v ≡ a) → marked (set (set marks a 0) b 0) v ≡ remove (remove U a) b v
-      go v h (yes e) _ =
-          marked-out _ v (rw e (getD-set-same (set marks a 0) b 0 0 (simp length-set (omega (arith, L .size, F .below)))))
-          ∙ sym (rw e (remove-same (remove U a) b))
-      go v h (no d) (yes e) =
-          marked-out _ v (getD-set-other (set marks a 0) b v 0 0 d ∙ rw e (getD-set-same marks a 0 0 (omega (arith, L .size, F .ordered, F .below))))
-          ∙ sym (remove-other (remove U a) b v d ∙ rw e (remove-same U a))
-      go v h (no d) (no c) =
-          marked-same _ marks v (getD-set-other (set marks a 0) b v 0 0 d ∙ getD-set-other marks a v 0 0 c)
-          ∙ L .same v h
-          ∙ sym (remove-other (remove U a) b v d ∙ remove-other U a v c)
+  left-more F marks′ q = rw (q, add-one) (record {
+    size = simp length-set (L .size);
+    same = unmarked marks (unmatched everything (pairs-on s k)) (L .size) (omega (arith, F .ordered, F .below)) (F .below) (L .same);
+  })
 
   -- a sequence in order has a pair in order there
   pub upto-fits : {m : ℕ} → k < m → UpTo n adjacency s m → PairFits n adjacency marks (getD s (k + k) 0) (getD s (k + k + 1) 0)

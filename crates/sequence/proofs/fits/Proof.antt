@@ -1,15 +1,10 @@
 -- `sequence::fits` meets its contract: each test is a part of the definition. Assumes nothing.
-use Prim.Native.Nat.{ℕ, _+_, _*_, _≤_, _<_}
 use native.Mathlib.Omega.{arith}
 use borrow.Author.Needs.{needs}
-use Rattle.lists.specs.Table.{index-below, square-small}
+use Rattle.lists.specs.Table.{index-small}
 use Rattle.sequence.specs.Formed.{tells-true, tells-false}
 use Rattle.sequence.proofs.fits.Statement.{statement}
 use Rattle.sequence.proofs.fits.Tie as tie
-
--- the cell of a pair is in the table, which is small
-cell-small : (n a b : ℕ) → n ≤ 96 → a < b → b < n → (a * n + b < n * n) × (a * n + b < 9216)
-cell-small n a b h l m = let k = index-below n a b (omega arith) m in (k, omega (arith, square-small n h))
 
 returns : tie.Need-returns
 returns c = tells-false (λ F. omega (arith, F .ordered))
@@ -20,17 +15,17 @@ returns-2 c = tells-false (λ F. omega (arith, F .below))
 mul-if3 : tie.Need-mul-if3
 mul-if3 c =
     let s = c .before .before in
-    record { fits = omega (arith, cell-small (s .args .n) (s .args .a) (s .args .b) (omega arith) (omega arith) (omega arith) .1) }
+    record { fits = omega (arith, index-small (s .args .n) (s .args .a) (s .args .b) (omega arith) (omega arith) (omega arith) .1) }
 
 add-if3 : tie.Need-add-if3
 add-if3 c =
     let s = c .before .before in
-    record { fits = omega (arith, cell-small (s .args .n) (s .args .a) (s .args .b) (omega arith) (omega arith) (omega arith) .1) }
+    record { fits = omega (arith, index-small (s .args .n) (s .args .a) (s .args .b) (omega arith) (omega arith) (omega arith) .1) }
 
 shared-slice-read-if3 : tie.Need-shared-slice-read-if3
 shared-slice-read-if3 c =
     let s = c .before .before .before in
-    omega (arith, cell-small (s .args .n) (s .args .a) (s .args .b) (omega arith) (omega arith) (omega arith) .0)
+    omega (arith, index-small (s .args .n) (s .args .a) (s .args .b) (omega arith) (omega arith) (omega arith) .0)
 
 returns-3 : tie.Need-returns-3
 returns-3 c = tells-false (λ F. c .if3 .taken (F .adjacent))

@@ -1,0 +1,214 @@
+-- A session that is known to be sound, and what a call makes of it. Assumes nothing.
+use mathlib.Core.Path.{_≡_, refl, sym, ap, _∙_}
+use mathlib.Core.Logic.{_≢_}
+use mathlib.Core.List.{List, [], _∷_, _++_}
+use Prim.Native.Nat.{ℕ, suc, _+_, _*_, _-_, _≤_, _<_}
+use native.Mathlib.Numerals.{add-one}
+use native.Mathlib.Omega.{arith}
+use lib.ListN.{length, getD, take, drop, set, length-set, take-append-drop}
+use lib.Seq.{length-take-le, getD-take}
+use Rattle.lists.specs.Table.{table, index-below}
+use Rattle.modular.specs.Congruence.{Congruent}
+use Rattle.residue.specs.Modulus.{modulus, modulus-prime}
+use Rattle.skew.specs.Subset.{_∈_, Without, marked-in, marked-nonzero}
+use Rattle.skew.specs.Remove.{invertible-without}
+use Rattle.matching.specs.Decision.{Refusal, because, accepted, refused, Ruling, Every, Lowest}
+use Rattle.matching.specs.Graph.{Graph, over, largest, tutte}
+use Rattle.matching.specs.Pairs.{Pair, Pairs, pair-of, everything, unmatched, pairs-on}
+use Rattle.matching.specs.Pairs as spelling
+use Rattle.matching.specs.Session.{State, graph-of, with-pairs, InverseTable, WellFormed, onto}
+use Rattle.matching.specs.Causes.{session-ruling, LongEnough, lent-to-session}
+use Rattle.matching.specs.Model.{Call, pick, automatic, done, denied, skew, Step, pick-ruling, Allowed, OpenPartner, step, Nonsingular, picks, pick-refused, picks-lowest, none-left}
+use Rattle.matching.specs.Calls.{Handles, refuses, carries, model-step}
+use Rattle.laws.specs.Facts.{allowed-of-accepted, unmatched-without, open-partner}
+use Rattle.laws.specs.Rules.{rule-step}
+use Rattle.laws.specs.History.{Valid, cons, fits}
+use Rattle.laws.specs.Sound.{Sound, session-accepted}
+use Rattle.laws.specs.Sequence.{length-pairs-on, length-sequence, sequence-on, pairs-on-sequence, well-formed-sequence, valid-on}
+use Rattle.laws.specs.Determined.{table-over}
+use Rattle.checks.specs.Answers.{ruling-of}
+use Rattle.sequence.specs.Formed.{Left, unmarked}
+use Rattle.soundness.specs.Sound.{state}
+use Rattle.partners.specs.Standing.{Tables, Standing, Marked}
+use Rattle.pairing.specs.Appended.{pair-below, Shrunk, shrunk-inverse, Room, Appended}
+use Rattle.calls.specs.Answers.{answer-of, made-after}
+use Rattle.calls.specs.Bytes.{bytes-appended}
+use Rattle.calls.specs.declared.Answer.{Answer}
+use Rattle.calls.specs.declared.Answer.the-variants.{Done, Denied}
+
+-- the session is sound, and the marks are those of the vertices left
+pub record Known (n made : ℕ) (adjacency weights inverse sequence marks : List ℕ) : Type 0 where
+  pub sound : session-ruling modulus everything (state n made adjacency weights inverse sequence) ≡ accepted
+  pub left : Left n sequence made marks
+
+-- what the call leaves is what the definition says, and it is known again
+pub record Called (c : Call) (n made : ℕ) (adjacency weights inverse sequence : List ℕ) (r : Answer) (inverse′ sequence′ marks′ : List ℕ) : Type 0 where
+  pub handled : Handles modulus-prime everything (state n made adjacency weights inverse sequence) c (answer-of r)
+      (state n (made-after c r made) adjacency weights inverse′ sequence′)
+  pub left : Left n sequence′ (made-after c r made) marks′
+
+-- the same where the weights are not read: there are such weights, and it is so for all of them
+abbrev pub KnownFor : (n made : ℕ) (adjacency inverse sequence marks : List ℕ) → Type 0
+KnownFor n made adjacency inverse sequence marks = (weights : List ℕ) × Known n made adjacency weights inverse sequence marks
+
+abbrev pub CalledFor : (c : Call) (n made : ℕ) (adjacency inverse sequence marks : List ℕ) (r : Answer) (inverse′ sequence′ marks′ : List ℕ) → Type 0
+CalledFor c n made adjacency inverse sequence marks r inverse′ sequence′ marks′ =
+    (weights : List ℕ) → Known n made adjacency weights inverse sequence marks
+    → Called c n made adjacency weights inverse sequence r inverse′ sequence′ marks′
+
+module _ {n made : ℕ} {adjacency weights inverse sequence marks : List ℕ} (K : Known n made adjacency weights inverse sequence marks) where
+  abbrev g : Graph
+  g = over n adjacency weights
+
+  abbrev s : State
+  s = state n made adjacency weights inverse sequence
+
+  abbrev pairs : Pairs
+  pairs = pairs-on sequence made
+
+  ok : LongEnough (lent-to-session s []) × Sound modulus everything s
+  ok = session-accepted modulus everything s .0 (K .sound)
+
+  pub few : made + made ≤ n
+  few = ok .1 .well-formed .few
+
+  pub tables : Tables n adjacency inverse marks
+  tables = record { size = ok .1 .in-order .size; cells = ok .0 .0; entries = ok .0 .1 .1 .0; marks-length = K .left .size }
+
+  pub sequence-fits : n ≤ length sequence
+  sequence-fits = ok .0 .1 .1 .1 .0
+
+  pub standing : Standing g pairs inverse marks
+  standing = record { in-order = ok .1 .in-order; left = K .left .same; held = ok .1 .as-defined }
+
+  -- a refused call
+  pub denies : (c : Call) {r : Refusal} → step modulus-prime g everything pairs c ≡ record { answer = denied r; pairs = pairs }
+      → Handles modulus-prime everything s c (denied r) s
+  denies c {r} q = refuses r (K .sound) (ap (λ t. t .answer) q)
+
+  -- the words of the inverse alone
+  pub words : InverseTable modulus g (unmatched everything pairs) (take (n * n) inverse)
+  words = table-over inverse _ (λ x h. getD-take (n * n) inverse x 0 h) (ok .1 .as-defined)
+
+  valid : Valid modulus-prime g everything pairs
+  valid = valid-on modulus-prime g everything made sequence (ok .1 .well-formed) (λ x l. refl)
+
+  -- the sequence is that of its pairs
+  spelled : sequence ≡ spelling.sequence n pairs ++ drop n sequence
+  spelled =
+      sym (take-append-drop n sequence)
+      ∙ ap (λ l. l ++ drop n sequence) (sym (sequence-on g made sequence sequence-fits (ok .1 .well-formed)))
+
+  -- the state of other pairs
+  same-state : {m m′ : ℕ} {i i′ q q′ : List ℕ} → m ≡ m′ → i ≡ i′ → q ≡ q′ → state n m adjacency weights i q ≡ state n m′ adjacency weights i′ q′
+  same-state em ei eq = rw (em, ei, eq)
+
+  -- a pair that may be matched
+  module _ (a b : ℕ) (A : Allowed modulus-prime g everything pairs a b) where
+    abbrev e : Pair
+    e = pair-of a b
+
+    with-pair : Valid modulus-prime g everything (e ∷ pairs)
+    with-pair = cons (fits modulus-prime g everything pairs a b A) valid
+
+    counted : length (e ∷ pairs) ≡ made + 1
+    counted = omega (arith, length-pairs-on sequence made)
+
+    two-left : suc (length pairs) + suc (length pairs) ≤ n
+    two-left = well-formed-sequence modulus-prime g everything (e ∷ pairs) [] with-pair .few
+
+    pub append-room : Room n made inverse sequence marks a b
+    append-room = record {
+      size = tables .size;
+      entries = tables .entries;
+      bytes = omega (arith, sequence-fits, two-left, counted);
+      few = omega (arith, few, tables .size);
+      marks-length = K .left .size;
+      a-below = A .named .0;
+      b-below = A .named .1;
+    }
+
+    removed : Without (unmatched everything pairs) a b (unmatched everything (e ∷ pairs))
+    removed = unmatched-without modulus-prime g everything pairs a b (A .named .2) (A .a-left) (A .b-left)
+
+    -- appended
+    module _ {x : Pair} {inverse′ sequence′ marks′ : List ℕ} (W : Appended n made a b inverse sequence marks x inverse′ sequence′ marks′) where
+      spelled′ : sequence′ ≡ spelling.sequence n (e ∷ pairs) ++ drop n sequence
+      spelled′ =
+          W .sequence-is
+          ∙ rw (W .pair)
+          (ap (λ l. set (set l (made + made) (e .smaller)) (made + made + 1) (e .larger)) spelled
+          ∙ ap (λ k. set (set (spelling.sequence n pairs ++ drop n sequence) (k + k) (e .smaller)) (k + k + 1) (e .larger)) (sym (length-pairs-on sequence made))
+          ∙ bytes-appended n pairs e (drop n sequence) two-left)
+
+      held′ : InverseTable modulus g (unmatched everything (e ∷ pairs)) (W .words)
+      held′ =
+          shrunk-inverse g removed (A .named .0) (A .named .1) words
+          (invertible-without modulus-prime n (tutte g modulus) (skew modulus-prime g everything) removed (A .named .0) (A .named .1) (words .is-inverse) .0 (A .nonsingular))
+          (W .shrinks)
+
+      after : with-pairs g (e ∷ pairs) (W .words) s ≡ state n (made + 1) adjacency weights inverse′ sequence′
+      after =
+          same-state counted (sym (W .inverse-is))
+          (ap (λ k. spelling.sequence n (e ∷ pairs) ++ drop k sequence) (length-sequence modulus-prime g everything (e ∷ pairs) with-pair) ∙ sym spelled′)
+
+      pub appends : (c : Call) → step modulus-prime g everything pairs c ≡ record { answer = done e; pairs = e ∷ pairs }
+          → Handles modulus-prime everything s c (done x) (state n (made + 1) adjacency weights inverse′ sequence′)
+      appends c q =
+          rw (W .pair, ← after)
+          (carries e (e ∷ pairs) (W .words) (K .sound) q (W .shrinks .size ∙ length-take-le (n * n) inverse (tables .entries)) held′)
+
+      pub appends-left : Left n sequence′ (made + 1) marks′
+      unfolding unmatched
+      appends-left = record {
+        size = rw (W .marks-is) (simp length-set (K .left .size));
+        same = λ v h.
+            rw (W .marks-is, W .pair, spelled′, ← counted, pairs-on-sequence modulus-prime g everything (e ∷ pairs) (drop n sequence))
+            (unmarked marks (unmatched everything pairs) (K .left .size) (below .0) (below .1) (K .left .same) v h);
+      }
+        where
+          below : (e .smaller < n) × (e .larger < n)
+          below = pair-below n a b (A .named .0) (A .named .1) e refl
+
+  -- a hand pick by its ruling
+  pub pick-denied : {a b : ℕ} {r : Refusal} → refused r ≡ pick-ruling modulus-prime g everything pairs a b → Handles modulus-prime everything s (pick a b) (denied r) s
+  pick-denied {a} {b} q = denies (pick a b) (rule-step modulus-prime g everything (pick-refused (sym q)))
+
+  pub pick-allowed : {a b : ℕ} → accepted ≡ pick-ruling modulus-prime g everything pairs a b → Allowed modulus-prime g everything pairs a b
+  pick-allowed {a} {b} q = allowed-of-accepted modulus-prime g everything pairs a b (rw (← q) tt)
+
+  pub pick-step : (a b : ℕ) → accepted ≡ pick-ruling modulus-prime g everything pairs a b
+      → step modulus-prime g everything pairs (pick a b) ≡ record { answer = done (pair-of a b); pairs = pair-of a b ∷ pairs }
+  pick-step a b q = rule-step modulus-prime g everything (picks (sym q))
+
+  -- an automatic pick by what is found
+  in-set : (v : ℕ) → v < n → Marked marks v → v ∈ unmatched everything pairs
+  in-set v l d = sym (K .left .same v l) ∙ marked-in marks v d
+
+  marked-left : (v : ℕ) → v < n → v ∈ unmatched everything pairs → Marked marks v
+  marked-left v l m = marked-nonzero marks v (K .left .same v l ∙ m)
+
+  lowest-left : {c : ℕ} → Lowest (length marks) (Marked marks) c → Lowest n (λ k. k ∈ unmatched everything pairs) c
+  lowest-left {c} C = let below : c < n = omega (arith, C .below, K .left .size) in record {
+    below = below;
+    holds = in-set c below (C .holds);
+    none-before = λ k l m. C .none-before k l (marked-left k (omega arith) m);
+  }
+
+  pub automatic-denied : Every (length marks) (λ v. ¬ Marked marks v) → Handles modulus-prime everything s automatic (denied (because 11 0)) s
+  automatic-denied none =
+      denies automatic
+      (rule-step modulus-prime g everything (none-left (λ v l m. none v (omega (arith, K .left .size)) (marked-left v l m))))
+
+  pub automatic-partner : {c : ℕ} → Lowest (length marks) (Marked marks) c → ¬ Every n (λ r. ¬ OpenPartner modulus-prime g everything pairs c r)
+  automatic-partner {c} C none =
+      let L = lowest-left C in
+      let q = open-partner modulus-prime g everything pairs (_, words .is-inverse) c (L .below) (L .holds) in
+      none (q .0) (q .1) (q .2)
+
+  pub automatic-allowed : {c r : ℕ} → Lowest n (OpenPartner modulus-prime g everything pairs c) r → Allowed modulus-prime g everything pairs c r
+  automatic-allowed R = allowed-of-accepted modulus-prime g everything pairs _ _ (R .holds)
+
+  pub automatic-step : {c r : ℕ} → Lowest (length marks) (Marked marks) c → Lowest n (OpenPartner modulus-prime g everything pairs c) r
+      → step modulus-prime g everything pairs automatic ≡ record { answer = done (pair-of c r); pairs = pair-of c r ∷ pairs }
+  automatic-step C R = rule-step modulus-prime g everything (picks-lowest (lowest-left C) R)

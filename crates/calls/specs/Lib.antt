@@ -1,0 +1,4 @@
+-- What the contracts cite, with its laws.
+pub mod Answers
+pub mod Bytes
+pub mod Known

@@ -1,0 +1,62 @@
+// The session calls on a session that is known to be sound: what the plain model answers, and what it writes. The vertices left are marked.
+use checks::Finding;
+use checks::Refusal;
+use checks::Ruling;
+use pairing::Pair;
+ghost use mathlib.Core.Path.{_≡_};
+ghost use Rattle.matching.specs.Model.{pick, automatic};
+ghost use Rattle.calls.specs.Known.{KnownFor, CalledFor};
+
+// What a call answers: the pair appended or removed, or a refusal.
+pub enum Answer {
+    Done(Pair),
+    Denied(Refusal),
+}
+
+// Hand pick of a and b. For proved callers.
+pub fn pick(
+    n: usize,
+    made: usize,
+    adjacency: &[u8],
+    inverse: &mut [u16],
+    sequence: &mut [u8],
+    marks: &mut [u8],
+    a: usize,
+    b: usize,
+) -> Answer
+    requires { ⌜ KnownFor n made (now adjacency) (now inverse) (now sequence) (now marks) ⌝ }
+    ensures { λ r. ⌜ CalledFor (pick a b) n made (now (adjacency .entry)) (now (inverse .entry)) (now (sequence .entry)) (now (marks .entry)) r (now (inverse .exit)) (now (sequence .exit)) (now (marks .exit)) ⌝ }
+{
+    let ruling = partners::judge(n, adjacency, inverse, marks, a, b);
+    if let Ruling::Refused(refusal) = ruling {
+        return Answer::Denied(refusal);
+    }
+    let e = pairing::append(n, made, inverse, sequence, marks, a, b);
+    Answer::Done(e)
+}
+
+// Automatic pick: the lowest vertex left, with its lowest partner. For proved callers.
+pub fn automatic(
+    n: usize,
+    made: usize,
+    adjacency: &[u8],
+    inverse: &mut [u16],
+    sequence: &mut [u8],
+    marks: &mut [u8],
+) -> Answer
+    requires { ⌜ KnownFor n made (now adjacency) (now inverse) (now sequence) (now marks) ⌝ }
+    ensures { λ r. ⌜ CalledFor automatic n made (now (adjacency .entry)) (now (inverse .entry)) (now (sequence .entry)) (now (marks .entry)) r (now (inverse .exit)) (now (sequence .exit)) (now (marks .exit)) ⌝ }
+{
+    let lowest = partners::lowest(marks);
+    if let Finding::At(c) = lowest {
+        let partner = partners::partner(n, adjacency, inverse, marks, c);
+        if let Finding::At(r) = partner {
+            let e = pairing::append(n, made, inverse, sequence, marks, c, r);
+            return Answer::Done(e);
+        }
+    }
+    Answer::Denied(Refusal {
+        cause: 11,
+        place: 0,
+    })
+}

@@ -1,0 +1,91 @@
+// A pair appended to the pairs made: in the inverse, by the update of rank two, in the sequence of pairs, and in the marks of the vertices left.
+use residue::Residue;
+ghost use mathlib.Core.Path.{_≡_};
+ghost use Prim.Native.Nat.{_<_};
+ghost use lib.ListN.{length};
+ghost use Rattle.lists.specs.Values.{list-of};
+ghost use Rattle.lists.specs.Table.{table, Square};
+ghost use Rattle.matching.specs.Pairs.{pair-of};
+ghost use Rattle.pairing.specs.Appended.{pair-is, Shrunk, Room, Appended};
+
+// Two different vertices, the smaller first.
+pub struct Pair {
+    pub smaller: usize,
+    pub larger: usize,
+}
+
+// The pair of a and b, which are named in either order.
+fn ordered(a: usize, b: usize) -> Pair
+    ensures { λ e. ⌜ pair-is e ≡ pair-of a b ⌝ }
+{
+    if a < b {
+        Pair {
+            smaller: a,
+            larger: b,
+        }
+    } else {
+        Pair {
+            smaller: b,
+            larger: a,
+        }
+    }
+}
+
+// Column c of a table.
+fn column(t: &[u16], n: usize, c: usize, x: &mut [u16])
+    requires { ⌜ Square n (now t) × (c < n) × (length (now x) ≡ n) ⌝ }
+    ensures { λ _. ⌜ now (x .exit) ≡ list-of (length (now (x .entry))) (λ k. table n (now (t .entry)) k c) ⌝ }
+{
+    let mut k = 0;
+    while k < x.len() {
+        x[k] = t[k * n + c];
+        k += 1;
+    }
+}
+
+// The update by columns a and b, with room for both.
+fn shrink_over(t: &mut [u16], n: usize, a: usize, b: usize, x: &mut [u16], y: &mut [u16])
+    requires { ⌜ Square n (now t) × (a < n) × (b < n) × (length (now x) ≡ n) × (length (now y) ≡ n) ⌝ }
+    ensures { λ _. ⌜ Shrunk n a b (now (t .entry)) (now (t .exit)) ⌝ }
+{
+    column(t, n, a, x);
+    column(t, n, b, y);
+    let g = Residue::make(y[a] as u64).invert();
+    update::update(t, n, x, y, g.value);
+}
+
+// The inverse for a set of vertices becomes that for the set without a and b.
+fn shrink(t: &mut [u16], n: usize, a: usize, b: usize)
+    requires { ⌜ Square n (now t) × (a < n) × (b < n) ⌝ }
+    ensures { λ _. ⌜ Shrunk n a b (now (t .entry)) (now (t .exit)) ⌝ }
+{
+    let mut x = [0u16; 96];
+    let mut y = [0u16; 96];
+    shrink_over(t, n, a, b, &mut x[..n], &mut y[..n]);
+}
+
+// Appends a pair that may be matched, and returns it. For proved callers.
+pub fn append(
+    n: usize,
+    made: usize,
+    inverse: &mut [u16],
+    sequence: &mut [u8],
+    marks: &mut [u8],
+    a: usize,
+    b: usize,
+) -> Pair
+    requires { ⌜ Room n made (now inverse) (now sequence) (now marks) a b ⌝ }
+    ensures { λ e. ⌜ Appended n made a b (now (inverse .entry)) (now (sequence .entry)) (now (marks .entry)) (pair-is e) (now (inverse .exit)) (now (sequence .exit)) (now (marks .exit)) ⌝ }
+{
+    let size = n * n;
+    shrink(&mut inverse[..size], n, a, b);
+    let e = ordered(a, b);
+    let smaller = e.smaller;
+    let larger = e.larger;
+    let at = made + made;
+    sequence[at] = smaller as u8;
+    sequence[at + 1] = larger as u8;
+    marks[smaller] = 0;
+    marks[larger] = 0;
+    e
+}

@@ -1,0 +1,170 @@
+-- The vertices that pairs leave, marked, with the inverse for them, and what these say of a pick. Assumes nothing.
+use mathlib.Core.Path.{_≡_, refl, sym, ap, ap₂, _∙_}
+use mathlib.Core.Logic.{_≢_, _↔_}
+use mathlib.Core.List.{List, [], _∷_}
+use Prim.Native.Nat.{ℕ, _+_, _*_, _≤_, _<_}
+use native.Mathlib.Omega.{arith}
+use native.Mathlib.Decide.{ℕ-discrete, decLt}
+use lib.ListN.{length, getD}
+use Rattle.lists.specs.Values.{list-of}
+use Rattle.lists.specs.Table.{table, index-below, index-row, index-column}
+use Rattle.modular.specs.Congruence.{Congruent, equals}
+use Rattle.modular.specs.Prime.{below-equal}
+use Rattle.residue.specs.Modulus.{modulus, modulus-prime}
+use Rattle.skew.specs.Subset.{_∈_, marked, marked-in, marked-nonzero, clash, marked-out}
+use Rattle.skew.specs.Remove.{invertible-without}
+use Rattle.matching.specs.Decision as decision
+use Rattle.matching.specs.Decision.{Every, Lowest, because, accepted, refused, not?, both?, Cause}
+use Rattle.matching.specs.Graph.{Graph, over, largest, cell, tutte, fault, kind-of, InOrder}
+use Rattle.matching.specs.Pairs.{Pairs, pair-of, everything, unmatched, in?}
+use Rattle.matching.specs.Session.{InverseTable}
+use Rattle.matching.specs.Model.{Named, named?, needs, Adjacent, adjacent?, skew, Nonsingular, nonsingular?, pick-ruling, OpenPartner}
+use Rattle.matching.specs.Calls.{bit-of}
+use Rattle.laws.specs.Sound.{judge-refused, judge-next, when-at, unless-absent}
+use Rattle.laws.specs.Faults.{fault-kind, kind-large, kind-unequal}
+use Rattle.laws.specs.Facts.{pair-of-smaller, pair-of-larger, unmatched-without}
+use Rattle.checks.specs.Answers.{ruling-of}
+use Rattle.checks.specs.declared.Ruling.{Ruling}
+use Rattle.checks.specs.declared.Finding.{Finding}
+use Rattle.checks.specs.declared.Finding.the-variants.{Absent, At}
+
+-- the tables of n vertices are long enough, and there is a mark for each
+pub record Tables (n : ℕ) (adjacency inverse marks : List ℕ) : Type 0 where
+  pub size : n ≤ largest
+  pub cells : n * n ≤ length adjacency
+  pub entries : n * n ≤ length inverse
+  pub marks-length : length marks ≡ n
+
+-- the graph is in order, the marks are the vertices that the pairs leave, and the first words are the inverse for them
+pub record Standing (g : Graph) (pairs : Pairs) (inverse marks : List ℕ) : Type 0 where
+  pub in-order : InOrder modulus g
+  pub left : (v : ℕ) → v < g .n → marked marks v ≡ unmatched everything pairs v
+  pub held : InverseTable modulus g (unmatched everything pairs) inverse
+
+-- the ruling of a pick, whatever the weights and the pairs are
+abbrev pub Judges : (n : ℕ) (adjacency inverse marks : List ℕ) (a b : ℕ) → Ruling → Type 0
+Judges n adjacency inverse marks a b r =
+    (weights : List ℕ) (pairs : Pairs) → Standing (over n adjacency weights) pairs inverse marks
+    → ruling-of r ≡ pick-ruling modulus-prime (over n adjacency weights) everything pairs a b
+
+-- the lowest number below n with a property, or that there is none
+abbrev pub Finds : ℕ → (ℕ → Type 0) → Finding → Type 0
+Finds n P Absent = Every n (λ k. ¬ P k)
+Finds n P (At x) = Lowest n P x
+
+abbrev pub Marked : List ℕ → ℕ → Type 0
+Marked marks v = getD marks v 0 ≢ 0
+
+-- the lowest partner of c
+abbrev pub FindsPartner : (n : ℕ) (adjacency inverse marks : List ℕ) (c : ℕ) → Finding → Type 0
+FindsPartner n adjacency inverse marks c r =
+    (weights : List ℕ) (pairs : Pairs) → Standing (over n adjacency weights) pairs inverse marks
+    → Finds n (OpenPartner modulus-prime (over n adjacency weights) everything pairs c) r
+
+-- the row of the partners of a
+abbrev pub ShowsPartners : (n : ℕ) (adjacency inverse marks : List ℕ) (a : ℕ) → List ℕ → Type 0
+ShowsPartners n adjacency inverse marks a row =
+    (weights : List ℕ) (pairs : Pairs) → Standing (over n adjacency weights) pairs inverse marks
+    → row ≡ list-of n (λ b. bit-of (pick-ruling modulus-prime (over n adjacency weights) everything pairs a b))
+
+-- in a graph in order a cell is its mirror
+module _ {g : Graph} (order : InOrder modulus g) where
+  faultless : (i j : ℕ) → i < g .n → j < g .n → kind-of (cell g i j) (cell g j i) i j ≡ 0
+  faultless i j hi hj =
+      sym (fault-kind g i j)
+      ∙ sym (ap₂ (fault g) (index-row (g .n) i j hj) (index-column (g .n) i j hj))
+      ∙ order .cells (i * g .n + j) (index-below (g .n) i j hi hj)
+
+  mirror : (i j : ℕ) → i < g .n → j < g .n → i ≢ j → cell g i j ≡ cell g j i
+  mirror i j hi hj d = go (decLt 1 (cell g i j)) (ℕ-discrete (cell g i j) (cell g j i))
+    where
+      go : Dec (1 < cell g i j) → Dec (cell g i j ≡ cell g j i) → cell g i j ≡ cell g j i
+      go _ (yes e) = e
+      go (yes l) (no _) = absurd (omega (arith, faultless i j hi hj, kind-large (cell g i j) (cell g j i) i j l))
+      go (no l) (no e) = absurd (omega (arith, faultless i j hi hj, kind-unequal (cell g i j) (cell g j i) i j (omega arith) d e))
+
+  pub cell-pair : (a b : ℕ) → Named (g .n) a b → cell g (pair-of a b .smaller) (pair-of a b .larger) ≡ cell g a b
+  cell-pair a b h = go (decLt a b) (decLt b a)
+    where
+      go : Dec (a < b) → Dec (b < a) → cell g (pair-of a b .smaller) (pair-of a b .larger) ≡ cell g a b
+      go (yes l) _ = rw (pair-of-smaller a b l) refl
+      go (no _) (yes l) = rw (pair-of-larger a b l) (mirror b a (h .1) (h .0) (λ e. h .2 (sym e)))
+      go (no d) (no e) = absurd (h .2 (omega arith))
+
+-- each cause of a pick
+module _ {g : Graph} {pairs : Pairs} {inverse marks : List ℕ} (K : Standing g pairs inverse marks) (a b : ℕ) where
+  abbrev ruled : decision.Ruling
+  ruled = pick-ruling modulus-prime g everything pairs a b
+
+  abbrev seven : Cause
+  seven = needs 7 (named? (g .n) a b)
+
+  abbrev eight : Cause
+  eight = needs 8 (both? (in? (unmatched everything pairs) a) (in? (unmatched everything pairs) b))
+
+  abbrev nine : Cause
+  nine = needs 9 (adjacent? g (pair-of a b))
+
+  abbrev ten : Cause
+  ten = needs 10 (nonsingular? modulus-prime g everything (pair-of a b ∷ pairs))
+
+  pub not-named : ¬ Named (g .n) a b → ruled ≡ refused (because 7 0)
+  unfolding pick-ruling
+  not-named d = judge-refused seven (eight ∷ nine ∷ ten ∷ []) 0 (when-at (not? (named? (g .n) a b)) 0 d)
+
+  module _ (h : Named (g .n) a b) where
+    pub left-at : (v : ℕ) → v < g .n → getD marks v 0 ≢ 0 → v ∈ unmatched everything pairs
+    left-at v l d = sym (K .left v l) ∙ marked-in marks v d
+
+    gone-at : (v : ℕ) → v < g .n → getD marks v 0 ≡ 0 → ¬ (v ∈ unmatched everything pairs)
+    gone-at v l e m = clash (K .left v l ∙ m) (marked-out marks v e)
+
+    from-eight : ruled ≡ decision.judge (eight ∷ nine ∷ ten ∷ [])
+    unfolding pick-ruling
+    from-eight = judge-next seven (eight ∷ nine ∷ ten ∷ []) (unless-absent (named? (g .n) a b) 0 .1 h)
+
+    matched : ¬ ((a ∈ unmatched everything pairs) × (b ∈ unmatched everything pairs)) → ruled ≡ refused (because 8 0)
+    matched d =
+        from-eight
+        ∙ judge-refused eight (nine ∷ ten ∷ []) 0
+        (when-at (not? (both? (in? (unmatched everything pairs) a) (in? (unmatched everything pairs) b))) 0 d)
+
+    pub first-matched : getD marks a 0 ≡ 0 → ruled ≡ refused (because 8 0)
+    first-matched e = matched (λ m. gone-at a (h .0) e (m .0))
+
+    pub second-matched : getD marks b 0 ≡ 0 → ruled ≡ refused (because 8 0)
+    second-matched e = matched (λ m. gone-at b (h .1) e (m .1))
+
+    module _ (ma : getD marks a 0 ≢ 0) (mb : getD marks b 0 ≢ 0) where
+      from-nine : ruled ≡ decision.judge (nine ∷ ten ∷ [])
+      from-nine =
+          from-eight
+          ∙ judge-next eight (nine ∷ ten ∷ [])
+          (unless-absent (both? (in? (unmatched everything pairs) a) (in? (unmatched everything pairs) b)) 0 .1 (left-at a (h .0) ma, left-at b (h .1) mb))
+
+      pub not-adjacent : cell g a b ≢ 1 → ruled ≡ refused (because 9 0)
+      not-adjacent d =
+          from-nine
+          ∙ judge-refused nine (ten ∷ []) 0 (when-at (not? (adjacent? g (pair-of a b))) 0 (λ e. d (sym (cell-pair (K .in-order) a b h) ∙ e)))
+
+      module _ (e : cell g a b ≡ 1) where
+        from-ten : ruled ≡ decision.judge (ten ∷ [])
+        from-ten = from-nine ∙ judge-next nine (ten ∷ []) (unless-absent (adjacent? g (pair-of a b)) 0 .1 (cell-pair (K .in-order) a b h ∙ e))
+
+        remains :
+            Nonsingular modulus-prime g everything (pair-of a b ∷ pairs) ↔ ¬ Congruent modulus (table (g .n) inverse a b) 0
+        remains =
+            invertible-without modulus-prime (g .n) (tutte g modulus) (skew modulus-prime g everything)
+            (unmatched-without modulus-prime g everything pairs a b (h .2) (left-at a (h .0) ma) (left-at b (h .1) mb)) (h .0) (h .1) (K .held .is-inverse)
+
+        pub none-remains : table (g .n) inverse a b ≡ 0 → ruled ≡ refused (because 10 0)
+        none-remains z =
+            from-ten
+            ∙ judge-refused ten [] 0 (when-at (not? (nonsingular? modulus-prime g everything (pair-of a b ∷ pairs))) 0 (λ n. remains .0 n (equals z)))
+
+        pub may-match : table (g .n) inverse a b ≢ 0 → ruled ≡ accepted
+        may-match d =
+            from-ten
+            ∙ judge-next ten []
+            (unless-absent (nonsingular? modulus-prime g everything (pair-of a b ∷ pairs)) 0 .1
+            (remains .1 (λ z. d (below-equal (K .held .small (a * g .n + b) (index-below (g .n) a b (h .0) (h .1))) (omega arith) z))))

@@ -1,0 +1,103 @@
+// Which vertices may be matched, by the inverse for the vertices left: causes 7 to 10 of document 01's table, the lowest partner of a vertex,
+// and the row of all its partners. The vertices left are marked: a byte for each vertex, not 0 for those left.
+use checks::Finding;
+use checks::Refusal;
+use checks::Ruling;
+ghost use mathlib.Core.Path.{_≡_};
+ghost use Prim.Native.Nat.{_<_};
+ghost use lib.ListN.{length};
+ghost use Rattle.matching.specs.Calls.{bit-of};
+ghost use Rattle.checks.specs.Answers.{ruling-of};
+ghost use Rattle.partners.specs.Standing.{Tables, Judges, Finds, Marked, FindsPartner, ShowsPartners};
+
+// Whether a pick of a and b is accepted: causes 7 to 10. For proved callers.
+pub fn judge(
+    n: usize,
+    adjacency: &[u8],
+    inverse: &[u16],
+    marks: &[u8],
+    a: usize,
+    b: usize,
+) -> Ruling
+    requires { ⌜ Tables n (now adjacency) (now inverse) (now marks) ⌝ }
+    ensures { λ r. ⌜ Judges n (now (adjacency .entry)) (now (inverse .entry)) (now (marks .entry)) a b r ⌝ }
+{
+    if n <= a {
+        return Ruling::Refused(Refusal { cause: 7, place: 0 });
+    }
+    if n <= b {
+        return Ruling::Refused(Refusal { cause: 7, place: 0 });
+    }
+    if a == b {
+        return Ruling::Refused(Refusal { cause: 7, place: 0 });
+    }
+    if marks[a] == 0 {
+        return Ruling::Refused(Refusal { cause: 8, place: 0 });
+    }
+    if marks[b] == 0 {
+        return Ruling::Refused(Refusal { cause: 8, place: 0 });
+    }
+    let at = a * n + b;
+    if adjacency[at] != 1 {
+        return Ruling::Refused(Refusal { cause: 9, place: 0 });
+    }
+    if inverse[at] == 0 {
+        return Ruling::Refused(Refusal {
+            cause: 10,
+            place: 0,
+        });
+    }
+    Ruling::Accepted
+}
+
+// The lowest vertex that is marked. For proved callers.
+pub fn lowest(marks: &[u8]) -> Finding
+    ensures { λ r. ⌜ Finds (length (now (marks .entry))) (Marked (now (marks .entry))) r ⌝ }
+{
+    let mut v = 0;
+    while v < marks.len() {
+        if marks[v] != 0 {
+            return Finding::At(v);
+        }
+        v += 1;
+    }
+    Finding::Absent
+}
+
+// The lowest vertex whose pick with c is accepted. For proved callers.
+pub fn partner(n: usize, adjacency: &[u8], inverse: &[u16], marks: &[u8], c: usize) -> Finding
+    requires { ⌜ Tables n (now adjacency) (now inverse) (now marks) ⌝ }
+    ensures { λ r. ⌜ FindsPartner n (now (adjacency .entry)) (now (inverse .entry)) (now (marks .entry)) c r ⌝ }
+{
+    let mut r = 0;
+    while r < n {
+        if let Ruling::Accepted = judge(n, adjacency, inverse, marks, c, r) {
+            return Finding::At(r);
+        }
+        r += 1;
+    }
+    Finding::Absent
+}
+
+// 1 where no cause applies, else 0.
+fn bit(ruling: Ruling) -> u8
+    ensures { λ r. ⌜ r ≡ bit-of (ruling-of ruling) ⌝ }
+{
+    match ruling {
+        Ruling::Accepted => 1,
+        Ruling::Refused(_) => 0,
+    }
+}
+
+// For each vertex b, 1 where a pick of a and b is accepted, else 0. For proved callers.
+pub fn show(n: usize, adjacency: &[u8], inverse: &[u16], marks: &[u8], a: usize, row: &mut [u8])
+    requires { ⌜ Tables n (now adjacency) (now inverse) (now marks) × (length (now row) ≡ n) ⌝ }
+    ensures { λ _. ⌜ ShowsPartners n (now (adjacency .entry)) (now (inverse .entry)) (now (marks .entry)) a (now (row .exit)) ⌝ }
+{
+    let mut b = 0;
+    while b < row.len() {
+        let ruling = judge(n, adjacency, inverse, marks, a, b);
+        row[b] = bit(ruling);
+        b += 1;
+    }
+}
