@@ -12,14 +12,14 @@ use Rattle.modular.specs.Congruence.{Congruent}
 use Rattle.residue.specs.Modulus.{modulus, modulus-prime}
 use Rattle.skew.specs.Subset.{_∈_, Without, marked-in, marked-nonzero}
 use Rattle.skew.specs.Remove.{invertible-without}
-use Rattle.matching.specs.Decision.{Refusal, because, accepted, refused, Ruling, Every, Lowest}
+use Rattle.matching.specs.Decision.{Refusal, because, accepted, refused, Every, Lowest}
 use Rattle.matching.specs.Graph.{Graph, over, largest, tutte}
 use Rattle.matching.specs.Pairs.{Pair, Pairs, pair-of, everything, unmatched, pairs-on}
 use Rattle.matching.specs.Pairs as spelling
 use Rattle.matching.specs.Session.{State, graph-of, with-pairs, InverseTable, WellFormed, onto}
 use Rattle.matching.specs.Causes.{session-ruling, LongEnough, lent-to-session}
 use Rattle.matching.specs.Model.{Call, pick, automatic, done, denied, skew, Step, pick-ruling, Allowed, OpenPartner, step, Nonsingular, picks, pick-refused, picks-lowest, none-left}
-use Rattle.matching.specs.Calls.{Handles, refuses, carries, model-step}
+use Rattle.matching.specs.Calls.{Handles, unsound, refuses, carries}
 use Rattle.laws.specs.Facts.{allowed-of-accepted, unmatched-without, open-partner}
 use Rattle.laws.specs.Rules.{rule-step}
 use Rattle.laws.specs.History.{Valid, cons, fits}
@@ -27,14 +27,15 @@ use Rattle.laws.specs.Sound.{Sound, session-accepted}
 use Rattle.laws.specs.Sequence.{length-pairs-on, length-sequence, sequence-on, pairs-on-sequence, well-formed-sequence, valid-on}
 use Rattle.laws.specs.Determined.{table-over}
 use Rattle.checks.specs.Answers.{ruling-of}
+use Rattle.checks.specs.declared.Ruling.{Ruling}
+use Rattle.checks.specs.declared.Ruling.the-variants.{Accepted, Refused}
 use Rattle.sequence.specs.Formed.{Left, unmarked}
-use Rattle.soundness.specs.Sound.{state}
+use Rattle.soundness.specs.Sound.{state, Confirmed}
 use Rattle.partners.specs.Standing.{Tables, Standing, Marked}
 use Rattle.pairing.specs.Appended.{pair-below, Shrunk, shrunk-inverse, Room, Appended}
-use Rattle.calls.specs.Answers.{answer-of, made-after}
+use Rattle.calls.specs.Answers.{answer-of}
 use Rattle.calls.specs.Bytes.{bytes-appended}
-use Rattle.calls.specs.declared.Answer.{Answer}
-use Rattle.calls.specs.declared.Answer.the-variants.{Done, Denied}
+use Rattle.calls.specs.declared.Reply.{Reply}
 
 -- the session is sound, and the marks are those of the vertices left
 pub record Known (n made : ℕ) (adjacency weights inverse sequence marks : List ℕ) : Type 0 where
@@ -42,19 +43,28 @@ pub record Known (n made : ℕ) (adjacency weights inverse sequence marks : List
   pub left : Left n sequence made marks
 
 -- what the call leaves is what the definition says, and it is known again
-pub record Called (c : Call) (n made : ℕ) (adjacency weights inverse sequence : List ℕ) (r : Answer) (inverse′ sequence′ marks′ : List ℕ) : Type 0 where
-  pub handled : Handles modulus-prime everything (state n made adjacency weights inverse sequence) c (answer-of r)
-      (state n (made-after c r made) adjacency weights inverse′ sequence′)
-  pub left : Left n sequence′ (made-after c r made) marks′
+pub record Called (c : Call) (n made : ℕ) (adjacency weights inverse sequence : List ℕ) (r : Reply) (inverse′ sequence′ marks′ : List ℕ) : Type 0 where
+  pub handled : Handles modulus-prime everything (state n made adjacency weights inverse sequence) c (answer-of (r .answer))
+      (state n (r .made) adjacency weights inverse′ sequence′)
+  pub left : Left n sequence′ (r .made) marks′
 
 -- the same where the weights are not read: there are such weights, and it is so for all of them
 abbrev pub KnownFor : (n made : ℕ) (adjacency inverse sequence marks : List ℕ) → Type 0
 KnownFor n made adjacency inverse sequence marks = (weights : List ℕ) × Known n made adjacency weights inverse sequence marks
 
-abbrev pub CalledFor : (c : Call) (n made : ℕ) (adjacency inverse sequence marks : List ℕ) (r : Answer) (inverse′ sequence′ marks′ : List ℕ) → Type 0
+abbrev pub CalledFor : (c : Call) (n made : ℕ) (adjacency inverse sequence marks : List ℕ) (r : Reply) (inverse′ sequence′ marks′ : List ℕ) → Type 0
 CalledFor c n made adjacency inverse sequence marks r inverse′ sequence′ marks′ =
     (weights : List ℕ) → Known n made adjacency weights inverse sequence marks
     → Called c n made adjacency weights inverse sequence r inverse′ sequence′ marks′
+
+-- so a confirmation makes it known, or refuses every call
+module _ {n made : ℕ} {adjacency weights inverse sequence marks : List ℕ} {v : Ruling} (C : Confirmed n made adjacency weights inverse sequence marks v) where
+  pub known : v ≡ Accepted → Known n made adjacency weights inverse sequence marks
+  known e = let ok : ruling-of v ≡ accepted = ap ruling-of e in record { sound = sym (C .ruled) ∙ ok; left = C .left ok }
+
+  pub not-sound : (c : Call) {r : _} → v ≡ Refused r
+      → Handles modulus-prime everything (state n made adjacency weights inverse sequence) c (denied (because (r .cause) (r .place))) (state n made adjacency weights inverse sequence)
+  not-sound c e = unsound _ (sym (C .ruled) ∙ ap ruling-of e)
 
 module _ {n made : ℕ} {adjacency weights inverse sequence marks : List ℕ} (K : Known n made adjacency weights inverse sequence marks) where
   abbrev g : Graph

@@ -13,6 +13,12 @@ pub enum Answer {
     Denied(Refusal),
 }
 
+// An answer, and the pairs made after it.
+pub struct Reply {
+    pub made: usize,
+    pub answer: Answer,
+}
+
 // Hand pick of a and b. For proved callers.
 pub fn pick(
     n: usize,
@@ -23,16 +29,23 @@ pub fn pick(
     marks: &mut [u8],
     a: usize,
     b: usize,
-) -> Answer
+) -> Reply
     requires { ⌜ KnownFor n made (now adjacency) (now inverse) (now sequence) (now marks) ⌝ }
     ensures { λ r. ⌜ CalledFor (pick a b) n made (now (adjacency .entry)) (now (inverse .entry)) (now (sequence .entry)) (now (marks .entry)) r (now (inverse .exit)) (now (sequence .exit)) (now (marks .exit)) ⌝ }
 {
     let ruling = partners::judge(n, adjacency, inverse, marks, a, b);
     if let Ruling::Refused(refusal) = ruling {
-        return Answer::Denied(refusal);
+        return Reply {
+            made,
+            answer: Answer::Denied(refusal),
+        };
     }
     let e = pairing::append(n, made, inverse, sequence, marks, a, b);
-    Answer::Done(e)
+    let more = made + 1;
+    Reply {
+        made: more,
+        answer: Answer::Done(e),
+    }
 }
 
 // Automatic pick: the lowest vertex left, with its lowest partner. For proved callers.
@@ -43,7 +56,7 @@ pub fn automatic(
     inverse: &mut [u16],
     sequence: &mut [u8],
     marks: &mut [u8],
-) -> Answer
+) -> Reply
     requires { ⌜ KnownFor n made (now adjacency) (now inverse) (now sequence) (now marks) ⌝ }
     ensures { λ r. ⌜ CalledFor automatic n made (now (adjacency .entry)) (now (inverse .entry)) (now (sequence .entry)) (now (marks .entry)) r (now (inverse .exit)) (now (sequence .exit)) (now (marks .exit)) ⌝ }
 {
@@ -52,11 +65,19 @@ pub fn automatic(
         let partner = partners::partner(n, adjacency, inverse, marks, c);
         if let Finding::At(r) = partner {
             let e = pairing::append(n, made, inverse, sequence, marks, c, r);
-            return Answer::Done(e);
+            let more = made + 1;
+            return Reply {
+                made: more,
+                answer: Answer::Done(e),
+            };
         }
     }
-    Answer::Denied(Refusal {
+    let refusal = Refusal {
         cause: 11,
         place: 0,
-    })
+    };
+    Reply {
+        made,
+        answer: Answer::Denied(refusal),
+    }
 }

@@ -1,6 +1,7 @@
 -- `calls::automatic` meets its contract: the lowest vertex left, its lowest partner, or none. Assumes nothing.
 use mathlib.Core.Path.{refl}
-use Rattle.calls.specs.Known.{tables, standing, append-room, appends, appends-left, automatic-denied, automatic-partner, automatic-allowed, automatic-step}
+use Rattle.calls.specs.Known.{few, tables, standing, append-room, appends, appends-left, automatic-denied, automatic-partner, automatic-allowed, automatic-step}
+use native.Mathlib.Omega.{arith}
 use borrow.Author.Needs.{needs}
 use Rattle.calls.proofs.automatic.Statement.{statement}
 use Rattle.calls.proofs.automatic.Tie as tie
@@ -25,6 +26,9 @@ append-requires c κs =
     let start = c .before .before .before .before .before .before .before .before .before .before .before .before .before .before .before .before .before .before in
     let K = start .pre .1 in
     append-room K _ _ (automatic-allowed K (rw (c .before .before .before .before .partner2 .given .1) at (partner .partner .ensures _ _ (standing K))))
+
+add-more : tie.Need-add-more
+add-more c = let K = c .before .before .before .before .before .before .before .before .before .before .before .before .before .before .before .before .before .before .before .before .before .before .before .before .before .pre .1 in omega (arith, few K, tables K .size)
 
 same-length : tie.Need-same-length
 same-length c = search needs
@@ -81,6 +85,7 @@ automatic-spec =
     partner-requires
     enum-known-partner
     append-requires
+    add-more
     same-length
     same-length-2
     same-length-3

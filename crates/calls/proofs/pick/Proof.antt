@@ -1,5 +1,6 @@
 -- `calls::pick` meets its contract: the ruling decides. Assumes nothing.
-use Rattle.calls.specs.Known.{tables, standing, append-room, appends, appends-left, pick-denied, pick-allowed, pick-step}
+use Rattle.calls.specs.Known.{few, tables, standing, append-room, appends, appends-left, pick-denied, pick-allowed, pick-step}
+use native.Mathlib.Omega.{arith}
 use borrow.Author.Needs.{needs}
 use Rattle.calls.proofs.pick.Statement.{statement}
 use Rattle.calls.proofs.pick.Tie as tie
@@ -32,6 +33,9 @@ append-requires c κs =
     let K = start .pre .1 in
     append-room K _ _ (pick-allowed K (rw (told .enum-told .given .1) at (judged .judge .ensures _ _ (standing K))))
 
+add-more : tie.Need-add-more
+add-more c = let K = c .before .before .before .before .before .before .before .before .before .before .before .before .before .before .before .before .before .before .before .pre .1 in omega (arith, few K, tables K .size)
+
 same-length-3 : tie.Need-same-length-3
 same-length-3 c = search needs
 
@@ -61,6 +65,7 @@ pick-spec =
     returns
     enum-told
     append-requires
+    add-more
     same-length-3
     same-length-4
     same-length-5
