@@ -1,10 +1,13 @@
-// The Tutte matrix of a graph in order, on a set of vertices: its entries above the diagonal, as a table of words. The set is a byte for
-// each vertex, not 0 for those in it.
+// The Tutte matrix of a graph in order: one column of it; and, on a set of vertices, its entries above the diagonal, as a table of words.
+// The set is a byte for each vertex, not 0 for those in it.
+use residue::Residue;
 ghost use mathlib.Core.Path.{_≡_};
 ghost use Prim.Native.Nat.{_+_, _*_, _<_};
 ghost use lib.ListN.{length};
+ghost use Rattle.lists.specs.Values.{list-of};
+ghost use Rattle.residue.specs.Modulus.{modulus};
 ghost use Rattle.skew.specs.Subset.{marked};
-ghost use Rattle.matching.specs.Graph.{upper, over};
+ghost use Rattle.matching.specs.Graph.{upper, tutte, over};
 ghost use Rattle.tutte.specs.Table.{Complete, restricted, row-of, Filled};
 
 // The weight of i < j where they are adjacent, else 0.
@@ -61,5 +64,36 @@ pub fn fill(n: usize, adjacency: &[u8], weights: &[u16], set: &[u8], table: &mut
         let end = i * n + n;
         fill_row(n, adjacency, weights, set, i, &mut table[at..end]);
         i += 1;
+    }
+}
+
+// The entry in row i and column j of the whole matrix.
+fn whole_entry(n: usize, adjacency: &[u8], weights: &[u16], i: usize, j: usize) -> u16
+    requires { ⌜ Complete n (now adjacency) (now weights) ⌝ }
+    requires { ⌜ (i < n) × (j < n) ⌝ }
+    ensures { λ r. ⌜ r ≡ tutte (over n (now (adjacency .entry)) (now (weights .entry))) modulus i j ⌝ }
+{
+    if i < j {
+        return upper(n, adjacency, weights, i, j);
+    }
+    if j < i {
+        let above = Residue {
+            value: upper(n, adjacency, weights, j, i),
+        };
+        let below = above.negate();
+        return below.value;
+    }
+    0
+}
+
+// Column c of the whole matrix, one word for each row. For proved callers.
+pub fn column(n: usize, adjacency: &[u8], weights: &[u16], c: usize, x: &mut [u16])
+    requires { ⌜ Complete n (now adjacency) (now weights) × (c < n) × (length (now x) ≡ n) ⌝ }
+    ensures { λ _. ⌜ now (x .exit) ≡ list-of (length (now (x .entry))) (λ k. tutte (over n (now (adjacency .entry)) (now (weights .entry))) modulus k c) ⌝ }
+{
+    let mut k = 0;
+    while k < x.len() {
+        x[k] = whole_entry(n, adjacency, weights, k, c);
+        k += 1;
     }
 }
