@@ -1,12 +1,17 @@
-// A pair appended to the pairs made: in the inverse, by the update of rank two, in the sequence of pairs, and in the marks of the vertices left.
+// A pair appended to the pairs made, and the newest removed: in the inverse, by the update of rank two, in the sequence of pairs, and in the
+// marks of the vertices left.
 use residue::Residue;
+use sequence::UNUSED;
 ghost use mathlib.Core.Path.{_≡_};
 ghost use Prim.Native.Nat.{_<_};
 ghost use lib.ListN.{length};
 ghost use Rattle.lists.specs.Values.{list-of};
 ghost use Rattle.lists.specs.Table.{table, Square};
 ghost use Rattle.matching.specs.Pairs.{pair-of};
+ghost use Rattle.matching.specs.Graph.{over};
+ghost use Rattle.tutte.specs.Table.{Complete};
 ghost use Rattle.pairing.specs.Appended.{pair-is, Shrunk, Room, Appended};
+ghost use Rattle.pairing.specs.Removed.{Grows, Removed};
 
 // Two different vertices, the smaller first.
 pub struct Pair {
@@ -88,4 +93,85 @@ pub fn append(
     marks[smaller] = 0;
     marks[larger] = 0;
     e
+}
+
+// The update by the columns that border the inverse, with room for both and for a column of the matrix. Where the set with a and b has no
+// inverse, nothing is written.
+fn grow_over(
+    n: usize,
+    adjacency: &[u8],
+    weights: &[u16],
+    t: &mut [u16],
+    a: usize,
+    b: usize,
+    column: &mut [u16],
+    x: &mut [u16],
+    y: &mut [u16],
+) -> bool
+    requires { ⌜ Complete n (now adjacency) (now weights) × Square n (now t) × (a < n) × (b < n) ⌝ }
+    requires { ⌜ (length (now column) ≡ n) × (length (now x) ≡ n) × (length (now y) ≡ n) ⌝ }
+    ensures { λ r. ⌜ Grows (over n (now (adjacency .entry)) (now (weights .entry))) a b (now (t .entry)) r (now (t .exit)) ⌝ }
+{
+    tutte::column(n, adjacency, weights, a, column);
+    border::border(t, n, column, a, x);
+    tutte::column(n, adjacency, weights, b, column);
+    border::border(t, n, column, b, y);
+    // Column b against x is minus row b against it.
+    let d = border::dot(column, x);
+    if d == 0 {
+        return false;
+    }
+    let g = Residue::make(d as u64).invert().negate();
+    update::update(t, n, x, y, g.value);
+    true
+}
+
+// The inverse for a set of vertices becomes that for the set with a and b; whether it has one.
+fn grow(n: usize, adjacency: &[u8], weights: &[u16], t: &mut [u16], a: usize, b: usize) -> bool
+    requires { ⌜ Complete n (now adjacency) (now weights) × Square n (now t) × (a < n) × (b < n) ⌝ }
+    ensures { λ r. ⌜ Grows (over n (now (adjacency .entry)) (now (weights .entry))) a b (now (t .entry)) r (now (t .exit)) ⌝ }
+{
+    let mut column = [0u16; 96];
+    let mut x = [0u16; 96];
+    let mut y = [0u16; 96];
+    grow_over(
+        n,
+        adjacency,
+        weights,
+        t,
+        a,
+        b,
+        &mut column[..n],
+        &mut x[..n],
+        &mut y[..n],
+    )
+}
+
+// Removes the newest pair a, b, after which so many pairs are made; whether the vertices then left have an inverse. Where they have none,
+// nothing is written. For proved callers.
+pub fn remove(
+    n: usize,
+    made: usize,
+    adjacency: &[u8],
+    weights: &[u16],
+    inverse: &mut [u16],
+    sequence: &mut [u8],
+    marks: &mut [u8],
+    a: usize,
+    b: usize,
+) -> bool
+    requires { ⌜ Complete n (now adjacency) (now weights) × Room n made (now inverse) (now sequence) (now marks) a b ⌝ }
+    ensures { λ r. ⌜ Removed (over n (now (adjacency .entry)) (now (weights .entry))) made a b (now (inverse .entry)) (now (sequence .entry)) (now (marks .entry)) r (now (inverse .exit)) (now (sequence .exit)) (now (marks .exit)) ⌝ }
+{
+    let size = n * n;
+    let grown = grow(n, adjacency, weights, &mut inverse[..size], a, b);
+    if !grown {
+        return false;
+    }
+    let at = made + made;
+    sequence[at] = UNUSED;
+    sequence[at + 1] = UNUSED;
+    marks[a] = 1;
+    marks[b] = 1;
+    true
 }
