@@ -31,6 +31,7 @@ use Rattle.checks.specs.declared.Ruling.{Ruling}
 use Rattle.checks.specs.declared.Ruling.the-variants.{Accepted, Refused}
 use Rattle.sequence.specs.Formed.{Left, unmarked}
 use Rattle.soundness.specs.Sound.{state, Confirmed}
+use Rattle.tutte.specs.Table.{Complete}
 use Rattle.partners.specs.Standing.{Tables, Standing, Marked}
 use Rattle.pairing.specs.Appended.{pair-below, Shrunk, shrunk-inverse, Room, Appended}
 use Rattle.calls.specs.Answers.{answer-of}
@@ -56,6 +57,11 @@ abbrev pub CalledFor : (c : Call) (n made : ℕ) (adjacency inverse sequence mar
 CalledFor c n made adjacency inverse sequence marks r inverse′ sequence′ marks′ =
     (weights : List ℕ) → Known n made adjacency weights inverse sequence marks
     → Called c n made adjacency weights inverse sequence r inverse′ sequence′ marks′
+
+-- states with the same parts
+pub same-state : (n : ℕ) (adjacency weights : List ℕ) {m m′ : ℕ} {i i′ q q′ : List ℕ} → m ≡ m′ → i ≡ i′ → q ≡ q′
+    → state n m adjacency weights i q ≡ state n m′ adjacency weights i′ q′
+same-state n adjacency weights em ei eq = rw (em, ei, eq)
 
 -- so a confirmation makes it known, or refuses every call
 module _ {n made : ℕ} {adjacency weights inverse sequence marks : List ℕ} {v : Ruling} (C : Confirmed n made adjacency weights inverse sequence marks v) where
@@ -85,6 +91,9 @@ module _ {n made : ℕ} {adjacency weights inverse sequence marks : List ℕ} (K
   pub tables : Tables n adjacency inverse marks
   tables = record { size = ok .1 .in-order .size; cells = ok .0 .0; entries = ok .0 .1 .1 .0; marks-length = K .left .size }
 
+  pub complete : Complete n adjacency weights
+  complete = record { size = ok .1 .in-order .size; cells = ok .0 .0; weights-enough = ok .0 .1 .0 }
+
   pub sequence-fits : n ≤ length sequence
   sequence-fits = ok .0 .1 .1 .1 .0
 
@@ -100,18 +109,14 @@ module _ {n made : ℕ} {adjacency weights inverse sequence marks : List ℕ} (K
   pub words : InverseTable modulus g (unmatched everything pairs) (take (n * n) inverse)
   words = table-over inverse _ (λ x h. getD-take (n * n) inverse x 0 h) (ok .1 .as-defined)
 
-  valid : Valid modulus-prime g everything pairs
+  pub valid : Valid modulus-prime g everything pairs
   valid = valid-on modulus-prime g everything made sequence (ok .1 .well-formed) (λ x l. refl)
 
   -- the sequence is that of its pairs
-  spelled : sequence ≡ spelling.sequence n pairs ++ drop n sequence
+  pub spelled : sequence ≡ spelling.sequence n pairs ++ drop n sequence
   spelled =
       sym (take-append-drop n sequence)
       ∙ ap (λ l. l ++ drop n sequence) (sym (sequence-on g made sequence sequence-fits (ok .1 .well-formed)))
-
-  -- the state of other pairs
-  same-state : {m m′ : ℕ} {i i′ q q′ : List ℕ} → m ≡ m′ → i ≡ i′ → q ≡ q′ → state n m adjacency weights i q ≡ state n m′ adjacency weights i′ q′
-  same-state em ei eq = rw (em, ei, eq)
 
   -- a pair that may be matched
   module _ (a b : ℕ) (A : Allowed modulus-prime g everything pairs a b) where
@@ -159,7 +164,7 @@ module _ {n made : ℕ} {adjacency weights inverse sequence marks : List ℕ} (K
 
       after : with-pairs g (e ∷ pairs) (W .words) s ≡ state n (made + 1) adjacency weights inverse′ sequence′
       after =
-          same-state counted (sym (W .inverse-is))
+          same-state n adjacency weights counted (sym (W .inverse-is))
           (ap (λ k. spelling.sequence n (e ∷ pairs) ++ drop k sequence) (length-sequence modulus-prime g everything (e ∷ pairs) with-pair) ∙ sym spelled′)
 
       pub appends : (c : Call) → step modulus-prime g everything pairs c ≡ record { answer = done e; pairs = e ∷ pairs }

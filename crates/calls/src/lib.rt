@@ -4,8 +4,8 @@ use checks::Refusal;
 use checks::Ruling;
 use pairing::Pair;
 ghost use mathlib.Core.Path.{_≡_};
-ghost use Rattle.matching.specs.Model.{pick, automatic};
-ghost use Rattle.calls.specs.Known.{KnownFor, CalledFor};
+ghost use Rattle.matching.specs.Model.{pick, automatic, undo};
+ghost use Rattle.calls.specs.Known.{Known, Called, KnownFor, CalledFor};
 
 // What a call answers: the pair appended or removed, or a refusal.
 pub enum Answer {
@@ -79,5 +79,53 @@ pub fn automatic(
     Reply {
         made,
         answer: Answer::Denied(refusal),
+    }
+}
+
+// Take-back: the newest pair is removed. For proved callers.
+pub fn undo(
+    n: usize,
+    made: usize,
+    adjacency: &[u8],
+    weights: &[u16],
+    inverse: &mut [u16],
+    sequence: &mut [u8],
+    marks: &mut [u8],
+) -> Reply
+    requires { ⌜ Known n made (now adjacency) (now weights) (now inverse) (now sequence) (now marks) ⌝ }
+    ensures { λ r. ⌜ Called undo n made (now (adjacency .entry)) (now (weights .entry)) (now (inverse .entry)) (now (sequence .entry)) r (now (inverse .exit)) (now (sequence .exit)) (now (marks .exit)) ⌝ }
+{
+    if made == 0 {
+        let refusal = Refusal {
+            cause: 11,
+            place: 0,
+        };
+        return Reply {
+            made,
+            answer: Answer::Denied(refusal),
+        };
+    }
+    let less = made - 1;
+    let at = less + less;
+    let a = sequence[at] as usize;
+    let b = sequence[at + 1] as usize;
+    let removed = pairing::remove(n, less, adjacency, weights, inverse, sequence, marks, a, b);
+    if !removed {
+        let refusal = Refusal {
+            cause: 10,
+            place: 0,
+        };
+        return Reply {
+            made,
+            answer: Answer::Denied(refusal),
+        };
+    }
+    let e = Pair {
+        smaller: a,
+        larger: b,
+    };
+    Reply {
+        made: less,
+        answer: Answer::Done(e),
     }
 }

@@ -31,7 +31,7 @@ onto-again new newer old l =
     ap (λ r. newer ++ r) (ap (λ k. drop k (onto new old)) l ∙ drop-at new (drop (length new) old) (length new) refl ∙ ap (λ k. drop k old) (sym l))
 
 -- the first words of a list over it
-onto-front-same : (k : ℕ) (l : List ℕ) → k ≤ length l → onto (take k l) l ≡ l
+pub onto-front-same : (k : ℕ) (l : List ℕ) → k ≤ length l → onto (take k l) l ≡ l
 onto-front-same k l h = ap (λ m. take k l ++ drop m l) (length-take-le k l h) ∙ take-append-drop k l
 
 denied-unchanged : {p : ℕ} {P : OddPrime p} {g : Graph} {S : Subset} {pairs : Pairs} (s : Step) {r : Refusal} → Change P g S pairs s
