@@ -67,6 +67,23 @@ ShowsPartners n adjacency inverse marks a row =
     (weights : List ℕ) (pairs : Pairs) → Standing (over n adjacency weights) pairs inverse marks
     → row ≡ list-of n (λ b. bit-of (pick-ruling modulus-prime (over n adjacency weights) everything pairs a b))
 
+-- causes 7 and 8 of a vertex itself
+abbrev pub vertex-causes : ℕ → Pairs → ℕ → List Cause
+vertex-causes n pairs a = needs 7 (decLt a n) ∷ needs 8 (in? (unmatched everything pairs) a) ∷ []
+
+-- the row of a where neither applies; else the row as it was
+abbrev pub written-row : decision.Ruling → (new old : List ℕ) → List ℕ
+written-row accepted new old = new
+written-row (refused r) new old = old
+
+pub record Row (g : Graph) (pairs : Pairs) (a : ℕ) (row : List ℕ) (v : decision.Ruling) (row′ : List ℕ) : Type 0 where
+  pub ruled : v ≡ decision.judge (vertex-causes (g .n) pairs a)
+  pub written : row′ ≡ written-row v (list-of (g .n) (λ b. bit-of (pick-ruling modulus-prime g everything pairs a b))) row
+
+abbrev pub RowOf : (n : ℕ) (adjacency inverse marks : List ℕ) (a : ℕ) (row : List ℕ) (v : decision.Ruling) (row′ : List ℕ) → Type 0
+RowOf n adjacency inverse marks a row v row′ =
+    (weights : List ℕ) (pairs : Pairs) → Standing (over n adjacency weights) pairs inverse marks → Row (over n adjacency weights) pairs a row v row′
+
 -- in a graph in order a cell is its mirror
 module _ {g : Graph} (order : InOrder modulus g) where
   faultless : (i j : ℕ) → i < g .n → j < g .n → kind-of (cell g i j) (cell g j i) i j ≡ 0
@@ -91,6 +108,45 @@ module _ {g : Graph} (order : InOrder modulus g) where
       go (no _) (yes l) = rw (pair-of-larger a b l) (mirror b a (h .1) (h .0) (λ e. h .2 (sym e)))
       go (no d) (no e) = absurd (h .2 (omega arith))
 
+-- the vertices left by their marks
+module _ {g : Graph} {pairs : Pairs} {inverse marks : List ℕ} (K : Standing g pairs inverse marks) (v : ℕ) (l : v < g .n) where
+  pub left-at : getD marks v 0 ≢ 0 → v ∈ unmatched everything pairs
+  left-at d = sym (K .left v l) ∙ marked-in marks v d
+
+  pub gone-at : getD marks v 0 ≡ 0 → ¬ (v ∈ unmatched everything pairs)
+  gone-at e m = clash (K .left v l ∙ m) (marked-out marks v e)
+
+-- each case of a row
+module _ {g : Graph} {pairs : Pairs} {inverse marks : List ℕ} (K : Standing g pairs inverse marks) (a : ℕ) (row : List ℕ) where
+  pub row-outside : g .n ≤ a → Row g pairs a row (refused (because 7 0)) row
+  row-outside l = record {
+    ruled = sym (judge-refused (needs 7 (decLt a (g .n))) (needs 8 (in? (unmatched everything pairs) a) ∷ []) 0 (when-at (not? (decLt a (g .n))) 0 (λ h. omega arith)));
+    written = refl;
+  }
+
+  module _ (below : a < g .n) where
+    second-cause : decision.judge (vertex-causes (g .n) pairs a) ≡ decision.judge (needs 8 (in? (unmatched everything pairs) a) ∷ [])
+    second-cause = judge-next (needs 7 (decLt a (g .n))) (needs 8 (in? (unmatched everything pairs) a) ∷ []) (unless-absent (decLt a (g .n)) 0 .1 below)
+
+    pub row-matched : getD marks a 0 ≡ 0 → Row g pairs a row (refused (because 8 0)) row
+    row-matched e = record {
+      ruled =
+          sym
+          (second-cause
+          ∙ judge-refused (needs 8 (in? (unmatched everything pairs) a)) [] 0 (when-at (not? (in? (unmatched everything pairs) a)) 0 (gone-at K a below e)));
+      written = refl;
+    }
+
+    pub row-shown : {row′ : List ℕ} → getD marks a 0 ≢ 0 → row′ ≡ list-of (g .n) (λ b. bit-of (pick-ruling modulus-prime g everything pairs a b))
+        → Row g pairs a row accepted row′
+    row-shown d q = record {
+      ruled =
+          sym
+          (second-cause
+          ∙ judge-next (needs 8 (in? (unmatched everything pairs) a)) [] (unless-absent (in? (unmatched everything pairs) a) 0 .1 (left-at K a below d)));
+      written = q;
+    }
+
 -- each cause of a pick
 module _ {g : Graph} {pairs : Pairs} {inverse marks : List ℕ} (K : Standing g pairs inverse marks) (a b : ℕ) where
   abbrev ruled : decision.Ruling
@@ -113,12 +169,6 @@ module _ {g : Graph} {pairs : Pairs} {inverse marks : List ℕ} (K : Standing g 
   not-named d = judge-refused seven (eight ∷ nine ∷ ten ∷ []) 0 (when-at (not? (named? (g .n) a b)) 0 d)
 
   module _ (h : Named (g .n) a b) where
-    pub left-at : (v : ℕ) → v < g .n → getD marks v 0 ≢ 0 → v ∈ unmatched everything pairs
-    left-at v l d = sym (K .left v l) ∙ marked-in marks v d
-
-    gone-at : (v : ℕ) → v < g .n → getD marks v 0 ≡ 0 → ¬ (v ∈ unmatched everything pairs)
-    gone-at v l e m = clash (K .left v l ∙ m) (marked-out marks v e)
-
     from-eight : ruled ≡ decision.judge (eight ∷ nine ∷ ten ∷ [])
     unfolding pick-ruling
     from-eight = judge-next seven (eight ∷ nine ∷ ten ∷ []) (unless-absent (named? (g .n) a b) 0 .1 h)
@@ -130,17 +180,17 @@ module _ {g : Graph} {pairs : Pairs} {inverse marks : List ℕ} (K : Standing g 
         (when-at (not? (both? (in? (unmatched everything pairs) a) (in? (unmatched everything pairs) b))) 0 d)
 
     pub first-matched : getD marks a 0 ≡ 0 → ruled ≡ refused (because 8 0)
-    first-matched e = matched (λ m. gone-at a (h .0) e (m .0))
+    first-matched e = matched (λ m. gone-at K a (h .0) e (m .0))
 
     pub second-matched : getD marks b 0 ≡ 0 → ruled ≡ refused (because 8 0)
-    second-matched e = matched (λ m. gone-at b (h .1) e (m .1))
+    second-matched e = matched (λ m. gone-at K b (h .1) e (m .1))
 
     module _ (ma : getD marks a 0 ≢ 0) (mb : getD marks b 0 ≢ 0) where
       from-nine : ruled ≡ decision.judge (nine ∷ ten ∷ [])
       from-nine =
           from-eight
           ∙ judge-next eight (nine ∷ ten ∷ [])
-          (unless-absent (both? (in? (unmatched everything pairs) a) (in? (unmatched everything pairs) b)) 0 .1 (left-at a (h .0) ma, left-at b (h .1) mb))
+          (unless-absent (both? (in? (unmatched everything pairs) a) (in? (unmatched everything pairs) b)) 0 .1 (left-at K a (h .0) ma, left-at K b (h .1) mb))
 
       pub not-adjacent : cell g a b ≢ 1 → ruled ≡ refused (because 9 0)
       not-adjacent d =
@@ -155,7 +205,7 @@ module _ {g : Graph} {pairs : Pairs} {inverse marks : List ℕ} (K : Standing g 
             Nonsingular modulus-prime g everything (pair-of a b ∷ pairs) ↔ ¬ Congruent modulus (table (g .n) inverse a b) 0
         remains =
             invertible-without modulus-prime (g .n) (tutte g modulus) (skew modulus-prime g everything)
-            (unmatched-without modulus-prime g everything pairs a b (h .2) (left-at a (h .0) ma) (left-at b (h .1) mb)) (h .0) (h .1) (K .held .is-inverse)
+            (unmatched-without modulus-prime g everything pairs a b (h .2) (left-at K a (h .0) ma) (left-at K b (h .1) mb)) (h .0) (h .1) (K .held .is-inverse)
 
         pub none-remains : table (g .n) inverse a b ≡ 0 → ruled ≡ refused (because 10 0)
         none-remains z =

@@ -8,7 +8,7 @@ ghost use Prim.Native.Nat.{_<_};
 ghost use lib.ListN.{length};
 ghost use Rattle.matching.specs.Calls.{bit-of};
 ghost use Rattle.checks.specs.Answers.{ruling-of};
-ghost use Rattle.partners.specs.Standing.{Tables, Judges, Finds, Marked, FindsPartner, ShowsPartners};
+ghost use Rattle.partners.specs.Standing.{Tables, Judges, Finds, Marked, FindsPartner, ShowsPartners, RowOf};
 
 // Whether a pick of a and b is accepted: causes 7 to 10. For proved callers.
 pub fn judge(
@@ -89,8 +89,8 @@ fn bit(ruling: Ruling) -> u8
     }
 }
 
-// For each vertex b, 1 where a pick of a and b is accepted, else 0. For proved callers.
-pub fn show(n: usize, adjacency: &[u8], inverse: &[u16], marks: &[u8], a: usize, row: &mut [u8])
+// For each vertex b, 1 where a pick of a and b is accepted, else 0.
+fn show(n: usize, adjacency: &[u8], inverse: &[u16], marks: &[u8], a: usize, row: &mut [u8])
     requires { ⌜ Tables n (now adjacency) (now inverse) (now marks) × (length (now row) ≡ n) ⌝ }
     ensures { λ _. ⌜ ShowsPartners n (now (adjacency .entry)) (now (inverse .entry)) (now (marks .entry)) a (now (row .exit)) ⌝ }
 {
@@ -100,4 +100,26 @@ pub fn show(n: usize, adjacency: &[u8], inverse: &[u16], marks: &[u8], a: usize,
         row[b] = bit(ruling);
         b += 1;
     }
+}
+
+// The same, unless a is no vertex or matched: causes 7 and 8. For proved callers.
+pub fn row(
+    n: usize,
+    adjacency: &[u8],
+    inverse: &[u16],
+    marks: &[u8],
+    a: usize,
+    row: &mut [u8],
+) -> Ruling
+    requires { ⌜ Tables n (now adjacency) (now inverse) (now marks) × (length (now row) ≡ n) ⌝ }
+    ensures { λ r. ⌜ RowOf n (now (adjacency .entry)) (now (inverse .entry)) (now (marks .entry)) a (now (row .entry)) (ruling-of r) (now (row .exit)) ⌝ }
+{
+    if n <= a {
+        return Ruling::Refused(Refusal { cause: 7, place: 0 });
+    }
+    if marks[a] == 0 {
+        return Ruling::Refused(Refusal { cause: 8, place: 0 });
+    }
+    show(n, adjacency, inverse, marks, a, row);
+    Ruling::Accepted
 }

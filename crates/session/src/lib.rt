@@ -8,7 +8,7 @@ ghost use Prim.Native.Nat.{_*_, _≤_};
 ghost use lib.ListN.{length};
 ghost use Rattle.residue.specs.Modulus.{modulus-prime};
 ghost use Rattle.matching.specs.Pairs.{everything};
-ghost use Rattle.matching.specs.Model.{pick, automatic};
+ghost use Rattle.matching.specs.Model.{pick, automatic, undo};
 ghost use Rattle.matching.specs.Calls.{Handles, PickedExactly, ShowsRow};
 ghost use Rattle.checks.specs.Answers.{ruling-of};
 ghost use Rattle.soundness.specs.Sound.{state};
@@ -24,6 +24,12 @@ pub struct Session {
 pub struct Returned {
     pub session: Session,
     pub answer: Answer,
+}
+
+// The session handed back, which is the one passed in, and whether a row was written.
+pub struct Shown {
+    pub session: Session,
+    pub ruling: Ruling,
 }
 
 impl Session {
@@ -86,5 +92,82 @@ impl Session {
         };
         let answer = reply.answer;
         Returned { session, answer }
+    }
+
+    // Take-back: the newest pair is removed.
+    pub fn undo(
+        self,
+        adjacency: &[u8],
+        weights: &[u16],
+        inverse: &mut [u16],
+        sequence: &mut [u8],
+    ) -> Returned
+        ensures { λ r. ⌜ Handles modulus-prime everything (state (self .size) (self .made) (now (adjacency .entry)) (now (weights .entry)) (now (inverse .entry)) (now (sequence .entry))) undo (answer-of (r .answer)) (state (r .session .size) (r .session .made) (now (adjacency .entry)) (now (weights .entry)) (now (inverse .exit)) (now (sequence .exit))) ⌝ }
+    {
+        let n = self.size;
+        let made = self.made;
+        let mut marks = [0u8; 96];
+        let ruling = soundness::confirm(n, made, adjacency, weights, inverse, sequence, &mut marks);
+        if let Ruling::Refused(refusal) = ruling {
+            return Returned {
+                session: self,
+                answer: Answer::Denied(refusal),
+            };
+        }
+        let reply = calls::undo(n, made, adjacency, weights, inverse, sequence, &mut marks[..n]);
+        let session = Session {
+            size: n,
+            made: reply.made,
+        };
+        let answer = reply.answer;
+        Returned { session, answer }
+    }
+
+    // Open row: for each vertex, whether a pick of it with a would be accepted.
+    pub fn row(
+        self,
+        adjacency: &[u8],
+        weights: &[u16],
+        inverse: &[u16],
+        sequence: &[u8],
+        a: usize,
+        row: &mut [u8],
+    ) -> Shown
+        ensures { λ r. ⌜ ShowsRow modulus-prime everything (state (self .size) (self .made) (now (adjacency .entry)) (now (weights .entry)) (now (inverse .entry)) (now (sequence .entry))) a (now (row .entry)) (ruling-of (r .ruling)) (state (r .session .size) (r .session .made) (now (adjacency .entry)) (now (weights .entry)) (now (inverse .entry)) (now (sequence .entry))) (now (row .exit)) ⌝ }
+    {
+        let n = self.size;
+        let made = self.made;
+        let lengths = checks::judge_lengths(
+            n,
+            adjacency.len(),
+            weights.len(),
+            inverse.len(),
+            sequence.len(),
+        );
+        if let Ruling::Refused(refusal) = lengths {
+            return Shown {
+                session: self,
+                ruling: Ruling::Refused(refusal),
+            };
+        }
+        if row.len() < n {
+            return Shown {
+                session: self,
+                ruling: Ruling::Refused(Refusal { cause: 2, place: 7 }),
+            };
+        }
+        let mut marks = [0u8; 96];
+        let sound = soundness::confirm(n, made, adjacency, weights, inverse, sequence, &mut marks);
+        if let Ruling::Refused(refusal) = sound {
+            return Shown {
+                session: self,
+                ruling: Ruling::Refused(refusal),
+            };
+        }
+        let ruling = partners::row(n, adjacency, inverse, &marks[..n], a, &mut row[..n]);
+        Shown {
+            session: self,
+            ruling,
+        }
     }
 }
