@@ -26,6 +26,7 @@ use Rattle.laws.specs.History.{Valid, cons, fits}
 use Rattle.laws.specs.Sound.{Sound, session-accepted}
 use Rattle.laws.specs.Sequence.{length-pairs-on, length-sequence, sequence-on, pairs-on-sequence, well-formed-sequence, valid-on}
 use Rattle.laws.specs.Determined.{table-over}
+use Rattle.laws.specs.Demand.{handles-sound}
 use Rattle.checks.specs.Answers.{ruling-of}
 use Rattle.checks.specs.declared.Ruling.{Ruling}
 use Rattle.checks.specs.declared.Ruling.the-variants.{Accepted, Refused}
@@ -227,3 +228,8 @@ module _ {n made : ℕ} {adjacency weights inverse sequence marks : List ℕ} (K
   pub automatic-step : {c r : ℕ} → Lowest (length marks) (Marked marks) c → Lowest n (OpenPartner modulus-prime g everything pairs c) r
       → step modulus-prime g everything pairs automatic ≡ record { answer = done (pair-of c r); pairs = pair-of c r ∷ pairs }
   automatic-step C R = rule-step modulus-prime g everything (picks-lowest (lowest-left C) R)
+
+  -- what a call leaves is known again
+  pub called-known : {c : Call} {r : Reply} {inverse′ sequence′ marks′ : List ℕ} → Called c n made adjacency weights inverse sequence r inverse′ sequence′ marks′
+      → Known n (r .made) adjacency weights inverse′ sequence′ marks′
+  called-known C = record { sound = handles-sound modulus-prime everything s (K .sound) (λ x l. refl) (C .handled); left = C .left }

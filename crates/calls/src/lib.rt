@@ -4,7 +4,10 @@ use checks::Refusal;
 use checks::Ruling;
 use pairing::Pair;
 ghost use mathlib.Core.Path.{_≡_};
+ghost use Prim.Native.Nat.{ℕ};
 ghost use Rattle.matching.specs.Model.{pick, automatic, undo};
+ghost use Rattle.matching.specs.Host.{answer-number};
+ghost use Rattle.calls.specs.Answers.{answer-of, Fits};
 ghost use Rattle.calls.specs.Known.{Known, Called, KnownFor, CalledFor};
 
 // What a call answers: the pair appended or removed, or a refusal.
@@ -17,6 +20,21 @@ pub enum Answer {
 pub struct Reply {
     pub made: usize,
     pub answer: Answer,
+}
+
+// The number that the host is answered, with the pairs made after the call. For proved callers.
+pub fn number(answer: Answer, made: usize) -> u64
+    requires { ⌜ Fits answer made ⌝ }
+    ensures { λ r. ⌜ ((n : ℕ) → r ≡ answer-number (answer-of answer) (record { size = n; made = made })) ⌝ }
+{
+    match answer {
+        Answer::Done(e) => {
+            768 + 65536 * (e.smaller as u64)
+                + 16777216 * (e.larger as u64)
+                + 4294967296 * (made as u64)
+        }
+        Answer::Denied(r) => r.cause as u64 + 65536 * (r.place as u64),
+    }
 }
 
 // Hand pick of a and b. For proved callers.

@@ -8,6 +8,8 @@ pub mod Display
 pub mod Model
 pub mod Calls
 pub mod Demand
+-- A list of calls as numbers.
+pub mod Replay
 pub mod Records
 pub mod Causes
 pub mod Listing

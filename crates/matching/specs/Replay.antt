@@ -1,0 +1,100 @@
+-- Replay: a list of calls as numbers, made one after another (docs/HOST.md; document 01 has no such call). Assumes nothing.
+use mathlib.Core.Path.{_≡_}
+use mathlib.Core.List.{List, [], _∷_, _++_, map}
+use Prim.Native.Nat.{ℕ, zero, suc, _+_, _*_, _/_, _%_, _<_}
+use native.Mathlib.Decide.{ℕ-discrete, decLt}
+use lib.ListN.{length, getD}
+use Rattle.modular.specs.Prime.{OddPrime}
+use Rattle.skew.specs.Choose.{choose}
+use Rattle.skew.specs.Subset.{Subset}
+use Rattle.matching.specs.Decision.{Refusal, both?, not?, First, first?, Finding, absent, at, when, found, Cause, Ruling, accepted, refused, judge}
+use Rattle.matching.specs.Session.{Session, State, graph-of, onto}
+use Rattle.matching.specs.Causes.{Lent, too-short, session-ruling}
+use Rattle.matching.specs.Model.{Call, pick, automatic, undo}
+use Rattle.matching.specs.Calls.{Returned, state-after, Runs}
+use Rattle.matching.specs.Host.{number, refusal-number, answer-number}
+use Rattle.matching.specs.Demand.{FollowsModel}
+
+-- a call is three numbers: its kind, 1 hand pick, 2 automatic pick, 3 take-back, and two vertices, which a hand pick alone looks at
+abbrev pub Kind : ℕ → Type 0
+Kind k = (0 < k) × (k < 4)
+
+abbrev pub kind? : (k : ℕ) → Dec (Kind k)
+kind? k = both? (decLt 0 k) (decLt k 4)
+
+unfoldable pub call-of : (kind a b : ℕ) → Call
+unfolding ℕ-discrete
+call-of kind a b = choose (ℕ-discrete kind 1) (pick a b) (choose (ℕ-discrete kind 2) automatic undo)
+
+-- how many whole calls a list of numbers has, the first k of them, and all
+abbrev pub call-count : List ℕ → ℕ
+call-count numbers = length numbers / 3
+
+unfoldable pub first-calls : List ℕ → ℕ → List Call
+unfolding call-of
+first-calls numbers zero = []
+first-calls numbers (suc k) =
+    first-calls numbers k ++ call-of (getD numbers (3 * k) 0) (getD numbers (3 * k + 1) 0) (getD numbers (3 * k + 2) 0) ∷ []
+
+abbrev pub calls-of : List ℕ → List Call
+calls-of numbers = first-calls numbers (call-count numbers)
+
+-- an index as a place, which has 16 bits: 65535 stands for every later one
+abbrev pub place-of : ℕ → ℕ
+place-of i = choose (decLt i 65535) i 65535
+
+abbrev pub as-place : Finding → Finding
+as-place absent = absent
+as-place (at i) = at (place-of i)
+
+-- 2: the answers do not fit; they are buffer 9, since document 02 has an eighth
+abbrev pub lent-answers : (count length : ℕ) → Lent
+lent-answers count length = record { number = 9; length = length; needed = count }
+
+-- 12: a call of another kind, at the index of the first
+unfoldable pub first-unknown : (numbers : List ℕ) → First (call-count numbers) (λ i. ¬ Kind (getD numbers (3 * i) 0))
+unfolding first? decLt
+first-unknown numbers = first? _ (call-count numbers) (λ i. not? (kind? (getD numbers (3 * i) 0)))
+
+unfoldable pub unknown-kind : List ℕ → Cause
+unfolding first-unknown
+unknown-kind numbers = record { number = 12; finding = as-place (found (first-unknown numbers)) }
+
+-- 13: the list ends within a call, at the index of that call
+abbrev pub cut-call : List ℕ → Cause
+cut-call numbers = record { number = 13; finding = when (not? (ℕ-discrete (length numbers % 3) 0)) (place-of (call-count numbers)) }
+
+-- a list is refused as a whole, before any call is made
+unfoldable pub list-ruling : List ℕ → ℕ → Ruling
+unfolding unknown-kind
+list-ruling numbers room =
+    judge (too-short (lent-answers (call-count numbers) room ∷ []) ∷ unknown-kind numbers ∷ cut-call numbers ∷ [])
+
+-- the host's numbers of what calls returned
+abbrev pub numbers-of : List Returned → List ℕ
+numbers-of returned = map (λ (r : Returned). answer-number (r .answer) (r .state .session)) returned
+
+module _ {p : ℕ} (P : OddPrime p) (S : Subset) where
+  -- a replay: the refusal of the list, or the run of its calls, whose ruling is that of the session, the state after the last call, and
+  -- the numbers of all answers over those lent
+  pub data Replays (s : State) (numbers answers : List ℕ) : Ruling → State → List ℕ → Type 0 where
+    refuses-list : (r : Refusal) → list-ruling numbers (length answers) ≡ refused r → Replays s numbers answers (refused r) s answers
+    replays : (returned : List Returned) → list-ruling numbers (length answers) ≡ accepted → Runs P S s (calls-of numbers) returned
+        → Replays s numbers answers (session-ruling p S s) (state-after s returned (length returned)) (onto (numbers-of returned) answers)
+
+  -- demand 3 of a replay on a sound session with no pairs, so on one fresh from opening: the calls of the list go as the plain model goes
+  pub record FollowsReplay (s : State) (numbers answers : List ℕ) (t : State) (answers′ : List ℕ) : Type 0 where
+    pub returned : List Returned
+    pub runs : Runs P S s (calls-of numbers) returned
+    pub left : t ≡ state-after s returned (length returned)
+    pub written : answers′ ≡ onto (numbers-of returned) answers
+    pub follows : FollowsModel P (graph-of s) S [] (calls-of numbers) s returned
+
+  abbrev pub DemandThreeOf : State → (numbers answers : List ℕ) → State → List ℕ → Type 0
+  DemandThreeOf s numbers answers t answers′ =
+      session-ruling p S s ≡ accepted → s .session .made ≡ 0 → list-ruling numbers (length answers) ≡ accepted → FollowsReplay s numbers answers t answers′
+
+-- kind 5: a list of calls made, with the pairs of the session handed back
+abbrev pub replay-number : Ruling → Session → ℕ
+replay-number accepted s = number 0 5 0 (s .made)
+replay-number (refused r) s = refusal-number r
