@@ -159,7 +159,7 @@ module _ {n made : ℕ} {adjacency weights inverse sequence marks : List ℕ} (K
         × Left n sequence′ made marks′
     denies-undo q = (
       subst (λ m. Handles modulus-prime everything (state n m adjacency weights inverse sequence) undo (denied (because 10 0)) (state n m adjacency weights inverse′ sequence′)) one-more
-      (undo-denied known-pair R q),
+          (undo-denied known-pair R q),
       subst (λ m. Left n sequence′ m marks′) one-more (denied-left known-pair R q),
     )
 
@@ -168,6 +168,6 @@ module _ {n made : ℕ} {adjacency weights inverse sequence marks : List ℕ} (K
         × Left n sequence′ less marks′
     does-undo q = (
       subst (λ m. Handles modulus-prime everything (state n m adjacency weights inverse sequence) undo (done newest) (state n less adjacency weights inverse′ sequence′)) one-more
-      (undo-done known-pair R q),
+          (undo-done known-pair R q),
       done-left known-pair R q,
     )

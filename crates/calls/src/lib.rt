@@ -29,7 +29,8 @@ pub fn number(answer: Answer, made: usize) -> u64
 {
     match answer {
         Answer::Done(e) => {
-            768 + 65536 * (e.smaller as u64)
+            768
+                + 65536 * (e.smaller as u64)
                 + 16777216 * (e.larger as u64)
                 + 4294967296 * (made as u64)
         }

@@ -65,8 +65,11 @@ module _ (g : Graph) {a b d : ℕ} {t column₁ column₂ x y : List ℕ} (ha : 
       (turned (g .n) A (skew modulus-prime g everything) (vector x) b hb
       ⊕ equals against
       ⊕ remainder (sum (g .n) (λ k. vector column₂ k * vector x k)))
-      (omega (arith, sum-equal (g .n) {f = λ k. vector column₂ k * vector x k} {g = λ k. A k b * vector x k}
-      (λ k hk. ap (λ w. w * vector x k) (ap (λ l. getD l k 0) second ∙ getD-list-of _ _ k hk))))
+      (omega (
+        arith,
+        sum-equal (g .n) {f = λ k. vector column₂ k * vector x k} {g = λ k. A k b * vector x k}
+            (λ k hk. ap (λ w. w * vector x k) (ap (λ l. getD l k 0) second ∙ getD-list-of _ _ k hk)),
+      ))
 
   pub grows-not : d ≡ 0 → Grows g a b t false t
   grows-not e = record {

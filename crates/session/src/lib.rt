@@ -114,7 +114,15 @@ impl Session {
                 answer: Answer::Denied(refusal),
             };
         }
-        let reply = calls::undo(n, made, adjacency, weights, inverse, sequence, &mut marks[..n]);
+        let reply = calls::undo(
+            n,
+            made,
+            adjacency,
+            weights,
+            inverse,
+            sequence,
+            &mut marks[..n],
+        );
         let session = Session {
             size: n,
             made: reply.made,

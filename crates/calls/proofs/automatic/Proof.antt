@@ -13,7 +13,7 @@ enum-known-lowest : tie.Need-enum-known-lowest
 enum-known-lowest c = search needs
 
 partner-requires : tie.Need-partner-requires
-partner-requires c κs = 
+partner-requires c κs =
     let start = c .before .before .before .before .before .before .before .before .before .before .before in
     tables (start .pre .1)
 
@@ -21,7 +21,7 @@ enum-known-partner : tie.Need-enum-known-partner
 enum-known-partner c = search needs
 
 append-requires : tie.Need-append-requires
-append-requires c κs = 
+append-requires c κs =
     let partner = c .before .before .before .before .before .before in
     let start = c .before .before .before .before .before .before .before .before .before .before .before .before .before .before .before .before .before .before in
     let K = start .pre .1 in

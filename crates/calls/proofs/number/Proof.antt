@@ -8,32 +8,32 @@ enum-known-answer : tie.Need-enum-known-answer
 enum-known-answer c = search needs
 
 mul-result : tie.Need-mul-result
-mul-result c = 
+mul-result c =
     let h = rw (c .before .answer .given .1) at (c .before .before .before .pre) in
     record { fits = omega arith }
 
 add-result : tie.Need-add-result
-add-result c = 
+add-result c =
     let h = rw (c .before .answer .given .1) at (c .before .before .before .pre) in
     record { fits = omega arith }
 
 mul-result-2 : tie.Need-mul-result-2
-mul-result-2 c = 
+mul-result-2 c =
     let h = rw (c .before .answer .given .1) at (c .before .before .before .pre) in
     record { fits = omega arith }
 
 add-result-2 : tie.Need-add-result-2
-add-result-2 c = 
+add-result-2 c =
     let h = rw (c .before .answer .given .1) at (c .before .before .before .pre) in
     record { fits = omega arith }
 
 mul-result-3 : tie.Need-mul-result-3
-mul-result-3 c = 
+mul-result-3 c =
     let h = rw (c .before .answer .given .1) at (c .before .before .before .pre) in
     record { fits = omega arith }
 
 add-result-3 : tie.Need-add-result-3
-add-result-3 c = 
+add-result-3 c =
     let h = rw (c .before .answer .given .1) at (c .before .before .before .pre) in
     record { fits = omega arith }
 
@@ -44,12 +44,12 @@ cast-result : tie.Need-cast-result
 cast-result c = search needs
 
 mul-result-4 : tie.Need-mul-result-4
-mul-result-4 c = 
+mul-result-4 c =
     let h = rw (c .before .before .answer2 .given .1) at (c .before .before .before .before .pre) in
     record { fits = omega arith }
 
 add-result-4 : tie.Need-add-result-4
-add-result-4 c = 
+add-result-4 c =
     let h = rw (c .before .before .answer2 .given .1) at (c .before .before .before .before .pre) in
     let k = c .struct-known .given in
     record { fits = omega (arith, k) }

@@ -26,7 +26,7 @@ enum-told : tie.Need-enum-told
 enum-told c = search needs
 
 append-requires : tie.Need-append-requires
-append-requires c κs = 
+append-requires c κs =
     let told = c .before .before .before in
     let judged = told .before .before in
     let start = judged .before .before .before .before .before .before .before in

@@ -45,7 +45,7 @@ same-length-3 : tie.Need-same-length-3
 same-length-3 c = search needs
 
 returns-2 : tie.Need-returns-2
-returns-2 c = 
+returns-2 c =
     let removed = c .before .before .before .before .before .before .before in
     let K = c .before .before .before .before .before .before .before .before .before .before .before .before .before .before .before .before .before .before .before .pre in
     let h = denies-undo K (c .before .before .before .before .before .before .before .before .before .before .before .before .before .if1 .left) (removed .remove .ensures) (not-true _ (c .if2 .taken)) in
@@ -61,7 +61,7 @@ same-length-6 : tie.Need-same-length-6
 same-length-6 c = search needs
 
 returns-3 : tie.Need-returns-3
-returns-3 c = 
+returns-3 c =
     let removed = c .before .before .before .before .before .before .before in
     let K = c .before .before .before .before .before .before .before .before .before .before .before .before .before .before .before .before .before .before .before .pre in
     let h = does-undo K (c .before .before .before .before .before .before .before .before .before .before .before .before .before .if1 .left) (removed .remove .ensures) (not-false _ (c .if2 .left)) in

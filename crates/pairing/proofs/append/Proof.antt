@@ -18,7 +18,7 @@ slice-aggregate-shrink : tie.Need-slice-aggregate-shrink
 slice-aggregate-shrink c = let start = c .before .before .before .before in sym (length-take-le _ _ (start .pre .entries))
 
 shrink-requires : tie.Need-shrink-requires
-shrink-requires c κs = 
+shrink-requires c κs =
     let start = c .before .before .before .before in
     (record { small = start .pre .size; size = length-take-le _ _ (start .pre .entries) }, start .pre .a-below, start .pre .b-below)
 
@@ -61,7 +61,7 @@ same-length-3 : tie.Need-same-length-3
 same-length-3 c = search needs
 
 returns : tie.Need-returns
-returns c = 
+returns c =
     let start = c .before .before .before .before .before .before .before .before in
     let called = c .before .before .before .shrink in
     let S = called .ensures in

@@ -24,7 +24,7 @@ slice-aggregate-grow-over-3 : tie.Need-slice-aggregate-grow-over-3
 slice-aggregate-grow-over-3 c = sym (length-part _ 96 0 (c .before .before .before .before .before .before .before .pre .1 .small))
 
 grow-over-requires : tie.Need-grow-over-requires
-grow-over-requires c κs = 
+grow-over-requires c κs =
     let start = c .before .before .before .before .before .before .before in
     let room = length-part (start .args .n) 96 0 (start .pre .1 .small) in
     (start .pre, (room, room, room))

@@ -42,7 +42,7 @@ border-requires-2 : tie.Need-border-requires-2
 border-requires-2 c κs = search needs
 
 dot-requires : tie.Need-dot-requires
-dot-requires c κs = 
+dot-requires c κs =
     let at = c .before .before .before .before in
     (column-length at ∙ sym (c .before .before .before .before .before .before .before .before .before .before .before .before .before .before .border .ensures .size), rw (column-length at) (start at .pre .0 .1 .small))
 
@@ -59,7 +59,7 @@ same-length-4 : tie.Need-same-length-4
 same-length-4 c = search needs
 
 returns : tie.Need-returns
-returns c = 
+returns c =
     let at = c .before .before .before .before .before .before in
     grows-not (graph at) (start at .pre .0 .2) (start at .pre .0 .3) (first at) (second at) (at .before .before .before .before .before .before .before .before .before .before .border .ensures) (at .border2 .ensures)
     (rw (column-length at) at (c .before .dot .ensures)) (c .if1 .taken)
@@ -77,7 +77,7 @@ negate-requires : tie.Need-negate-requires
 negate-requires c κs = search needs
 
 update-requires : tie.Need-update-requires
-update-requires c κs = 
+update-requires c κs =
     let at = c .before .before .before .before .before .before .before .before .before .before .before .before in
     (start at .pre .0 .1, at .before .before .before .before .before .before .before .before .before .before .border .ensures .size, at .border2 .ensures .size, rw (c .before .before .before .negate .ensures) (mod-lt _ (lit< tt)))
 
@@ -94,7 +94,7 @@ same-length-8 : tie.Need-same-length-8
 same-length-8 c = search needs
 
 returns-2 : tie.Need-returns-2
-returns-2 c = 
+returns-2 c =
     let at = c .before .before .before .before .before .before .before .before .before .before .before .before .before .before .before in
     let dot = c .before .before .before .before .before .before .before .before .before .before .dot in
     grows-so (graph at) (start at .pre .0 .2) (start at .pre .0 .3) (first at) (second at) (at .before .before .before .before .before .before .before .before .before .before .border .ensures) (at .border2 .ensures)

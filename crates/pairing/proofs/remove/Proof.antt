@@ -20,7 +20,7 @@ slice-aggregate-grow : tie.Need-slice-aggregate-grow
 slice-aggregate-grow c = sym (length-take-le _ _ (c .before .before .before .before .before .before .pre .1 .entries))
 
 grow-requires : tie.Need-grow-requires
-grow-requires c κs = 
+grow-requires c κs =
     let start = c .before .before .before .before .before .before in
     let R = start .pre .1 in
     (start .pre .0, record { small = R .size; size = length-take-le _ _ (R .entries) }, R .a-below, R .b-below)
@@ -29,7 +29,7 @@ same-length : tie.Need-same-length
 same-length c = search needs
 
 returns : tie.Need-returns
-returns c = 
+returns c =
     let start = c .before .before .before .before .before .before .before .before .before .before in
     let called = c .before .before .before .grow in
     let not-grown = not-true (called .result) (c .if1 .taken) in
@@ -71,7 +71,7 @@ same-length-4 : tie.Need-same-length-4
 same-length-4 c = search needs
 
 returns-2 : tie.Need-returns-2
-returns-2 c = 
+returns-2 c =
     let start = c .before .before .before .before .before .before .before .before .before .before in
     let called = c .before .before .before .grow in
     let has-grown = not-false (called .result) (c .if1 .left) in

@@ -18,7 +18,7 @@ slice-aggregate-shrink-over-2 : tie.Need-slice-aggregate-shrink-over-2
 slice-aggregate-shrink-over-2 c = sym (length-part _ 96 0 (c .before .before .before .before .pre .0 .small))
 
 shrink-over-requires : tie.Need-shrink-over-requires
-shrink-over-requires c κs = 
+shrink-over-requires c κs =
     let start = c .before .before .before .before in
     let room = length-part (start .args .n) 96 0 (start .pre .0 .small) in
     (start .pre .0, start .pre .1, start .pre .2, room, room)

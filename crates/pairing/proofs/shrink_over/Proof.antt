@@ -40,7 +40,7 @@ same-length-3 : tie.Need-same-length-3
 same-length-3 c = search needs
 
 returns : tie.Need-returns
-returns c = 
+returns c =
     let start = c .before .before .before .before .before .before .before .before .before .before .before .before .before .before .before .before .before .before .before .before .before .before in
     let make = c .before .before .before .before .before .before .before in
     shrunk (start .pre .1) (rw (start .pre .3) at (c .before .before .before .before .before .before .before .before .before .before .before .before .before .before .before .before .column .ensures)) (rw (start .pre .4) at (c .before .before .before .before .before .before .before .before .before .before .before .column2 .ensures))

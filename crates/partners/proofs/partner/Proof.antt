@@ -62,12 +62,12 @@ loop-less c = omega arith
 
 loop-again : tie.Need-loop-again Inv-loop μ-loop
 loop-again c = (
-    omega arith,
-    λ weights pairs K.
-        let at = c .before .before .before .before in
-        below-more _ _ (at .loop .inv .1 weights pairs K)
-        (not-accepted (sym (rw (c .enum-told2 .given .1) at (c .before .before .judge .ensures weights pairs K)))),
-    )
+  omega arith,
+  λ weights pairs K.
+      let at = c .before .before .before .before in
+      below-more _ _ (at .loop .inv .1 weights pairs K)
+      (not-accepted (sym (rw (c .enum-told2 .given .1) at (c .before .before .judge .ensures weights pairs K)))),
+)
 
 returns-2 : tie.Need-returns-2 Inv-loop μ-loop
 returns-2 c = λ weights pairs K k l. c .before .loop .inv .1 weights pairs K k (omega arith)

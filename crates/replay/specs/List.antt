@@ -1,0 +1,76 @@
+-- The causes that refuse a list of calls. Assumes nothing.
+use mathlib.Core.Path.{_≡_, refl, sym, ap, _∙_}
+use mathlib.Core.Logic.{_≢_}
+use mathlib.Core.List.{List, [], _∷_}
+use Prim.Native.Nat.{ℕ, _*_, _%_, _≤_, _<_}
+use native.Mathlib.Omega.{arith}
+use native.Mathlib.Decide.{ℕ-discrete, decLt}
+use lib.ListN.{length, getD}
+use Rattle.skew.specs.Choose.{choose-yes, choose-no}
+use Rattle.matching.specs.Decision.{Every, Lowest, because, Finding, absent, at, accepted, refused, Cause, judge, not?, found}
+use Rattle.matching.specs.Causes.{too-short}
+use Rattle.matching.specs.Model.{pick, automatic, undo}
+use Rattle.matching.specs.Replay.{Kind, call-of, call-count, place-of, as-place, lent-answers, first-unknown, unknown-kind, cut-call, list-ruling}
+use Rattle.laws.specs.Sound.{judge-refused, judge-next, when-at, unless-absent, found-absent, found-at, short-absent, judge-accepted}
+
+abbrev pub Unknown : List ℕ → ℕ → Type 0
+Unknown numbers i = ¬ Kind (getD numbers (3 * i) 0)
+
+module _ (numbers : List ℕ) (room : ℕ) where
+  abbrev two : Cause
+  two = too-short (lent-answers (call-count numbers) room ∷ [])
+
+  pub answers-short : room < call-count numbers → list-ruling numbers room ≡ refused (because 2 9)
+  unfolding list-ruling
+  answers-short l = judge-refused two (unknown-kind numbers ∷ cut-call numbers ∷ []) 9 (choose-yes (decLt room (call-count numbers)) (at 9) absent l)
+
+  module _ (enough : call-count numbers ≤ room) where
+    from-kinds : list-ruling numbers room ≡ judge (unknown-kind numbers ∷ cut-call numbers ∷ [])
+    unfolding list-ruling
+    from-kinds =
+        judge-next two (unknown-kind numbers ∷ cut-call numbers ∷ [])
+        (choose-no (decLt room (call-count numbers)) (at 9) absent (λ l. omega arith))
+
+    pub kind-unknown : {i : ℕ} → Lowest (call-count numbers) (Unknown numbers) i → list-ruling numbers room ≡ refused (because 12 (place-of i))
+    unfolding unknown-kind
+    kind-unknown {i} L =
+        from-kinds
+        ∙ judge-refused (unknown-kind numbers) (cut-call numbers ∷ []) (place-of i)
+        (ap as-place (found-at (first-unknown numbers) i (L .below) (L .holds) (L .none-before)))
+
+    module _ (all : Every (call-count numbers) (λ i. ¬ Unknown numbers i)) where
+      from-end : list-ruling numbers room ≡ judge (cut-call numbers ∷ [])
+      unfolding unknown-kind
+      from-end = from-kinds ∙ judge-next (unknown-kind numbers) (cut-call numbers ∷ []) (ap as-place (found-absent (first-unknown numbers) .1 all))
+
+      pub list-cut : length numbers % 3 ≢ 0 → list-ruling numbers room ≡ refused (because 13 (place-of (call-count numbers)))
+      list-cut d =
+          from-end
+          ∙ judge-refused (cut-call numbers) [] (place-of (call-count numbers))
+          (when-at (not? (ℕ-discrete (length numbers % 3) 0)) (place-of (call-count numbers)) d)
+
+      pub list-whole : length numbers % 3 ≡ 0 → list-ruling numbers room ≡ accepted
+      list-whole e =
+          from-end
+          ∙ judge-next (cut-call numbers) [] (unless-absent (ℕ-discrete (length numbers % 3) 0) (place-of (call-count numbers)) .1 e)
+
+-- there is room for the answers of a list that is not refused
+pub list-room : (numbers : List ℕ) (room : ℕ) → list-ruling numbers room ≡ accepted → call-count numbers ≤ room
+unfolding list-ruling
+list-room numbers room e =
+    short-absent (lent-answers (call-count numbers) room ∷ [])
+    .0 (judge-accepted (too-short (lent-answers (call-count numbers) room ∷ []) ∷ unknown-kind numbers ∷ cut-call numbers ∷ []) .0 e .0) .0
+
+-- the call of each kind
+module _ (kind a b : ℕ) where
+  pub call-pick : kind ≡ 1 → call-of kind a b ≡ pick a b
+  unfolding call-of
+  call-pick e = choose-yes (ℕ-discrete kind 1) _ _ e
+
+  pub call-automatic : kind ≢ 1 → kind ≡ 2 → call-of kind a b ≡ automatic
+  unfolding call-of
+  call-automatic d e = choose-no (ℕ-discrete kind 1) _ _ d ∙ choose-yes (ℕ-discrete kind 2) _ _ e
+
+  pub call-undo : kind ≢ 1 → kind ≢ 2 → call-of kind a b ≡ undo
+  unfolding call-of
+  call-undo d e = choose-no (ℕ-discrete kind 1) _ _ d ∙ choose-no (ℕ-discrete kind 2) _ _ e

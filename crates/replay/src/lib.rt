@@ -1,0 +1,209 @@
+// Replay: a list of calls as numbers, three a call, made one after another on a session that is confirmed once, since every call keeps it
+// sound. The answers are written as the host's numbers.
+use calls::Answer;
+use calls::Reply;
+use checks::Finding;
+use checks::Refusal;
+use checks::Ruling;
+use session::Session;
+ghost use mathlib.Core.Path.{_≡_};
+ghost use Prim.Native.Nat.{_*_, _/_, _≤_};
+ghost use lib.ListN.{length, replicate};
+ghost use Rattle.residue.specs.Modulus.{modulus-prime};
+ghost use Rattle.matching.specs.Pairs.{everything};
+ghost use Rattle.matching.specs.Replay.{place-of, call-of, call-count, list-ruling, Replays, DemandThreeOf};
+ghost use Rattle.checks.specs.Answers.{ruling-of};
+ghost use Rattle.soundness.specs.Sound.{state};
+ghost use Rattle.partners.specs.Standing.{Finds};
+ghost use Rattle.calls.specs.Known.{Known, Called};
+ghost use Rattle.replay.specs.List.{Unknown};
+ghost use Rattle.replay.specs.Run.{Ran};
+
+// The session handed back, and whether the calls were made: the refusal of the list, or of the session, which every call is then answered.
+pub struct Replayed {
+    pub session: Session,
+    pub ruling: Ruling,
+}
+
+// The index of the first call that is of no kind.
+fn first_unknown(list: &[u64], count: usize) -> Finding
+    requires { ⌜ 3 * count ≤ length (now list) ⌝ }
+    ensures { λ r. ⌜ Finds count (Unknown (now (list .entry))) r ⌝ }
+{
+    let mut i = 0;
+    while i < count {
+        let kind = list[3 * i];
+        if kind == 0 {
+            return Finding::At(i);
+        }
+        if 3 < kind {
+            return Finding::At(i);
+        }
+        i += 1;
+    }
+    Finding::Absent
+}
+
+// An index as a place of 16 bits.
+fn place(i: usize) -> usize
+    ensures { λ r. ⌜ r ≡ place-of i ⌝ }
+{
+    if i < 65535 { i } else { 65535 }
+}
+
+// Whether there is room for the answers, every call is of a kind, and the list ends with a whole call.
+fn judge(list: &[u64], room: usize) -> Ruling
+    ensures { λ r. ⌜ ruling-of r ≡ list-ruling (now (list .entry)) room ⌝ }
+{
+    let count = list.len() / 3;
+    if room < count {
+        return Ruling::Refused(Refusal { cause: 2, place: 9 });
+    }
+    if let Finding::At(i) = first_unknown(list, count) {
+        let at = place(i);
+        return Ruling::Refused(Refusal {
+            cause: 12,
+            place: at,
+        });
+    }
+    if list.len() % 3 != 0 {
+        let at = place(count);
+        return Ruling::Refused(Refusal {
+            cause: 13,
+            place: at,
+        });
+    }
+    Ruling::Accepted
+}
+
+// One call.
+fn call(
+    n: usize,
+    made: usize,
+    adjacency: &[u8],
+    weights: &[u16],
+    inverse: &mut [u16],
+    sequence: &mut [u8],
+    marks: &mut [u8],
+    kind: u64,
+    a: usize,
+    b: usize,
+) -> Reply
+    requires { ⌜ Known n made (now adjacency) (now weights) (now inverse) (now sequence) (now marks) ⌝ }
+    ensures { λ r. ⌜ Called (call-of kind a b) n made (now (adjacency .entry)) (now (weights .entry)) (now (inverse .entry)) (now (sequence .entry)) r (now (inverse .exit)) (now (sequence .exit)) (now (marks .exit)) ⌝ }
+{
+    if kind == 1 {
+        return calls::pick(n, made, adjacency, inverse, sequence, marks, a, b);
+    }
+    if kind == 2 {
+        return calls::automatic(n, made, adjacency, inverse, sequence, marks);
+    }
+    calls::undo(n, made, adjacency, weights, inverse, sequence, marks)
+}
+
+// All calls of a list, one for each answer, on a session that is known to be sound; the pairs made after them.
+fn run(
+    n: usize,
+    start: usize,
+    adjacency: &[u8],
+    weights: &[u16],
+    inverse: &mut [u16],
+    sequence: &mut [u8],
+    marks: &mut [u8],
+    list: &[u64],
+    answers: &mut [u64],
+) -> usize
+    requires { ⌜ Known n start (now adjacency) (now weights) (now inverse) (now sequence) (now marks) ⌝ }
+    requires { ⌜ 3 * length (now answers) ≤ length (now list) ⌝ }
+    ensures { λ made. ⌜ Ran (state n start (now (adjacency .entry)) (now (weights .entry)) (now (inverse .entry)) (now (sequence .entry))) (now (list .entry)) (now (answers .entry)) (length (now (answers .entry))) (state n made (now (adjacency .entry)) (now (weights .entry)) (now (inverse .exit)) (now (sequence .exit))) (now (answers .exit)) ⌝ }
+{
+    let mut made = start;
+    let mut i = 0;
+    while i < answers.len() {
+        let at = 3 * i;
+        let kind = list[at];
+        let a = list[at + 1] as usize;
+        let b = list[at + 2] as usize;
+        let reply = call(
+            n,
+            made,
+            adjacency,
+            weights,
+            inverse,
+            sequence,
+            marks,
+            kind,
+            a,
+            b,
+        );
+        made = reply.made;
+        let answer = reply.answer;
+        answers[i] = calls::number(answer, made);
+        i += 1;
+    }
+    made
+}
+
+// Writes a number to every place.
+fn fill(answers: &mut [u64], number: u64)
+    ensures { λ _. ⌜ now (answers .exit) ≡ replicate (length (now (answers .entry))) number ⌝ }
+{
+    let mut i = 0;
+    while i < answers.len() {
+        answers[i] = number;
+        i += 1;
+    }
+}
+
+// Makes the calls of a list.
+pub fn replay(
+    session: Session,
+    adjacency: &[u8],
+    weights: &[u16],
+    inverse: &mut [u16],
+    sequence: &mut [u8],
+    list: &[u64],
+    answers: &mut [u64],
+) -> Replayed
+    ensures run { λ r. ⌜ Replays modulus-prime everything (state (session .size) (session .made) (now (adjacency .entry)) (now (weights .entry)) (now (inverse .entry)) (now (sequence .entry))) (now (list .entry)) (now (answers .entry)) (ruling-of (r .ruling)) (state (r .session .size) (r .session .made) (now (adjacency .entry)) (now (weights .entry)) (now (inverse .exit)) (now (sequence .exit))) (now (answers .exit)) ⌝ }
+    ensures demand { λ r. ⌜ DemandThreeOf modulus-prime everything (state (session .size) (session .made) (now (adjacency .entry)) (now (weights .entry)) (now (inverse .entry)) (now (sequence .entry))) (now (list .entry)) (now (answers .entry)) (state (r .session .size) (r .session .made) (now (adjacency .entry)) (now (weights .entry)) (now (inverse .exit)) (now (sequence .exit))) (now (answers .exit)) ⌝ }
+{
+    let judged = judge(list, answers.len());
+    if let Ruling::Refused(refusal) = judged {
+        return Replayed {
+            session,
+            ruling: Ruling::Refused(refusal),
+        };
+    }
+    let n = session.size;
+    let made = session.made;
+    let count = list.len() / 3;
+    let mut marks = [0u8; 96];
+    let sound = soundness::confirm(n, made, adjacency, weights, inverse, sequence, &mut marks);
+    if let Ruling::Refused(refusal) = sound {
+        let number = calls::number(Answer::Denied(refusal), made);
+        fill(&mut answers[..count], number);
+        return Replayed {
+            session,
+            ruling: Ruling::Refused(refusal),
+        };
+    }
+    let left = run(
+        n,
+        made,
+        adjacency,
+        weights,
+        inverse,
+        sequence,
+        &mut marks[..n],
+        list,
+        &mut answers[..count],
+    );
+    Replayed {
+        session: Session {
+            size: n,
+            made: left,
+        },
+        ruling: Ruling::Accepted,
+    }
+}
