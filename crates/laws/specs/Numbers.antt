@@ -270,7 +270,7 @@ module _ {p : ℕ} (P : OddPrime p) (S : Subset) where
       )
 
   -- the pairs made after an accepted call fit their bits
-  made-small : {s t : State} {c : Call} {e : Pair} → Handles P S s c (done e) t → t .session .made < 2 ^ 8
+  pub made-small : {s t : State} {c : Call} {e : Pair} → Handles P S s c (done e) t → t .session .made < 2 ^ 8
   made-small {s} {c = c} (carries x ps words e k l i) =
       go (rw k at (change-moves _ (change P (graph-of s) S (pairs-of s) c (_, I .as-defined .is-inverse))))
     where
