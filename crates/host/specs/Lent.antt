@@ -1,34 +1,23 @@
 -- The words lent to opening in the place of byte slices: all that the graph needs. Assumes nothing.
 use mathlib.Core.Path.{_≡_, sym, _∙_}
 use mathlib.Core.List.{List, [], _∷_, _++_}
-use Prim.Native.Nat.{ℕ, _*_, _-_, _/_, _≤_, _<_}
-use native.Mathlib.Nat.{mul-le-mul}
+use Prim.Native.Nat.{ℕ, _*_, _-_, _/_, _≤_}
 use native.Mathlib.Omega.{arith}
 use native.Mathlib.Decide.{decLt}
-use lib.ListN.{length, getD, take, replicate, length-replicate}
-use lib.Seq.{length-take-le, getD-take}
-use Rattle.matching.specs.Decision.{Every, Refusal, Ruling, accepted, refused, judge}
-use Rattle.matching.specs.Graph.{Graph, largest, pair-count, over}
+use lib.ListN.{length, replicate, length-replicate}
+use Rattle.matching.specs.Decision.{Refusal, Ruling, accepted, refused, judge}
+use Rattle.matching.specs.Graph.{Graph, largest, over}
 use Rattle.matching.specs.Causes.{Lent, lent-always, lent-besides, lent-to-opening, LongEnough, too-large, too-short, opening-ruling}
 use Rattle.matching.specs.Opening.{Buffers, ruling}
 use Rattle.matching.specs.Host.{words, unpacked}
 use Rattle.laws.specs.Sound.{when-absent, short-absent}
-use Rattle.checks.specs.Weights.{needed, needed-none, needed-all}
+use Rattle.checks.specs.Weights.{needed}
 use Rattle.checks.specs.Lengths.{lengths-refused, lengths-accepted}
 use Rattle.checks.specs.Opening.{graph-causes}
 use Rattle.opening.specs.Answers.{buffers}
 use Rattle.packing.specs.Words.{words-length, words-half}
-use Rattle.host.specs.Same.{cells-same, weights-same}
-
--- the weights of a graph within the size
-pub needed-small : (n : ℕ) → needed n ≤ 4560
-needed-small n = go (decLt largest n)
-  where
-    go : Dec (largest < n) → needed n ≤ 4560
-    go (yes l) = omega (arith, needed-none n l)
-    go (no l) =
-        let k : n * (n - 1) ≤ 9120 = mul-le-mul {n₁ = n} {m₁ = n - 1} {n₂ = 96} {m₂ = 95} (omega arith) (omega arith) in
-        omega (arith, needed-all n (omega arith))
+use Rattle.crossing.specs.Same.{cells-same, weights-same}
+use Rattle.crossing.specs.Needed.{needed-weights, needed-agree, needed-counted, needed-fits}
 
 -- the size and the lengths are in order
 abbrev pub Fits : Graph → Buffers → Type 0
@@ -52,13 +41,6 @@ pub record Stores (table vector : List ℕ) (b : Buffers) : Type 0 where
 -- the buffers that opening is lent: the work buffer has as many words as the table
 abbrev pub lent : (table sequence vector : List ℕ) → Buffers
 lent table sequence vector = buffers table sequence vector (replicate (length table) 0)
-
--- of the weights, which are bytes, those that the graph needs
-abbrev pub needed-weights : ℕ → List ℕ → List ℕ
-needed-weights n weights = take (needed n) (words weights)
-
-pub needed-agree : (n : ℕ) (weights : List ℕ) → n ≤ largest → Every (pair-count n) (λ x. getD (needed-weights n weights) x 0 ≡ getD (words weights) x 0)
-needed-agree n weights h x l = getD-take (needed n) (words weights) x 0 (omega (arith, needed-all n h))
 
 -- the size and the lengths of the host's bytes, judged
 module _ (n : ℕ) (adjacency weights : List ℕ) (b : Buffers) where
@@ -86,17 +68,14 @@ module _ (n : ℕ) (adjacency weights : List ℕ) (b : Buffers) where
   room-accepted e = let k = lengths-accepted n words-long [] [] (in-words ∙ sym e) in (k .0, k .1)
 
   pub weights-fit : Fits graph (unpacked b) → 2 * needed n ≤ length weights
-  weights-fit F = omega (arith, needed-all n (F .0), F .1 .1 .0, words-length weights .0)
+  weights-fit F = needed-fits n weights (F .0) (F .1 .1 .0)
 
 -- the host's buffers b, and a table and a vector lent for n vertices
 module _ (n : ℕ) (adjacency weights : List ℕ) (b : Buffers) (F : Fits (over n adjacency (words weights)) (unpacked b))
     (table vector : List ℕ) (cells : length table ≡ n * n) (vertices : length vector ≡ n) where
-  counted : length (needed-weights n weights) ≡ pair-count n
-  counted = length-take-le (needed n) (words weights) (omega (arith, needed-all n (F .0), F .1 .1 .0)) ∙ needed-all n (F .0)
-
   lent-fits : Fits (over n adjacency (needed-weights n weights)) (lent table (b .sequence) vector)
   lent-fits =
-      (F .0, (F .1 .0, (omega (arith, counted), (omega arith, (F .1 .1 .1 .1 .0, (omega arith, (omega (arith, length-replicate {A = ℕ} (length table) 0), tt)))))))
+      (F .0, (F .1 .0, (omega (arith, needed-counted n weights (F .0) (F .1 .1 .0)), (omega arith, (F .1 .1 .1 .1 .0, (omega arith, (omega (arith, length-replicate {A = ℕ} (length table) 0), tt)))))))
 
   -- opening is refused for the same cause
   graph-same : (p : ℕ) → judge (graph-causes p (over n adjacency (needed-weights n weights))) ≡ judge (graph-causes p (over n adjacency (words weights)))

@@ -17,8 +17,9 @@ use Rattle.laws.specs.Sound.{opening-accepted}
 use Rattle.laws.specs.Numbers as numbers
 use Rattle.opening.specs.Answers.{buffers, extent}
 use Rattle.packing.specs.Words.{Bytes, stored-front}
-use Rattle.host.specs.Same.{table-same, singular-same}
-use Rattle.host.specs.Lent.{Fits, needed-weights, needed-agree, lent, ruling-same}
+use Rattle.crossing.specs.Same.{table-same, singular-same}
+use Rattle.crossing.specs.Needed.{needed-weights, needed-agree}
+use Rattle.host.specs.Lent.{Fits, lent, ruling-same}
 
 -- the parts of an answer fit their bits
 abbrev pub Small : Opening → Type 0

@@ -10,7 +10,8 @@ ghost use Rattle.matching.specs.Pairs.{everything};
 ghost use Rattle.matching.specs.Host.{words, unpacked, opening-number, HostOpens, HostOpenedExactly};
 ghost use Rattle.checks.specs.Weights.{needed};
 ghost use Rattle.opening.specs.Answers.{opening-of, buffers};
-ghost use Rattle.host.specs.Lent.{Fits, Stores, needed-weights, lent};
+ghost use Rattle.crossing.specs.Needed.{needed-weights};
+ghost use Rattle.host.specs.Lent.{Fits, Stores, lent};
 ghost use Rattle.host.specs.Opened.{Small, OpensOver};
 
 // The number that the host is answered.
@@ -21,7 +22,7 @@ fn number(o: Opening) -> u64
     match o {
         Opening::Opened(s) => 256 + 4294967296 * (s.made as u64),
         Opening::Singular(f) => 512 + 65536 * (f as u64),
-        Opening::Refused(r) => r.cause as u64 + 65536 * (r.place as u64),
+        Opening::Refused(r) => crossing::refusal_number(r),
     }
 }
 

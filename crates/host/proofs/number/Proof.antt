@@ -33,19 +33,8 @@ add-result-2 c =
 enum-known-o-3 : tie.Need-enum-known-o-3
 enum-known-o-3 c = search needs
 
-cast-result : tie.Need-cast-result
-cast-result c = search needs
-
-mul-result-3 : tie.Need-mul-result-3
-mul-result-3 c =
-    let h = rw (c .before .before .o3 .given .1) at (c .before .before .before .before .pre) in
-    record { fits = omega arith }
-
-add-result-3 : tie.Need-add-result-3
-add-result-3 c =
-    let h = rw (c .before .before .o3 .given .1) at (c .before .before .before .before .pre) in
-    let k = c .struct-known .given in
-    record { fits = omega (arith, k) }
+refusal-number-requires : tie.Need-refusal-number-requires
+refusal-number-requires c κs = rw (c .before .o3 .given .1) at (c .before .before .before .pre)
 
 returns : tie.Need-returns
 returns c = rw (c .before .o .given .1) (omega arith)
@@ -54,7 +43,7 @@ returns-2 : tie.Need-returns-2
 returns-2 c = rw (c .before .o2 .given .1) (omega arith)
 
 returns-3 : tie.Need-returns-3
-returns-3 c = rw (c .before .before .o3 .given .1) (omega arith)
+returns-3 c = rw (c .before .before .o3 .given .1) (c .refusal-number .ensures)
 
 pub number-spec : {M : Type 1} → statement M
 number-spec =
@@ -67,9 +56,7 @@ number-spec =
     mul-result-2
     add-result-2
     enum-known-o-3
-    cast-result
-    mul-result-3
-    add-result-3
+    refusal-number-requires
     returns
     returns-2
     returns-3)

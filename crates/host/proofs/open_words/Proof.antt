@@ -14,7 +14,8 @@ use Rattle.matching.specs.Pairs.{everything}
 use Rattle.matching.specs.Host.{HostOpens}
 use Rattle.checks.specs.Weights.{needed}
 use Rattle.opening.specs.Answers.{buffers}
-use Rattle.host.specs.Lent.{Stores, needed-weights, lent, weights-fit, stores}
+use Rattle.crossing.specs.Needed.{needed-weights}
+use Rattle.host.specs.Lent.{Stores, lent, weights-fit, stores}
 use Rattle.host.specs.Opened.{OpensOver, host-opens}
 use borrow.Author.Needs.{needs}
 use Rattle.host.proofs.open_words.Statement.{statement}

@@ -1,0 +1,81 @@
+-- `crossing::handle` meets its contract: a refusal for the size or the lengths writes nothing, and else words are lent. Assumes nothing.
+use mathlib.Core.Path.{_≡_}
+use Rattle.residue.specs.Modulus.{modulus, modulus-prime}
+use Rattle.matching.specs.Decision.{because, refused}
+use Rattle.matching.specs.Pairs.{everything}
+use Rattle.matching.specs.Session.{State}
+use Rattle.matching.specs.Causes.{session-ruling}
+use Rattle.matching.specs.Calls.{unsound}
+use Rattle.matching.specs.Host.{unpacked-state}
+use Rattle.laws.specs.Numbers.{handles-small}
+use Rattle.checks.specs.declared.Refusal.{Refusal}
+use Rattle.checks.specs.declared.Ruling.the-variants.{Refused}
+use Rattle.soundness.specs.Sound.{state}
+use Rattle.crossing.specs.Fit.{room-refused, room-accepted}
+use Rattle.crossing.specs.Through.{call-of, host-refuses}
+use borrow.Author.Needs.{needs}
+use Rattle.crossing.proofs.handle.Statement.{statement}
+use Rattle.crossing.proofs.handle.Tie as tie
+
+abbrev start : tie.After-judge-lengths → tie.Start
+start at = at .before .before .before .before .before
+
+abbrev host : tie.After-judge-lengths → State
+host at = let a = start at .args in state (a .n) (a .made) (a .adjacency .now) (a .weights .now) (a .inverse .now) (a .sequence .now)
+
+refuses : (at : tie.After-judge-lengths) {why : Refusal} → at .judge-lengths .result ≡ Refused why
+    → session-ruling modulus everything (unpacked-state (host at)) ≡ refused (because (why .cause) (why .place))
+refuses at e =
+    let a = start at .args in
+    room-refused (a .n) (a .made) (a .adjacency .now) (a .weights .now) (a .inverse .now) (a .sequence .now) modulus everything (rw e at (at .judge-lengths .ensures))
+
+judge-lengths-requires : tie.Need-judge-lengths-requires
+judge-lengths-requires c κs = search needs
+
+enum-known-ruling : tie.Need-enum-known-ruling
+enum-known-ruling c = search needs
+
+refusal-number-requires : tie.Need-refusal-number-requires
+refusal-number-requires c κs =
+    let at = c .before .before .before in
+    handles-small modulus-prime everything {s = unpacked-state (host at)} {c = call-of (start at .args .request)} (unsound _ (refuses at (c .before .ruling .given .1))) .place-below
+
+returns : tie.Need-returns
+returns c =
+    let at = c .before .before .before .before in
+    let a = start at .args in
+    rw (c .refusal-number .ensures)
+    (host-refuses (a .n) (a .made) (a .adjacency .now) (a .weights .now) (a .inverse .now) (a .sequence .now) (call-of (a .request)) (refuses at (c .before .before .ruling .given .1)))
+
+enum-told : tie.Need-enum-told
+enum-told c = search needs
+
+call-words-requires : tie.Need-call-words-requires
+call-words-requires c κs =
+    let told = c .before .before in
+    let at = told .before .before in
+    let a = start at .args in
+    room-accepted (a .n) (a .made) (a .adjacency .now) (a .weights .now) (a .inverse .now) (a .sequence .now) (rw (told .enum-told .given .1) at (at .judge-lengths .ensures))
+
+same-length : tie.Need-same-length
+same-length c = search needs
+
+same-length-2 : tie.Need-same-length-2
+same-length-2 c = search needs
+
+returns-2 : tie.Need-returns-2
+returns-2 c = search needs
+
+pub handle-spec : {M : Type 1} → statement M
+handle-spec =
+    tie.close
+    (tie.spec
+    judge-lengths-requires
+    enum-known-ruling
+    refusal-number-requires
+    returns
+    enum-told
+    call-words-requires
+    same-length
+    same-length-2
+    returns-2)

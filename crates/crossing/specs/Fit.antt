@@ -1,0 +1,77 @@
+-- A session call's byte slices, judged by their lengths, and the words lent in their place: all that the graph needs. Assumes nothing.
+use mathlib.Core.Path.{_≡_, sym, _∙_}
+use mathlib.Core.List.{List, [], _∷_}
+use Prim.Native.Nat.{ℕ, _*_, _/_, _≤_}
+use native.Mathlib.Omega.{arith}
+use lib.ListN.{length, take}
+use lib.Seq.{length-take-le, getD-take}
+use Rattle.skew.specs.Subset.{Subset}
+use Rattle.matching.specs.Decision.{Refusal, Ruling, accepted, refused, judge}
+use Rattle.matching.specs.Graph.{largest, over}
+use Rattle.matching.specs.Pairs.{unmatched, pairs-on}
+use Rattle.matching.specs.Session.{State, graph-of}
+use Rattle.matching.specs.Causes.{LongEnough, lent-always, lent-to-session, too-large, too-short, bad-cell, bad-weight, ill-formed, not-inverse, session-ruling}
+use Rattle.matching.specs.Host.{words, unpacked-state}
+use Rattle.checks.specs.Lengths.{lengths-refused, lengths-accepted}
+use Rattle.soundness.specs.Sound.{state}
+use Rattle.packing.specs.Words.{words-length, words-half}
+use Rattle.crossing.specs.Needed.{needed-weights, needed-agree, needed-counted}
+use Rattle.crossing.specs.Steps.{session-same}
+
+-- the size and the lengths are in order
+abbrev pub Fits : State → Type 0
+Fits s = (s .session .size ≤ largest) × LongEnough (lent-to-session s [])
+
+-- the words of the inverse that n vertices need
+abbrev pub needed-inverse : ℕ → List ℕ → List ℕ
+needed-inverse n inverse = take (n * n) (words inverse)
+
+-- the words lent in the place of a host's bytes
+abbrev pub needed-state : State → State
+needed-state s = record {
+  session = s .session;
+  adjacency = s .adjacency;
+  weights = needed-weights (s .session .size) (s .weights);
+  inverse = needed-inverse (s .session .size) (s .inverse);
+  sequence = s .sequence;
+}
+
+module _ (n made : ℕ) (adjacency weights inverse sequence : List ℕ) where
+  abbrev s : State
+  s = unpacked-state (state n made adjacency weights inverse sequence)
+
+  -- the size and the lengths of the bytes, judged
+  abbrev pub room : Ruling
+  room = judge (too-large n ∷ too-short (lent-always n (length adjacency) (length weights / 2) (length inverse / 2) (length sequence)) ∷ [])
+
+  in-words : judge (too-large n ∷ too-short (lent-to-session s []) ∷ []) ≡ room
+  in-words = rw (words-half weights, words-half inverse)
+
+  pub room-refused : (p : ℕ) (S : Subset) {r : Refusal} → refused r ≡ room → session-ruling p S s ≡ refused r
+  unfolding session-ruling
+  room-refused p S {r} e =
+      lengths-refused n (lent-to-session s []) []
+      (bad-cell (graph-of s)
+      ∷ bad-weight p (graph-of s)
+      ∷ ill-formed (graph-of s) made sequence
+      ∷ not-inverse p (graph-of s) (unmatched S (pairs-on sequence made)) (words inverse)
+      ∷ []) r (in-words ∙ sym e)
+
+  pub room-accepted : accepted ≡ room → Fits s
+  room-accepted e = let k = lengths-accepted n (lent-to-session s []) [] [] (in-words ∙ sym e) in (k .0, k .1)
+
+  module _ (F : Fits s) where
+    pub table-length : length (needed-inverse n inverse) ≡ n * n
+    table-length = length-take-le (n * n) (words inverse) (F .1 .1 .1 .0)
+
+    pub table-stores : 2 * (n * n) ≤ length inverse
+    table-stores = omega (arith, F .1 .1 .1 .0, words-length inverse .0)
+
+    needed-long : LongEnough (lent-to-session (needed-state (state n made adjacency weights inverse sequence)) [])
+    needed-long = (F .1 .0, (omega (arith, needed-counted n weights (F .0) (F .1 .1 .0)), (omega (arith, table-length), (F .1 .1 .1 .1 .0, tt))))
+
+    -- a call over them is refused for the same cause
+    pub ruling-same : (p : ℕ) (S : Subset) → session-ruling p S (needed-state (state n made adjacency weights inverse sequence)) ≡ session-ruling p S s
+    ruling-same p S =
+        session-same p S n made adjacency sequence (needed-weights n weights) (words weights) (needed-inverse n inverse) (words inverse) (needed-agree n weights (F .0))
+        (λ x l. getD-take (n * n) (words inverse) x 0 l) needed-long (F .1)

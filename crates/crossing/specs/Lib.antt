@@ -1,0 +1,6 @@
+-- Tables that agree as far as they are needed, the words lent in the place of bytes, and session calls over them.
+pub mod Same
+pub mod Steps
+pub mod Needed
+pub mod Fit
+pub mod Through

@@ -1,0 +1,38 @@
+-- Of the weights, which cross as bytes, those that a graph needs. Assumes nothing.
+use mathlib.Core.Path.{_≡_, _∙_}
+use mathlib.Core.List.{List}
+use Prim.Native.Nat.{ℕ, _*_, _-_, _≤_, _<_}
+use native.Mathlib.Nat.{mul-le-mul}
+use native.Mathlib.Omega.{arith}
+use native.Mathlib.Decide.{decLt}
+use lib.ListN.{length, getD, take}
+use lib.Seq.{length-take-le, getD-take}
+use Rattle.matching.specs.Decision.{Every}
+use Rattle.matching.specs.Graph.{largest, pair-count}
+use Rattle.matching.specs.Host.{words}
+use Rattle.checks.specs.Weights.{needed, needed-none, needed-all}
+use Rattle.packing.specs.Words.{words-length}
+
+-- the weights of a graph within the size
+pub needed-small : (n : ℕ) → needed n ≤ 4560
+needed-small n = go (decLt largest n)
+  where
+    go : Dec (largest < n) → needed n ≤ 4560
+    go (yes l) = omega (arith, needed-none n l)
+    go (no l) =
+        let k : n * (n - 1) ≤ 9120 = mul-le-mul {n₁ = n} {m₁ = n - 1} {n₂ = 96} {m₂ = 95} (omega arith) (omega arith) in
+        omega (arith, needed-all n (omega arith))
+
+abbrev pub needed-weights : ℕ → List ℕ → List ℕ
+needed-weights n weights = take (needed n) (words weights)
+
+pub needed-agree : (n : ℕ) (weights : List ℕ) → n ≤ largest → Every (pair-count n) (λ x. getD (needed-weights n weights) x 0 ≡ getD (words weights) x 0)
+needed-agree n weights h x l = getD-take (needed n) (words weights) x 0 (omega (arith, needed-all n h))
+
+-- where there are as many words as pairs
+module _ (n : ℕ) (weights : List ℕ) (size : n ≤ largest) (enough : pair-count n ≤ length (words weights)) where
+  pub needed-counted : length (needed-weights n weights) ≡ pair-count n
+  needed-counted = length-take-le (needed n) (words weights) (omega (arith, needed-all n size)) ∙ needed-all n size
+
+  pub needed-fits : 2 * needed n ≤ length weights
+  needed-fits = omega (arith, needed-all n size, words-length weights .0)

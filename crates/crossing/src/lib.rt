@@ -1,0 +1,195 @@
+// The session calls with numbers and byte slices: what the host's entries call. Words cross as two bytes, low first (docs/HOST.md).
+use calls::Answer;
+use checks::Refusal;
+use checks::Ruling;
+use pairing::Pair;
+use session::Returned;
+use session::Session;
+ghost use mathlib.Core.Path.{_≡_};
+ghost use Prim.Native.Nat.{_*_, _≤_, _<_, _^_};
+ghost use lib.ListN.{length};
+ghost use Rattle.residue.specs.Modulus.{modulus-prime};
+ghost use Rattle.matching.specs.Decision.{because};
+ghost use Rattle.matching.specs.Pairs.{everything};
+ghost use Rattle.matching.specs.Model as model;
+ghost use Rattle.matching.specs.Calls.{Handles};
+ghost use Rattle.matching.specs.Host.{refusal-number, answer-number, unpacked-state, HostHandles, HostPickedExactly};
+ghost use Rattle.soundness.specs.Sound.{state};
+ghost use Rattle.pairing.specs.Appended.{pair-is};
+ghost use Rattle.calls.specs.Answers.{answer-of};
+ghost use Rattle.crossing.specs.Fit.{Fits};
+ghost use Rattle.crossing.specs.Through.{call-of, HandlesOver, handed-back};
+
+// A session call that the host asks for.
+pub enum Request {
+    Pick(usize, usize),
+    Automatic,
+}
+
+// The number of a refusal.
+pub fn refusal_number(refusal: Refusal) -> u64
+    requires { ⌜ refusal .place < 2 ^ 16 ⌝ }
+    ensures { λ r. ⌜ r ≡ refusal-number (because (refusal .cause) (refusal .place)) ⌝ }
+{
+    refusal.cause as u64 + 65536 * (refusal.place as u64)
+}
+
+// The number of a pair, with the pairs made.
+fn pair_number(pair: Pair, made: usize) -> u64
+    requires { ⌜ (pair .smaller < 2 ^ 8) × (pair .larger < 2 ^ 8) × (made < 2 ^ 8) ⌝ }
+    ensures { λ r. ⌜ r ≡ answer-number (model.done (pair-is pair)) (record { size = 0; made = made }) ⌝ }
+{
+    768
+        + 65536 * (pair.smaller as u64)
+        + 16777216 * (pair.larger as u64)
+        + 4294967296 * (made as u64)
+}
+
+// The call on words.
+fn call(
+    request: Request,
+    session: Session,
+    adjacency: &[u8],
+    weights: &[u16],
+    inverse: &mut [u16],
+    sequence: &mut [u8],
+) -> Returned
+    ensures { λ r. ⌜ Handles modulus-prime everything (state (session .size) (session .made) (now (adjacency .entry)) (now (weights .entry)) (now (inverse .entry)) (now (sequence .entry))) (call-of request) (answer-of (r .answer)) (state (r .session .size) (r .session .made) (now (adjacency .entry)) (now (weights .entry)) (now (inverse .exit)) (now (sequence .exit))) ⌝ }
+{
+    match request {
+        Request::Pick(a, b) => session.pick(adjacency, weights, inverse, sequence, a, b),
+        Request::Automatic => session.automatic(adjacency, weights, inverse, sequence),
+    }
+}
+
+// The same with the session as numbers and answered by one. Where a pair is answered, the words of the table are stored as the inverse's bytes.
+fn call_over(
+    request: Request,
+    n: usize,
+    made: usize,
+    adjacency: &[u8],
+    weights: &[u16],
+    table: &mut [u16],
+    inverse: &mut [u8],
+    sequence: &mut [u8],
+) -> u64
+    requires { ⌜ 2 * length (now table) ≤ length (now inverse) ⌝ }
+    ensures { λ r. ⌜ HandlesOver (state n made (now (adjacency .entry)) (now (weights .entry)) (now (table .entry)) (now (sequence .entry))) (call-of request) (now (inverse .entry)) r (now (inverse .exit)) (now (sequence .exit)) ⌝ }
+{
+    let size = table.len();
+    let session = Session { size: n, made };
+    let returned = call(request, session, adjacency, weights, table, sequence);
+    let after = returned.session;
+    let answer = returned.answer;
+    match answer {
+        Answer::Done(pair) => {
+            packing::store(table, size, inverse);
+            pair_number(pair, after.made)
+        }
+        Answer::Denied(refusal) => refusal_number(refusal),
+    }
+}
+
+// The same over bytes, of which as many words are read as the graph needs.
+fn call_words(
+    request: Request,
+    n: usize,
+    made: usize,
+    adjacency: &[u8],
+    weights: &[u8],
+    inverse: &mut [u8],
+    sequence: &mut [u8],
+) -> u64
+    requires { ⌜ Fits (unpacked-state (state n made (now adjacency) (now weights) (now inverse) (now sequence))) ⌝ }
+    ensures { λ r. ⌜ HostHandles modulus-prime everything (state n made (now (adjacency .entry)) (now (weights .entry)) (now (inverse .entry)) (now (sequence .entry))) (call-of request) r (handed-back (state n made (now (adjacency .entry)) (now (weights .entry)) (now (inverse .entry)) (now (sequence .entry))) r (now (inverse .exit)) (now (sequence .exit))) ⌝ }
+{
+    // The words of the largest graph: 96 * 95 / 2 weights and 96 * 96 of the inverse.
+    let mut values = [0u16; 4560];
+    let mut table = [0u16; 9216];
+    let count = checks::weights_needed(n);
+    let size = n * n;
+    packing::unpack(weights, &mut values[..count]);
+    packing::unpack(inverse, &mut table[..size]);
+    call_over(
+        request,
+        n,
+        made,
+        adjacency,
+        &values[..count],
+        &mut table[..size],
+        inverse,
+        sequence,
+    )
+}
+
+// A call through the host. Words are taken only where the size and the lengths are in order.
+fn handle(
+    request: Request,
+    n: usize,
+    made: usize,
+    adjacency: &[u8],
+    weights: &[u8],
+    inverse: &mut [u8],
+    sequence: &mut [u8],
+) -> u64
+    ensures { λ r. ⌜ HostHandles modulus-prime everything (state n made (now (adjacency .entry)) (now (weights .entry)) (now (inverse .entry)) (now (sequence .entry))) (call-of request) r (handed-back (state n made (now (adjacency .entry)) (now (weights .entry)) (now (inverse .entry)) (now (sequence .entry))) r (now (inverse .exit)) (now (sequence .exit))) ⌝ }
+{
+    let ruling = checks::judge_lengths(
+        n,
+        adjacency.len(),
+        weights.len() / 2,
+        inverse.len() / 2,
+        sequence.len(),
+    );
+    if let Ruling::Refused(refusal) = ruling {
+        return refusal_number(refusal);
+    }
+    call_words(request, n, made, adjacency, weights, inverse, sequence)
+}
+
+// Hand pick of a and b through the host.
+pub fn pick(
+    n: usize,
+    made: usize,
+    a: usize,
+    b: usize,
+    adjacency: &[u8],
+    weights: &[u8],
+    inverse: &mut [u8],
+    sequence: &mut [u8],
+) -> u64
+    ensures handled { λ r. ⌜ HostHandles modulus-prime everything (state n made (now (adjacency .entry)) (now (weights .entry)) (now (inverse .entry)) (now (sequence .entry))) (model.pick a b) r (handed-back (state n made (now (adjacency .entry)) (now (weights .entry)) (now (inverse .entry)) (now (sequence .entry))) r (now (inverse .exit)) (now (sequence .exit))) ⌝ }
+    ensures exactly { λ r. ⌜ HostPickedExactly modulus-prime everything (state n made (now (adjacency .entry)) (now (weights .entry)) (now (inverse .entry)) (now (sequence .entry))) a b r ⌝ }
+{
+    handle(
+        Request::Pick(a, b),
+        n,
+        made,
+        adjacency,
+        weights,
+        inverse,
+        sequence,
+    )
+}
+
+// Automatic pick through the host.
+pub fn automatic(
+    n: usize,
+    made: usize,
+    adjacency: &[u8],
+    weights: &[u8],
+    inverse: &mut [u8],
+    sequence: &mut [u8],
+) -> u64
+    ensures { λ r. ⌜ HostHandles modulus-prime everything (state n made (now (adjacency .entry)) (now (weights .entry)) (now (inverse .entry)) (now (sequence .entry))) model.automatic r (handed-back (state n made (now (adjacency .entry)) (now (weights .entry)) (now (inverse .entry)) (now (sequence .entry))) r (now (inverse .exit)) (now (sequence .exit))) ⌝ }
+{
+    handle(
+        Request::Automatic,
+        n,
+        made,
+        adjacency,
+        weights,
+        inverse,
+        sequence,
+    )
+}
