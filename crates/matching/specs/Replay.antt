@@ -12,7 +12,7 @@ use Rattle.matching.specs.Session.{Session, State, graph-of, onto}
 use Rattle.matching.specs.Causes.{Lent, too-short, session-ruling}
 use Rattle.matching.specs.Model.{Call, pick, automatic, undo}
 use Rattle.matching.specs.Calls.{Returned, state-after, Runs}
-use Rattle.matching.specs.Host.{number, refusal-number, answer-number}
+use Rattle.matching.specs.Host.{bytes-of, number, refusal-number, answer-number, unpacked-state}
 use Rattle.matching.specs.Demand.{FollowsModel}
 
 -- a call is three numbers: its kind, 1 hand pick, 2 automatic pick, 3 take-back, and two vertices, which a hand pick alone looks at
@@ -98,3 +98,30 @@ module _ {p : ℕ} (P : OddPrime p) (S : Subset) where
 abbrev pub replay-number : Ruling → Session → ℕ
 replay-number accepted s = number 0 5 0 (s .made)
 replay-number (refused r) s = refusal-number r
+
+-- the state left, stored over the host's bytes; the tables are not written. On a refusal all is as it came
+abbrev pub replay-stored : Ruling → State → State → State
+replay-stored accepted left s = record {
+  session = left .session;
+  adjacency = s .adjacency;
+  weights = s .weights;
+  inverse = onto (bytes-of (left .inverse)) (s .inverse);
+  sequence = left .sequence;
+}
+replay-stored (refused r) left s = s
+
+module _ {p : ℕ} (P : OddPrime p) (S : Subset) where
+  -- replay through the host: the number, and every byte and every answer afterwards
+  pub record HostReplays (s : State) (numbers answers : List ℕ) (answer : ℕ) (after : State) (answers′ : List ℕ) : Type 0 where
+    pub verdict : Ruling
+    pub left : State
+    pub outcome : Replays P S (unpacked-state s) numbers answers verdict left answers′
+    pub numbered : answer ≡ replay-number verdict (left .session)
+    pub stored : after ≡ replay-stored verdict left s
+
+  -- demand 3 through the host: on a sound session with no pairs the calls of a list that is not refused go as the plain model goes, and the
+  -- bytes are those of the state after the last. It follows from `HostReplays`
+  abbrev pub HostDemandThree : State → (numbers answers : List ℕ) → State → List ℕ → Type 0
+  HostDemandThree s numbers answers after answers′ =
+      session-ruling p S (unpacked-state s) ≡ accepted → s .session .made ≡ 0 → list-ruling numbers (length answers) ≡ accepted
+      → (left : State) × FollowsReplay P S (unpacked-state s) numbers answers left answers′ × (after ≡ replay-stored accepted left s)

@@ -98,29 +98,34 @@ ran-filled s numbers old {r} k x e l q f =
     ∙ sym f)
     (ran-refused s numbers old e k (omega arith))
 
+-- so a list on such a session is answered, unless it is refused itself
+pub data RefusesAll (q : Refusal) (numbers answers : List ℕ) : Ruling → List ℕ → Type 0 where
+  list-first : (r : Refusal) → list-ruling numbers (length answers) ≡ refused r → RefusesAll q numbers answers (refused r) answers
+  every-call : {part : List ℕ} → list-ruling numbers (length answers) ≡ accepted → call-count numbers ≤ length answers
+      → part ≡ replicate (length (take (call-count numbers) answers)) (refusal-number q)
+      → RefusesAll q numbers answers (refused q) (part ++ drop (call-count numbers) answers)
+
 -- what the parts of a replay make of it
 module _ (s : State) (numbers answers : List ℕ) where
-  pub refused-so : {r : Refusal} → list-ruling numbers (length answers) ≡ refused r
-      → Replays modulus-prime everything s numbers answers (refused r) s answers × DemandThreeOf modulus-prime everything s numbers answers s answers
-  refused-so {r} e = (refuses-list r e, λ _ _ ok. absurd (let z : _≡_ {A = ℕ} 0 1 = cc in omega arith))
+  -- demand 3 of it
+  pub replays-follow : {t : State} {v : Ruling} {answers′ : List ℕ} → Replays modulus-prime everything s numbers answers v t answers′
+      → DemandThreeOf modulus-prime everything s numbers answers t answers′
+  unfolding pairs-on
+  replays-follow (refuses-list r e) _ _ ok = absurd (let z : _≡_ {A = ℕ} 0 1 = cc in omega arith)
+  replays-follow (replays returned ok runs) sound unpaired _ = record {
+    returned = returned;
+    runs = runs;
+    left = refl;
+    written = refl;
+    follows =
+        subst (λ ps. FollowsModel modulus-prime (graph-of s) everything ps (calls-of numbers) s returned) (ap (pairs-on (s .sequence)) unpaired)
+        (follows modulus-prime everything s sound (λ x l. refl) (calls-of numbers) returned runs);
+  }
 
   pub replayed-so : {t : State} {part : List ℕ} {v : Ruling} → list-ruling numbers (length answers) ≡ accepted → call-count numbers ≤ length answers
       → v ≡ session-ruling modulus everything s → Ran s numbers (take (call-count numbers) answers) (call-count numbers) t part
       → Replays modulus-prime everything s numbers answers v t (part ++ drop (call-count numbers) answers)
-      × DemandThreeOf modulus-prime everything s numbers answers t (part ++ drop (call-count numbers) answers)
-  unfolding pairs-on
-  replayed-so {t} {part} {v} ok room q R = (
-    rw (q, ← R .reached, stored) (replays (R .returned) ok (R .runs)),
-    λ sound none _. record {
-      returned = R .returned;
-      runs = R .runs;
-      left = sym (R .reached);
-      written = stored;
-      follows =
-          subst (λ ps. FollowsModel modulus-prime (graph-of s) everything ps (calls-of numbers) s (R .returned)) (ap (pairs-on (s .sequence)) none)
-          (follows modulus-prime everything s sound (λ x l. refl) (calls-of numbers) (R .returned) (R .runs));
-    },
-  )
+  replayed-so {t} {part} {v} ok room q R = rw (q, ← R .reached, stored) (replays (R .returned) ok (R .runs))
     where
       count : ℕ
       count = call-count numbers
@@ -133,3 +138,10 @@ module _ (s : State) (numbers answers : List ℕ) where
       stored =
           ap (λ l. l ++ drop count answers) (R .written ∙ ap (λ l. numbers-of (R .returned) ++ l) over ∙ append-nil (numbers-of (R .returned)))
           ∙ ap (λ k. numbers-of (R .returned) ++ drop k answers) (sym (numbers-length (R .returned) ∙ R .counted))
+
+  pub refused-so : {q : Refusal} {v : Ruling} {answers′ : List ℕ} → session-ruling modulus everything s ≡ refused q → RefusesAll q numbers answers v answers′
+      → Replays modulus-prime everything s numbers answers v s answers′
+  refused-so e (list-first r f) = refuses-list r f
+  refused-so e (every-call {part = part} ok room f) =
+      replayed-so {part = part} ok room (sym e)
+      (ran-filled s numbers (take (call-count numbers) answers) (call-count numbers) _ e (length-take-le (call-count numbers) answers room) refl f)

@@ -7,17 +7,18 @@ use checks::Refusal;
 use checks::Ruling;
 use session::Session;
 ghost use mathlib.Core.Path.{_≡_};
-ghost use Prim.Native.Nat.{_*_, _/_, _≤_};
+ghost use Prim.Native.Nat.{_*_, _≤_, _<_, _^_};
 ghost use lib.ListN.{length, replicate};
 ghost use Rattle.residue.specs.Modulus.{modulus-prime};
+ghost use Rattle.matching.specs.Decision.{because};
 ghost use Rattle.matching.specs.Pairs.{everything};
-ghost use Rattle.matching.specs.Replay.{place-of, call-of, call-count, list-ruling, Replays, DemandThreeOf};
+ghost use Rattle.matching.specs.Replay.{place-of, call-of, list-ruling, Replays, DemandThreeOf};
 ghost use Rattle.checks.specs.Answers.{ruling-of};
 ghost use Rattle.soundness.specs.Sound.{state};
 ghost use Rattle.partners.specs.Standing.{Finds};
 ghost use Rattle.calls.specs.Known.{Known, Called};
 ghost use Rattle.replay.specs.List.{Unknown};
-ghost use Rattle.replay.specs.Run.{Ran};
+ghost use Rattle.replay.specs.Run.{Ran, RefusesAll};
 
 // The session handed back, and whether the calls were made: the refusal of the list, or of the session, which every call is then answered.
 pub struct Replayed {
@@ -155,6 +156,21 @@ fn fill(answers: &mut [u64], number: u64)
     }
 }
 
+// A list on a session that is refused: every call of it is answered so, unless the list itself is refused.
+pub fn refuse(refusal: Refusal, list: &[u64], answers: &mut [u64]) -> Ruling
+    requires { ⌜ refusal .place < 2 ^ 16 ⌝ }
+    ensures { λ r. ⌜ RefusesAll (because (refusal .cause) (refusal .place)) (now (list .entry)) (now (answers .entry)) (ruling-of r) (now (answers .exit)) ⌝ }
+{
+    let judged = judge(list, answers.len());
+    if let Ruling::Refused(first) = judged {
+        return Ruling::Refused(first);
+    }
+    let count = list.len() / 3;
+    let number = calls::number(Answer::Denied(refusal), 0);
+    fill(&mut answers[..count], number);
+    Ruling::Refused(refusal)
+}
+
 // Makes the calls of a list.
 pub fn replay(
     session: Session,
@@ -181,12 +197,8 @@ pub fn replay(
     let mut marks = [0u8; 96];
     let sound = soundness::confirm(n, made, adjacency, weights, inverse, sequence, &mut marks);
     if let Ruling::Refused(refusal) = sound {
-        let number = calls::number(Answer::Denied(refusal), made);
-        fill(&mut answers[..count], number);
-        return Replayed {
-            session,
-            ruling: Ruling::Refused(refusal),
-        };
+        let ruling = refuse(refusal, list, answers);
+        return Replayed { session, ruling };
     }
     let left = run(
         n,

@@ -4,11 +4,12 @@ use native.Mathlib.Omega.{arith}
 use lib.Seq.{length-take-le}
 use borrow.Author.Needs.{needs}
 use Rattle.matching.specs.Model.{automatic}
+use Rattle.matching.specs.Replay.{refuses-list}
 use Rattle.calls.specs.Answers.{handles-fit}
 use Rattle.calls.specs.declared.Answer.the-variants.{Denied}
 use Rattle.calls.specs.Known.{known, not-sound, tables}
 use Rattle.replay.specs.List.{list-room}
-use Rattle.replay.specs.Run.{ran-filled, refused-so, replayed-so}
+use Rattle.replay.specs.Run.{replays-follow, replayed-so, refused-so}
 use Rattle.replay.proofs.replay.Statement.{statement}
 use Rattle.replay.proofs.replay.Tie as tie
 
@@ -19,7 +20,9 @@ enum-known-judged : tie.Need-enum-known-judged
 enum-known-judged c = search needs
 
 returns : tie.Need-returns
-returns c = refused-so _ _ _ (sym (rw (c .before .judged .given .1) at (c .before .before .before .judge .ensures)))
+returns c = 
+    let R = refuses-list _ (sym (rw (c .before .judged .given .1) at (c .before .before .before .judge .ensures))) in
+    (R, replays-follow _ _ _ R)
 
 enum-told : tie.Need-enum-told
 enum-told c = search needs
@@ -33,17 +36,8 @@ confirm-requires c κs = search needs
 enum-known-sound : tie.Need-enum-known-sound
 enum-known-sound c = search needs
 
-number-requires : tie.Need-number-requires
-number-requires c κs = handles-fit (Denied (c .before .sound .given .0 .0)) (not-sound (c .before .before .before .before .confirm .ensures) automatic (c .before .sound .given .1))
-
-slice-relend-prefix-fill : tie.Need-slice-relend-prefix-fill
-slice-relend-prefix-fill c = list-room _ _ (sym (rw (c .before .before .before .before .before .before .before .before .before .enum-told .given .1) at (c .before .before .before .before .before .before .before .before .before .before .before .judge .ensures)))
-
-slice-aggregate-fill : tie.Need-slice-aggregate-fill
-slice-aggregate-fill c = sym (length-take-le _ _ (list-room _ _ (sym (rw (c .before .before .before .before .before .before .before .before .before .before .enum-told .given .1) at (c .before .before .before .before .before .before .before .before .before .before .before .before .judge .ensures)))))
-
-fill-requires : tie.Need-fill-requires
-fill-requires c κs = search needs
+refuse-requires : tie.Need-refuse-requires
+refuse-requires c κs = handles-fit (Denied (c .before .before .sound .given .0 .0)) (not-sound (c .before .before .before .before .before .confirm .ensures) automatic (c .before .before .sound .given .1))
 
 same-length : tie.Need-same-length
 same-length c = search needs
@@ -55,13 +49,9 @@ same-length-3 : tie.Need-same-length-3
 same-length-3 c = search needs
 
 returns-2 : tie.Need-returns-2
-returns-2 c =
-    let start = c .before .before .before .before .before .before .before .before .before .before .before .before .before .before .before .before .before .before .before .before .before .before in
-    let ok = sym (rw (c .before .before .before .before .before .before .before .before .before .before .before .before .before .enum-told .given .1) at (c .before .before .before .before .before .before .before .before .before .before .before .before .before .before .before .judge .ensures)) in
-    let room = list-room (start .args .list .now) _ ok in
-    let e = rw (c .before .before .before .before .before .before .sound .given .1) at (c .before .before .before .before .before .before .before .before .before .confirm .ensures .ruled) in
-    replayed-so _ (start .args .list .now) (start .args .answers .now) ok room e
-    (ran-filled _ _ _ _ _ (sym e) (length-take-le _ _ room) (c .before .before .before .before .number .ensures 0) (c .before .before .fill .ensures))
+returns-2 c = 
+    let R = refused-so _ _ _ (sym (rw (c .before .before .before .before .before .sound .given .1) at (c .before .before .before .before .before .before .before .before .confirm .ensures .ruled))) (c .before .before .refuse .ensures) in
+    (R, replays-follow _ _ _ R)
 
 enum-told-2 : tie.Need-enum-told-2
 enum-told-2 c = search needs
@@ -79,7 +69,7 @@ slice-aggregate-run-2 : tie.Need-slice-aggregate-run-2
 slice-aggregate-run-2 c = sym (length-take-le _ _ (list-room _ _ (sym (rw (c .before .before .before .before .before .before .before .before .before .before .before .enum-told .given .1) at (c .before .before .before .before .before .before .before .before .before .before .before .before .before .judge .ensures)))))
 
 run-requires : tie.Need-run-requires
-run-requires c κs =
+run-requires c κs = 
     let start = c .before .before .before .before .before .before .before .before .before .before .before .before .before .before .before .before .before .before .before .before in
     let room = length-take-le _ (start .args .answers .now) (list-room (start .args .list .now) _ (sym (rw (c .before .before .before .before .before .before .before .before .before .before .before .enum-told .given .1) at (c .before .before .before .before .before .before .before .before .before .before .before .before .before .judge .ensures)))) in
     (known (c .before .before .before .before .before .before .before .confirm .ensures) (c .before .before .before .before .enum-told2 .given .1), omega (arith, room))
@@ -94,13 +84,15 @@ same-length-6 : tie.Need-same-length-6
 same-length-6 c = search needs
 
 returns-3 : tie.Need-returns-3
-returns-3 c =
+returns-3 c = 
     let start = c .before .before .before .before .before .before .before .before .before .before .before .before .before .before .before .before .before .before .before .before .before .before .before .before .before .before .before .before in
     let ok = sym (rw (c .before .before .before .before .before .before .before .before .before .before .before .before .before .before .before .before .before .before .before .enum-told .given .1) at (c .before .before .before .before .before .before .before .before .before .before .before .before .before .before .before .before .before .before .before .before .before .judge .ensures)) in
     let room = list-room (start .args .list .now) _ ok in
     let K = known (c .before .before .before .before .before .before .before .before .before .before .before .before .before .before .before .confirm .ensures) (c .before .before .before .before .before .before .before .before .before .before .before .before .enum-told2 .given .1) in
+    let R =
     replayed-so _ (start .args .list .now) (start .args .answers .now) ok room (sym (K .sound))
-    (rw (length-take-le _ (start .args .answers .now) room) at (c .before .before .before .before .before .before .before .run .ensures))
+    (rw (length-take-le _ (start .args .answers .now) room) at (c .before .before .before .before .before .before .before .run .ensures)) in
+    (R, replays-follow _ _ _ R)
 
 pub replay-spec : {M : Type 1} → statement M
 replay-spec =
@@ -113,10 +105,7 @@ replay-spec =
     slice-aggregate-confirm
     confirm-requires
     enum-known-sound
-    number-requires
-    slice-relend-prefix-fill
-    slice-aggregate-fill
-    fill-requires
+    refuse-requires
     same-length
     same-length-2
     same-length-3
