@@ -2,15 +2,17 @@
 use mathlib.Core.Path.{_≡_, refl, sym, ap, _∙_}
 use mathlib.Core.Logic.{_≢_}
 use mathlib.Core.List.{List, [], _∷_}
-use Prim.Native.Nat.{ℕ, _*_, _%_, _≤_, _<_}
+use Prim.Native.Nat.{ℕ, _*_, _%_, _^_, _≤_, _<_}
 use native.Mathlib.Omega.{arith}
 use native.Mathlib.Decide.{ℕ-discrete, decLt}
+use lib.Dec.{lit<}
 use lib.ListN.{length, getD}
-use Rattle.skew.specs.Choose.{choose-yes, choose-no}
-use Rattle.matching.specs.Decision.{Every, Lowest, because, Finding, absent, at, accepted, refused, Cause, judge, not?, found}
+use Rattle.skew.specs.Choose.{choose, choose-yes, choose-no}
+use Rattle.matching.specs.Decision.{Every, Lowest, Refusal, because, Finding, absent, at, when, unless, accepted, refused, Cause, judge, not?, found}
 use Rattle.matching.specs.Causes.{too-short}
 use Rattle.matching.specs.Model.{pick, automatic, undo}
 use Rattle.matching.specs.Replay.{Kind, call-of, call-count, place-of, as-place, lent-answers, first-unknown, unknown-kind, cut-call, list-ruling}
+use Rattle.laws.specs.Numbers.{Small}
 use Rattle.laws.specs.Sound.{judge-refused, judge-next, when-at, unless-absent, found-absent, found-at, short-absent, judge-accepted}
 
 abbrev pub Unknown : List ℕ → ℕ → Type 0
@@ -60,6 +62,49 @@ unfolding list-ruling
 list-room numbers room e =
     short-absent (lent-answers (call-count numbers) room ∷ [])
     .0 (judge-accepted (too-short (lent-answers (call-count numbers) room ∷ []) ∷ unknown-kind numbers ∷ cut-call numbers ∷ []) .0 e .0) .0
+
+-- the refusal of a list fits the host's number
+abbrev Fitting : List Cause → Type 0
+Fitting [] = Unit {0}
+Fitting (c ∷ later) = (1 ≤ c .number) × (c .number < 2 ^ 8) × ((x : ℕ) → c .finding ≡ at x → x < 2 ^ 16) × Fitting later
+
+judged-small : (causes : List Cause) {r : Refusal} → Fitting causes → judge causes ≡ refused r → Small r
+judged-small [] f e = absurd (let z : _≡_ {A = ℕ} 0 1 = cc in omega arith)
+judged-small (c ∷ later) {r} f e = go (c .finding) refl e (judged-small later {r = r} (f .3))
+  where
+    go : (x : Finding) → c .finding ≡ x → unless x (c .number) (judge later) ≡ refused r → (judge later ≡ refused r → Small r) → Small r
+    go absent q e next = next e
+    go (at x) q e next =
+        let w : r ≡ because (c .number) x = cc in
+        rw w (record { cause-from = f .0; cause-below = f .1; place-below = f .2 x q })
+
+place-small : (i : ℕ) → place-of i < 2 ^ 16
+place-small i = go (decLt i 65535)
+  where
+    go : Dec (i < 65535) → place-of i < 2 ^ 16
+    go (yes l) = rw (choose-yes (decLt i 65535) i 65535 l) (omega arith)
+    go (no l) = rw (choose-no (decLt i 65535) i 65535 l) (lit< tt)
+
+same-place : {x y : ℕ} → at x ≡ at y → x ≡ y
+same-place e = cc
+
+pub list-small : (numbers : List ℕ) (room : ℕ) {r : Refusal} → list-ruling numbers room ≡ refused r → Small r
+unfolding list-ruling unknown-kind
+list-small numbers room e =
+    judged-small (too-short (lent-answers (call-count numbers) room ∷ []) ∷ unknown-kind numbers ∷ cut-call numbers ∷ [])
+    (omega arith, omega arith, short (decLt room (call-count numbers)), (omega arith, omega arith, unknown (found (first-unknown numbers)), (omega arith, omega arith, cut (not? (ℕ-discrete (length numbers % 3) 0)), tt))) e
+  where
+    short : (d : Dec (room < call-count numbers)) (x : ℕ) → choose d (at 9) absent ≡ at x → x < 2 ^ 16
+    short (yes _) x q = rw (← same-place q) (lit< tt)
+    short (no _) x q = absurd (let z : _≡_ {A = ℕ} 0 1 = cc in omega arith)
+
+    unknown : (f : Finding) (x : ℕ) → as-place f ≡ at x → x < 2 ^ 16
+    unknown absent x q = absurd (let z : _≡_ {A = ℕ} 0 1 = cc in omega arith)
+    unknown (at i) x q = rw (← same-place q) (place-small i)
+
+    cut : {A : Type 0} (d : Dec A) (x : ℕ) → when d (place-of (call-count numbers)) ≡ at x → x < 2 ^ 16
+    cut (yes _) x q = rw (← same-place q) (place-small (call-count numbers))
+    cut (no _) x q = absurd (let z : _≡_ {A = ℕ} 0 1 = cc in omega arith)
 
 -- the call of each kind
 module _ (kind a b : ℕ) where

@@ -14,12 +14,12 @@ use Rattle.matching.specs.Pairs.{everything, pairs-on}
 use Rattle.matching.specs.Session.{State, graph-of, onto}
 use Rattle.matching.specs.Causes.{session-ruling}
 use Rattle.matching.specs.Model.{Call, Answer, denied}
-use Rattle.matching.specs.Calls.{Returned, state-after, Handles, unsound, Runs, none}
+use Rattle.matching.specs.Calls.{Returned, state-after, Handles, unsound, refuses, carries, Runs, none, more}
 use Rattle.matching.specs.Host.{refusal-number, answer-number}
 use Rattle.matching.specs.Replay.{call-of, call-count, first-calls, calls-of, list-ruling, numbers-of, Replays, replays, refuses-list, DemandThreeOf}
 use Rattle.matching.specs.Demand.{FollowsModel}
 use Rattle.laws.specs.Carried.{runs-more}
-use Rattle.laws.specs.Demand.{follows}
+use Rattle.laws.specs.Demand.{handles-sound, follows}
 
 -- the first k calls have led from s to t, and their answers stand over the old ones
 pub record Ran (s : State) (numbers old : List ℕ) (k : ℕ) (t : State) (answers : List ℕ) : Type 0 where
@@ -97,6 +97,24 @@ ran-filled s numbers old {r} k x e l q f =
     ∙ ap₂ (λ m y. replicate m y) (sym l) (sym q)
     ∙ sym f)
     (ran-refused s numbers old e k (omega arith))
+
+-- a run keeps a session sound, and leaves one that is not as it was
+pub runs-sound : {s : State} {calls : List Call} {returned : List Returned} → session-ruling modulus everything s ≡ accepted → Runs modulus-prime everything s calls returned
+    → session-ruling modulus everything (state-after s returned (length returned)) ≡ accepted
+unfolding state-after
+runs-sound e none = e
+runs-sound {s} e (more h rest) = runs-sound (handles-sound modulus-prime everything s e (λ x l. refl) h) rest
+
+pub runs-unsound : {s : State} {calls : List Call} {returned : List Returned} (r : Refusal) → session-ruling modulus everything s ≡ refused r
+    → Runs modulus-prime everything s calls returned → state-after s returned (length returned) ≡ s
+unfolding state-after
+runs-unsound r e none = refl
+runs-unsound {s} r e (more {c = c} h rest) = runs-unsound r (rw (stays h) e) rest ∙ stays h
+  where
+    stays : {a : Answer} {t : State} → Handles modulus-prime everything s c a t → t ≡ s
+    stays (unsound _ _) = refl
+    stays (refuses _ _ _) = refl
+    stays (carries _ _ _ q _ _ _) = absurd (let z : _≡_ {A = ℕ} 0 1 = cc in omega arith)
 
 -- so a list on such a session is answered, unless it is refused itself
 pub data RefusesAll (q : Refusal) (numbers answers : List ℕ) : Ruling → List ℕ → Type 0 where

@@ -1,0 +1,65 @@
+-- `replay_bytes::replay_over` meets its contract. Assumes nothing.
+use mathlib.Core.Path.{refl, _∙_}
+use native.Mathlib.Omega.{arith}
+use lib.ListN.{length}
+use borrow.Author.Needs.{needs}
+use Rattle.checks.specs.Answers.{ruling-of}
+use Rattle.replay_bytes.specs.Through.{extent-small, fits-number, size-unseen, replays-small}
+use Rattle.replay_bytes.proofs.replay_over.Statement.{statement}
+use Rattle.replay_bytes.proofs.replay_over.Tie as tie
+
+replay-requires : tie.Need-replay-requires
+replay-requires c κs = search needs
+
+extent-requires : tie.Need-extent-requires
+extent-requires c κs = search needs
+
+store-requires : tie.Need-store-requires
+store-requires c κs = 
+    let told = c .before .before .extent in
+    let replayed = c .before .before .before .before .before .before .before .before .before .before .replay in
+    let small = extent-small (ruling-of (replayed .result .ruling)) (length (c .before .before .before .before .before .before .before .before .before .before .before .before .before .before .before .before .before .before .before .before .before .args .table .now)) in
+    (omega (arith, told .ensures, small, replayed .kept .1 .1 .1 .0), omega (arith, told .ensures, small, c .before .before .before .before .before .before .before .before .before .before .before .before .before .before .before .before .before .before .before .before .before .pre))
+
+number-requires : tie.Need-number-requires
+number-requires c κs =
+    let replayed = c .before .before .before .before .before .before .before .before .before .before .before .before .before .replay in
+    fits-number (ruling-of (replayed .result .ruling)) (record { size = replayed .result .session .size; made = replayed .result .session .made }) (replays-small (replayed .ensures .0))
+
+same-length : tie.Need-same-length
+same-length c = search needs
+
+same-length-2 : tie.Need-same-length-2
+same-length-2 c = search needs
+
+same-length-3 : tie.Need-same-length-3
+same-length-3 c = search needs
+
+same-length-4 : tie.Need-same-length-4
+same-length-4 c = search needs
+
+returns : tie.Need-returns
+returns c = 
+    let replayed = c .before .before .before .before .before .before .before .before .before .before .before .before .before .before .replay in
+    record {
+      verdict = _;
+      left = _;
+      outcome = replayed .ensures .0;
+      numbered = c .number .ensures ∙ size-unseen (ruling-of (replayed .result .ruling)) (record { size = replayed .result .session .size; made = replayed .result .session .made });
+      stored = rw (c .before .before .before .before .before .before .extent .ensures) at (c .before .before .before .store .ensures);
+      sequence = refl;
+    }
+
+pub replay-over-spec : {M : Type 1} → statement M
+replay-over-spec =
+    tie.close
+    (tie.spec
+    replay-requires
+    extent-requires
+    store-requires
+    number-requires
+    same-length
+    same-length-2
+    same-length-3
+    same-length-4
+    returns)

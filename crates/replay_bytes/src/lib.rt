@@ -1,0 +1,125 @@
+// Replay with numbers and byte slices: what the host's entry calls. Words cross as two bytes, low first (docs/HOST.md).
+use checks::Ruling;
+use session::Session;
+ghost use mathlib.Core.Path.{_≡_};
+ghost use Prim.Native.Nat.{_*_, _≤_, _<_, _^_};
+ghost use lib.ListN.{length};
+ghost use Rattle.residue.specs.Modulus.{modulus-prime};
+ghost use Rattle.matching.specs.Pairs.{everything};
+ghost use Rattle.matching.specs.Host.{unpacked-state};
+ghost use Rattle.matching.specs.Replay.{replay-number, HostReplays, HostDemandThree};
+ghost use Rattle.checks.specs.Answers.{ruling-of};
+ghost use Rattle.soundness.specs.Sound.{state};
+ghost use Rattle.crossing.specs.Fit.{Fits};
+ghost use Rattle.crossing.specs.Through.{handed-back};
+ghost use Rattle.replay_bytes.specs.Through.{FitsNumber, extent, ReplaysOver};
+
+// The number of a replay.
+fn number(ruling: Ruling, made: usize) -> u64
+    requires { ⌜ FitsNumber (ruling-of ruling) made ⌝ }
+    ensures { λ r. ⌜ r ≡ replay-number (ruling-of ruling) (record { size = 0; made = made }) ⌝ }
+{
+    match ruling {
+        Ruling::Accepted => 1280 + 4294967296 * (made as u64),
+        Ruling::Refused(refusal) => crossing::refusal_number(refusal),
+    }
+}
+
+// Whether the words are to be stored, and so how many of them.
+fn extent(ruling: Ruling, size: usize) -> usize
+    ensures { λ r. ⌜ r ≡ extent (ruling-of ruling) size ⌝ }
+{
+    match ruling {
+        Ruling::Accepted => size,
+        Ruling::Refused(_) => 0,
+    }
+}
+
+// A replay over lent words, answered by one number. Unless it is refused, the words of the table are stored as the inverse's bytes.
+fn replay_over(
+    n: usize,
+    made: usize,
+    adjacency: &[u8],
+    weights: &[u16],
+    table: &mut [u16],
+    inverse: &mut [u8],
+    sequence: &mut [u8],
+    list: &[u64],
+    answers: &mut [u64],
+) -> u64
+    requires { ⌜ 2 * length (now table) ≤ length (now inverse) ⌝ }
+    ensures { λ r. ⌜ ReplaysOver (state n made (now (adjacency .entry)) (now (weights .entry)) (now (table .entry)) (now (sequence .entry))) (now (list .entry)) (now (answers .entry)) (now (inverse .entry)) r (now (inverse .exit)) (now (sequence .exit)) (now (answers .exit)) ⌝ }
+{
+    let size = table.len();
+    let session = Session { size: n, made };
+    let replayed = replay::replay(session, adjacency, weights, table, sequence, list, answers);
+    let after = replayed.session;
+    let ruling = replayed.ruling;
+    let count = extent(ruling, size);
+    packing::store(table, count, inverse);
+    number(ruling, after.made)
+}
+
+// The same over bytes, of which as many words are read as the graph needs.
+fn replay_words(
+    n: usize,
+    made: usize,
+    adjacency: &[u8],
+    weights: &[u8],
+    inverse: &mut [u8],
+    sequence: &mut [u8],
+    list: &[u64],
+    answers: &mut [u64],
+) -> u64
+    requires { ⌜ Fits (unpacked-state (state n made (now adjacency) (now weights) (now inverse) (now sequence))) ⌝ }
+    ensures { λ r. ⌜ HostReplays modulus-prime everything (state n made (now (adjacency .entry)) (now (weights .entry)) (now (inverse .entry)) (now (sequence .entry))) (now (list .entry)) (now (answers .entry)) r (handed-back (state n made (now (adjacency .entry)) (now (weights .entry)) (now (inverse .entry)) (now (sequence .entry))) r (now (inverse .exit)) (now (sequence .exit))) (now (answers .exit)) ⌝ }
+{
+    // The words of the largest graph: 96 * 95 / 2 weights and 96 * 96 of the inverse.
+    let mut values = [0u16; 4560];
+    let mut table = [0u16; 9216];
+    let count = checks::weights_needed(n);
+    let size = n * n;
+    packing::unpack(weights, &mut values[..count]);
+    packing::unpack(inverse, &mut table[..size]);
+    replay_over(
+        n,
+        made,
+        adjacency,
+        &values[..count],
+        &mut table[..size],
+        inverse,
+        sequence,
+        list,
+        answers,
+    )
+}
+
+// A replay through the host. Words are taken only where the size and the lengths are in order.
+pub fn replay(
+    n: usize,
+    made: usize,
+    adjacency: &[u8],
+    weights: &[u8],
+    inverse: &mut [u8],
+    sequence: &mut [u8],
+    list: &[u64],
+    answers: &mut [u64],
+) -> u64
+    ensures run { λ r. ⌜ HostReplays modulus-prime everything (state n made (now (adjacency .entry)) (now (weights .entry)) (now (inverse .entry)) (now (sequence .entry))) (now (list .entry)) (now (answers .entry)) r (handed-back (state n made (now (adjacency .entry)) (now (weights .entry)) (now (inverse .entry)) (now (sequence .entry))) r (now (inverse .exit)) (now (sequence .exit))) (now (answers .exit)) ⌝ }
+    ensures demand { λ r. ⌜ HostDemandThree modulus-prime everything (state n made (now (adjacency .entry)) (now (weights .entry)) (now (inverse .entry)) (now (sequence .entry))) (now (list .entry)) (now (answers .entry)) (handed-back (state n made (now (adjacency .entry)) (now (weights .entry)) (now (inverse .entry)) (now (sequence .entry))) r (now (inverse .exit)) (now (sequence .exit))) (now (answers .exit)) ⌝ }
+{
+    let lengths = checks::judge_lengths(
+        n,
+        adjacency.len(),
+        weights.len() / 2,
+        inverse.len() / 2,
+        sequence.len(),
+    );
+    if let Ruling::Refused(refusal) = lengths {
+        let ruling = replay::refuse(refusal, list, answers);
+        return number(ruling, 0);
+    }
+    replay_words(
+        n, made, adjacency, weights, inverse, sequence, list, answers,
+    )
+}
