@@ -21,7 +21,7 @@ ghost use Rattle.crossing.specs.Fit.{Fits};
 ghost use Rattle.crossing.specs.Through.{call-of, HandlesOver, handed-back};
 
 // A session call that the host asks for.
-pub enum Request {
+enum Request {
     Pick(usize, usize),
     Automatic,
 }
