@@ -22,12 +22,13 @@ use Rattle.crossing.specs.Needed.{needed-weights, needed-agree}
 use Rattle.crossing.specs.Steps.{step-same}
 use Rattle.crossing.specs.Fit.{Fits, needed-inverse, needed-state, table-length, ruling-same}
 use Rattle.crossing.specs.declared.Request.{Request}
-use Rattle.crossing.specs.declared.Request.the-variants.{Pick, Automatic}
+use Rattle.crossing.specs.declared.Request.the-variants.{Pick, Automatic, Undo}
 
 -- the call that is asked for
 abbrev pub call-of : Request → Call
 call-of (Pick a b) = model.pick a b
 call-of Automatic = model.automatic
+call-of Undo = model.undo
 
 -- the first words of a table, so many of them, stored over bytes where a pair is answered
 abbrev pub stored : Answer → ℕ → (table bytes : List ℕ) → List ℕ

@@ -24,6 +24,7 @@ ghost use Rattle.crossing.specs.Through.{call-of, HandlesOver, handed-ba
 enum Request {
     Pick(usize, usize),
     Automatic,
+    Undo,
 }
 
 // The number of a refusal.
@@ -59,6 +60,7 @@ fn call(
     match request {
         Request::Pick(a, b) => session.pick(adjacency, weights, inverse, sequence, a, b),
         Request::Automatic => session.automatic(adjacency, weights, inverse, sequence),
+        Request::Undo => session.undo(adjacency, weights, inverse, sequence),
     }
 }
 
@@ -185,6 +187,28 @@ pub fn automatic(
 {
     handle(
         Request::Automatic,
+        n,
+        made,
+        adjacency,
+        weights,
+        inverse,
+        sequence,
+    )
+}
+
+// Take-back through the host.
+pub fn undo(
+    n: usize,
+    made: usize,
+    adjacency: &[u8],
+    weights: &[u8],
+    inverse: &mut [u8],
+    sequence: &mut [u8],
+) -> u64
+    ensures { λ r. ⌜ HostHandles modulus-prime everything (state n made (now (adjacency .entry)) (now (weights .entry)) (now (inverse .entry)) (now (sequence .entry))) model.undo r (handed-back (state n made (now (adjacency .entry)) (now (weights .entry)) (now (inverse .entry)) (now (sequence .entry))) r (now (inverse .exit)) (now (sequence .exit))) ⌝ }
+{
+    handle(
+        Request::Undo,
         n,
         made,
         adjacency,
