@@ -4,10 +4,14 @@ use opening::Opening;
 ghost use mathlib.Core.Path.{_≡_};
 ghost use Prim.Native.Nat.{_*_, _≤_};
 ghost use lib.ListN.{length};
-ghost use Rattle.residue.specs.Modulus.{modulus};
+ghost use Rattle.residue.specs.Modulus.{modulus, modulus-prime};
 ghost use Rattle.matching.specs.Graph.{over};
 ghost use Rattle.matching.specs.Pairs.{everything};
-ghost use Rattle.matching.specs.Host.{words, unpacked, opening-number, HostOpens, HostOpenedExactly};
+ghost use Rattle.matching.specs.Host.{words, unpacked, opening-number, HostOpens, HostOpenedExactly, HostHandles, HostPickedExactly};
+ghost use Rattle.matching.specs.Model.{pick, automatic, undo};
+ghost use Rattle.matching.specs.Replay.{HostReplays, HostDemandThree};
+ghost use Rattle.soundness.specs.Sound.{state};
+ghost use Rattle.crossing.specs.Through.{handed-back};
 ghost use Rattle.checks.specs.Weights.{needed};
 ghost use Rattle.opening.specs.Answers.{opening-of, buffers};
 ghost use Rattle.crossing.specs.Needed.{needed-weights};
@@ -165,5 +169,103 @@ pub extern "C" fn saszvigom_open(
         sequence,
         witness,
         work,
+    )
+}
+
+// Hand pick of a and b: document 01, "Session calls", through the host.
+#[no_mangle]
+pub extern "C" fn saszvigom_pick(
+    n: u64,
+    made: u64,
+    a: u64,
+    b: u64,
+    adjacency: &[u8],
+    weights: &[u8],
+    inverse: &mut [u8],
+    sequence: &mut [u8],
+) -> u64
+    ensures handled { λ r. ⌜ HostHandles modulus-prime everything (state n made (now (adjacency .entry)) (now (weights .entry)) (now (inverse .entry)) (now (sequence .entry))) (pick a b) r (handed-back (state n made (now (adjacency .entry)) (now (weights .entry)) (now (inverse .entry)) (now (sequence .entry))) r (now (inverse .exit)) (now (sequence .exit))) ⌝ }
+    ensures exactly { λ r. ⌜ HostPickedExactly modulus-prime everything (state n made (now (adjacency .entry)) (now (weights .entry)) (now (inverse .entry)) (now (sequence .entry))) a b r ⌝ }
+{
+    crossing::pick(
+        n as usize,
+        made as usize,
+        a as usize,
+        b as usize,
+        adjacency,
+        weights,
+        inverse,
+        sequence,
+    )
+}
+
+// Automatic pick: the lowest vertex left, with its lowest partner.
+#[no_mangle]
+pub extern "C" fn saszvigom_automatic(
+    n: u64,
+    made: u64,
+    adjacency: &[u8],
+    weights: &[u8],
+    inverse: &mut [u8],
+    sequence: &mut [u8],
+) -> u64
+    ensures { λ r. ⌜ HostHandles modulus-prime everything (state n made (now (adjacency .entry)) (now (weights .entry)) (now (inverse .entry)) (now (sequence .entry))) automatic r (handed-back (state n made (now (adjacency .entry)) (now (weights .entry)) (now (inverse .entry)) (now (sequence .entry))) r (now (inverse .exit)) (now (sequence .exit))) ⌝ }
+{
+    crossing::automatic(
+        n as usize,
+        made as usize,
+        adjacency,
+        weights,
+        inverse,
+        sequence,
+    )
+}
+
+// Take-back: the newest pair is removed.
+#[no_mangle]
+pub extern "C" fn saszvigom_undo(
+    n: u64,
+    made: u64,
+    adjacency: &[u8],
+    weights: &[u8],
+    inverse: &mut [u8],
+    sequence: &mut [u8],
+) -> u64
+    ensures { λ r. ⌜ HostHandles modulus-prime everything (state n made (now (adjacency .entry)) (now (weights .entry)) (now (inverse .entry)) (now (sequence .entry))) undo r (handed-back (state n made (now (adjacency .entry)) (now (weights .entry)) (now (inverse .entry)) (now (sequence .entry))) r (now (inverse .exit)) (now (sequence .exit))) ⌝ }
+{
+    crossing::undo(
+        n as usize,
+        made as usize,
+        adjacency,
+        weights,
+        inverse,
+        sequence,
+    )
+}
+
+// Makes a list of calls, three numbers a call, and answers each with a number. Demand 3 is the second clause.
+#[no_mangle]
+pub extern "C" fn saszvigom_replay(
+    n: u64,
+    made: u64,
+    adjacency: &[u8],
+    weights: &[u8],
+    inverse: &mut [u8],
+    sequence: &mut [u8],
+    calls: &[u64],
+    answers: &mut [u64],
+) -> u64
+    ensures run { λ r. ⌜ HostReplays modulus-prime everything (state n made (now (adjacency .entry)) (now (weights .entry)) (now (inverse .entry)) (now (sequence .entry))) (now (calls .entry)) (now (answers .entry)) r (handed-back (state n made (now (adjacency .entry)) (now (weights .entry)) (now (inverse .entry)) (now (sequence .entry))) r (now (inverse .exit)) (now (sequence .exit))) (now (answers .exit)) ⌝ }
+    ensures demand { λ r. ⌜ HostDemandThree modulus-prime everything (state n made (now (adjacency .entry)) (now (weights .entry)) (now (inverse .entry)) (now (sequence .entry))) (now (calls .entry)) (now (answers .entry)) (handed-back (state n made (now (adjacency .entry)) (now (weights .entry)) (now (inverse .entry)) (now (sequence .entry))) r (now (inverse .exit)) (now (sequence .exit))) (now (answers .exit)) ⌝ }
+{
+    replay_bytes::replay(
+        n as usize,
+        made as usize,
+        adjacency,
+        weights,
+        inverse,
+        sequence,
+        calls,
+        answers,
     )
 }
