@@ -44,7 +44,7 @@ module _ (n made : ℕ) (adjacency weights inverse sequence : List ℕ) where
   abbrev pub room : Ruling
   room = judge (too-large n ∷ too-short (lent-always n (length adjacency) (length weights / 2) (length inverse / 2) (length sequence)) ∷ [])
 
-  in-words : judge (too-large n ∷ too-short (lent-to-session s []) ∷ []) ≡ room
+  pub in-words : judge (too-large n ∷ too-short (lent-to-session s []) ∷ []) ≡ room
   in-words = rw (words-half weights, words-half inverse)
 
   pub room-refused : (p : ℕ) (S : Subset) {r : Refusal} → refused r ≡ room → session-ruling p S s ≡ refused r
@@ -67,7 +67,7 @@ module _ (n made : ℕ) (adjacency weights inverse sequence : List ℕ) where
     pub table-stores : 2 * (n * n) ≤ length inverse
     table-stores = omega (arith, F .1 .1 .1 .0, words-length inverse .0)
 
-    needed-long : LongEnough (lent-to-session (needed-state (state n made adjacency weights inverse sequence)) [])
+    pub needed-long : LongEnough (lent-to-session (needed-state (state n made adjacency weights inverse sequence)) [])
     needed-long = (F .1 .0, (omega (arith, needed-counted n weights (F .0) (F .1 .1 .0)), (omega (arith, table-length), (F .1 .1 .1 .1 .0, tt))))
 
     -- a call over them is refused for the same cause

@@ -7,7 +7,7 @@ ghost use lib.ListN.{length};
 ghost use Rattle.residue.specs.Modulus.{modulus, modulus-prime};
 ghost use Rattle.matching.specs.Graph.{over};
 ghost use Rattle.matching.specs.Pairs.{everything};
-ghost use Rattle.matching.specs.Host.{words, unpacked, opening-number, HostOpens, HostOpenedExactly, HostHandles, HostPickedExactly};
+ghost use Rattle.matching.specs.Host.{words, unpacked, opening-number, HostOpens, HostOpenedExactly, HostHandles, HostPickedExactly, HostShowsRow};
 ghost use Rattle.matching.specs.Model.{pick, automatic, undo};
 ghost use Rattle.matching.specs.Replay.{HostReplays, HostDemandThree};
 ghost use Rattle.soundness.specs.Sound.{state};
@@ -240,6 +240,32 @@ pub extern "C" fn saszvigom_undo(
         weights,
         inverse,
         sequence,
+    )
+}
+
+// Open row: for each vertex, whether a pick of it with a would be accepted.
+#[no_mangle]
+pub extern "C" fn saszvigom_row(
+    n: u64,
+    made: u64,
+    a: u64,
+    adjacency: &[u8],
+    weights: &[u8],
+    inverse: &[u8],
+    sequence: &[u8],
+    row: &mut [u8],
+) -> u64
+    ensures { λ r. ⌜ HostShowsRow modulus-prime everything (state n made (now (adjacency .entry)) (now (weights .entry)) (now (inverse .entry)) (now (sequence .entry))) a (now (row .entry)) r (state n made (now (adjacency .entry)) (now (weights .entry)) (now (inverse .entry)) (now (sequence .entry))) (now (row .exit)) ⌝ }
+{
+    row_bytes::row(
+        n as usize,
+        made as usize,
+        a as usize,
+        adjacency,
+        weights,
+        inverse,
+        sequence,
+        row,
     )
 }
 

@@ -8,15 +8,25 @@ use lib.ListN.{length, drop, take-append-drop}
 use Rattle.lists.specs.Values.{list-of, length-list-of}
 use Rattle.residue.specs.Modulus.{modulus, modulus-prime}
 use Rattle.skew.specs.Choose.{choose-yes, choose-no}
-use Rattle.matching.specs.Decision.{Refusal, because, Finding, absent, at, Ruling, accepted, refused, Cause, judge}
+use Rattle.matching.specs.Decision.{Refusal, because, Finding, absent, at, Ruling, accepted, refused, Cause, judge, unless}
 use Rattle.matching.specs.Graph.{Graph}
 use Rattle.matching.specs.Pairs.{everything, unmatched}
 use Rattle.matching.specs.Session.{State, graph-of, pairs-of, onto}
 use Rattle.matching.specs.Causes.{Lent, lent-always, lent-row, first-short, too-large, too-short, bad-cell, bad-weight, ill-formed, not-inverse, session-ruling}
 use Rattle.matching.specs.Calls.{open-row, row-ruling, ShowsRow, shows, row-refused}
 use Rattle.laws.specs.Sound.{judge-first, judge-second, judge-refused, judge-next}
-use Rattle.checks.specs.Lengths.{lengths-refused, lengths-accepted}
+use Rattle.checks.specs.Answers.{then}
+use Rattle.checks.specs.Lengths.{short-then, lengths-refused, lengths-accepted}
 use Rattle.partners.specs.Standing.{vertex-causes, written-row, Row}
+
+-- the ruling of a list of causes, and then that of another
+judge-then : (a b : List Cause) → judge (a ++ b) ≡ then (judge a) (judge b)
+judge-then [] b = refl
+judge-then (c ∷ a) b = go (c .finding) (judge-then a b)
+  where
+    go : (f : Finding) → judge (a ++ b) ≡ then (judge a) (judge b) → unless f (c .number) (judge (a ++ b)) ≡ then (unless f (c .number) (judge a)) (judge b)
+    go absent e = e
+    go (at x) e = refl
 
 module _ (s : State) (a : ℕ) (row : List ℕ) where
   abbrev n : ℕ
@@ -49,6 +59,15 @@ module _ (s : State) (a : ℕ) (row : List ℕ) where
   module _ (lengths : accepted ≡ judge (too-large n ∷ too-short always ∷ [])) where
     from-row : row-ruling modulus-prime everything s a row ≡ judge (too-short (lent-row n (length row) ∷ []) ∷ (rest ++ vertex-causes n (pairs-of s) a))
     from-row = whole ∙ lengths-accepted n always (lent-row n (length row) ∷ []) (rest ++ vertex-causes n (pairs-of s) a) (sym lengths) .2
+
+    -- so it is the row's length, then the session, then the vertex that are judged
+    pub row-parts : row-ruling modulus-prime everything s a row
+        ≡ then (judge (too-short (lent-row n (length row) ∷ []) ∷ [])) (then (session-ruling modulus everything s) (judge (vertex-causes n (pairs-of s) a)))
+    row-parts =
+        from-row
+        ∙ short-then (lent-row n (length row) ∷ []) (rest ++ vertex-causes n (pairs-of s) a)
+        ∙ ap (then (judge (too-short (lent-row n (length row) ∷ []) ∷ [])))
+        (judge-then rest (vertex-causes n (pairs-of s) a) ∙ ap (λ v. then v (judge (vertex-causes n (pairs-of s) a))) (sym (sound-rest lengths)))
 
     pub row-short : length row < n → ShowsRow modulus-prime everything s a row (refused (because 2 7)) s row
     row-short l =

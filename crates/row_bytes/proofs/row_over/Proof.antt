@@ -1,0 +1,29 @@
+-- `row_bytes::row_over` meets its contract. Assumes nothing.
+use mathlib.Core.Path.{_∙_}
+use borrow.Author.Needs.{needs}
+use Rattle.checks.specs.Answers.{ruling-of}
+use Rattle.row_bytes.specs.Through.{size-unseen, shown-fits, state-same}
+use Rattle.row_bytes.proofs.row_over.Statement.{statement}
+use Rattle.row_bytes.proofs.row_over.Tie as tie
+
+row-requires : tie.Need-row-requires
+row-requires c κs = search needs
+
+number-requires : tie.Need-number-requires
+number-requires c κs = shown-fits _ (c .before .before .before .before .before .before .before .before .before .pre) _ _ (c .before .before .row .ensures)
+
+same-length : tie.Need-same-length
+same-length c = search needs
+
+returns : tie.Need-returns
+returns c = 
+    let shown = c .before .before .before .row in
+    let a = c .before .before .before .before .before .before .before .before .before .before .args in
+    record {
+      verdict = _;
+      outcome = state-same (shown .ensures);
+      numbered = c .number .ensures ∙ size-unseen (ruling-of (shown .result .ruling)) (record { size = a .n; made = a .made });
+    }
+
+pub row-over-spec : {M : Type 1} → statement M
+row-over-spec = tie.close (tie.spec row-requires number-requires same-length returns)

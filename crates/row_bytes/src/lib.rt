@@ -1,0 +1,101 @@
+// Open row with numbers and byte slices: what the host's entry calls. Words cross as two bytes, low first (docs/HOST.md).
+use checks::Ruling;
+use session::Session;
+ghost use mathlib.Core.Path.{_≡_};
+ghost use Rattle.residue.specs.Modulus.{modulus-prime};
+ghost use Rattle.matching.specs.Pairs.{everything};
+ghost use Rattle.matching.specs.Host.{unpacked-state, row-number, HostShowsRow};
+ghost use Rattle.checks.specs.Answers.{ruling-of};
+ghost use Rattle.soundness.specs.Sound.{state};
+ghost use Rattle.crossing.specs.Fit.{Fits};
+ghost use Rattle.row_bytes.specs.Through.{FitsNumber, ShowsOver};
+
+// The number of a row.
+fn number(ruling: Ruling, made: usize) -> u64
+    requires { ⌜ FitsNumber (ruling-of ruling) made ⌝ }
+    ensures { λ r. ⌜ r ≡ row-number (ruling-of ruling) (record { size = 0; made = made }) ⌝ }
+{
+    match ruling {
+        Ruling::Accepted => 1024 + 4294967296 * (made as u64),
+        Ruling::Refused(refusal) => crossing::refusal_number(refusal),
+    }
+}
+
+// Open row over lent words, answered by one number.
+fn row_over(
+    n: usize,
+    made: usize,
+    a: usize,
+    adjacency: &[u8],
+    weights: &[u16],
+    inverse: &[u16],
+    sequence: &[u8],
+    row: &mut [u8],
+) -> u64
+    requires { ⌜ Fits (state n made (now adjacency) (now weights) (now inverse) (now sequence)) ⌝ }
+    ensures { λ r. ⌜ ShowsOver (state n made (now (adjacency .entry)) (now (weights .entry)) (now (inverse .entry)) (now (sequence .entry))) a (now (row .entry)) r (now (row .exit)) ⌝ }
+{
+    let session = Session { size: n, made };
+    let shown = session.row(adjacency, weights, inverse, sequence, a, row);
+    let ruling = shown.ruling;
+    number(ruling, made)
+}
+
+// The same over bytes, of which as many words are read as the graph needs.
+fn row_words(
+    n: usize,
+    made: usize,
+    a: usize,
+    adjacency: &[u8],
+    weights: &[u8],
+    inverse: &[u8],
+    sequence: &[u8],
+    row: &mut [u8],
+) -> u64
+    requires { ⌜ Fits (unpacked-state (state n made (now adjacency) (now weights) (now inverse) (now sequence))) ⌝ }
+    ensures { λ r. ⌜ HostShowsRow modulus-prime everything (state n made (now (adjacency .entry)) (now (weights .entry)) (now (inverse .entry)) (now (sequence .entry))) a (now (row .entry)) r (state n made (now (adjacency .entry)) (now (weights .entry)) (now (inverse .entry)) (now (sequence .entry))) (now (row .exit)) ⌝ }
+{
+    // The words of the largest graph: 96 * 95 / 2 weights and 96 * 96 of the inverse.
+    let mut values = [0u16; 4560];
+    let mut table = [0u16; 9216];
+    let count = checks::weights_needed(n);
+    let size = n * n;
+    packing::unpack(weights, &mut values[..count]);
+    packing::unpack(inverse, &mut table[..size]);
+    row_over(
+        n,
+        made,
+        a,
+        adjacency,
+        &values[..count],
+        &table[..size],
+        sequence,
+        row,
+    )
+}
+
+// Open row through the host. Words are taken only where the size and the lengths are in order.
+pub fn row(
+    n: usize,
+    made: usize,
+    a: usize,
+    adjacency: &[u8],
+    weights: &[u8],
+    inverse: &[u8],
+    sequence: &[u8],
+    row: &mut [u8],
+) -> u64
+    ensures { λ r. ⌜ HostShowsRow modulus-prime everything (state n made (now (adjacency .entry)) (now (weights .entry)) (now (inverse .entry)) (now (sequence .entry))) a (now (row .entry)) r (state n made (now (adjacency .entry)) (now (weights .entry)) (now (inverse .entry)) (now (sequence .entry))) (now (row .exit)) ⌝ }
+{
+    let lengths = checks::judge_lengths(
+        n,
+        adjacency.len(),
+        weights.len() / 2,
+        inverse.len() / 2,
+        sequence.len(),
+    );
+    if let Ruling::Refused(refusal) = lengths {
+        return crossing::refusal_number(refusal);
+    }
+    row_words(n, made, a, adjacency, weights, inverse, sequence, row)
+}
