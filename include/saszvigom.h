@@ -227,9 +227,10 @@ uint64_t saszvigom_open(uint64_t n,
  *
  * Here made is the number of pairs after the call, which is the made of the next
  * call: read these 8 bits and no more, by saszvigom_made_of. A refused call
- * writes nothing, and its session is the one that was sent: the next call is
- * sent the same made again, which is not in the number. Where several causes
- * apply, the lowest is returned.
+ * writes nothing, but for the answers that saszvigom_replay may write, and its
+ * session is the one that was sent: the next call is sent the same made again,
+ * which is not in the number. Where several causes apply, the lowest is
+ * returned.
  */
 
 /*
@@ -329,8 +330,9 @@ uint64_t saszvigom_row(uint64_t n, uint64_t made, uint64_t a,
  * Else every call is made and answered, also after one that is refused. If the
  * session sent is sound, the number is of kind SASZVIGOM_REPLAYED, with the
  * pairs made at the end. If not, it is the refusal, a cause from 1 to 6 with its
- * place, which is the answer of every call too, and the session is the one sent.
- * An empty list is in order, and tells whether a session is sound.
+ * place, which is written as the answer of every call too; nothing else is
+ * written, and the session is the one sent. An empty list is in order, and tells
+ * whether a session is sound.
  */
 uint64_t saszvigom_replay(uint64_t n, uint64_t made,
                           const uint8_t *adjacency, size_t adjacency_len,

@@ -15,6 +15,7 @@ pub fn all() -> impl Iterator<Item = SessionCase> {
         .chain(middle_runs())
         .chain(large_runs())
         .chain(largest_runs())
+        .chain(every_size())
         .chain(sessions_of_four())
         .chain(spoiled_sessions().map(|(case, _)| case))
         .chain(spoiled_middle_sessions().map(|(case, _)| case))
@@ -24,6 +25,7 @@ pub fn all() -> impl Iterator<Item = SessionCase> {
         .chain(every_length())
         .chain(random_bytes())
         .chain(singular_graphs())
+        .chain(logs())
         .chain(lists())
         .chain(faulty_lists())
         .chain(long_lists())
@@ -64,6 +66,28 @@ pub fn large_runs() -> impl Iterator<Item = SessionCase> {
 
 pub fn largest_runs() -> impl Iterator<Item = SessionCase> {
     runs("largest runs", 4, 24, (95, 96), 30)
+}
+
+/// A short run on graphs of every size.
+pub fn every_size() -> impl Iterator<Item = SessionCase> {
+    (0..=96).flat_map(|n| {
+        let mut random = seeded(18, n as u64);
+        let graphs = [
+            graphs::with_density(&mut random, n, 100),
+            graphs::matched(&mut random, n.max(1)),
+        ];
+        let mut cases = Vec::new();
+        for graph in graphs {
+            let (mut state, _) = State::new(&mut random, &graph, &[], 1);
+            for entry in [3, 1, 0, 2, 4, 1] {
+                let request = requests::of_entry(&mut random, &state, entry);
+                let case = SessionCase::new("every size".to_string(), state.with(request));
+                state = case.after.state.clone();
+                cases.push(case);
+            }
+        }
+        cases
+    })
 }
 
 /// A run from opening on a graph that mostly opens. A session on one that does
@@ -319,7 +343,7 @@ fn flip_vertex(request: &mut Request, bit: usize) {
 /// Every length of every buffer, from 0 to a few bytes or numbers more than
 /// needed, for each entry.
 pub fn every_length() -> impl Iterator<Item = SessionCase> {
-    (0..=5 * ENTRIES).flat_map(|round| {
+    (0..8 * ENTRIES).flat_map(|round| {
         let mut random = seeded(11, round as u64);
         let state = sound_session(&mut random, round / ENTRIES);
         let request = requests::of_entry(&mut random, &state, round % ENTRIES);
@@ -452,6 +476,19 @@ fn singular_run(random: &mut Random, name: &str, n: usize) -> Vec<SessionCase> {
         cases.push(case);
     }
     cases
+}
+
+/// Lists of calls from opening, on graphs that open.
+pub fn logs() -> impl Iterator<Item = SessionCase> {
+    (0..3000).filter_map(|seed| {
+        let mut random = seeded(19, seed);
+        let n = random.between(0, 12);
+        let graph = graph_to_open(&mut random, n);
+        let (state, sound) = State::new(&mut random, &graph, &[], 1);
+        let request = requests::replay(&mut random, &state, 24);
+        let name = format!("logs, seed {seed}");
+        sound.then(|| SessionCase::new(name, state.with(request)))
+    })
 }
 
 /// Lists of calls on sound sessions and on spoiled ones.

@@ -2,9 +2,14 @@
 //! the number and every byte of every buffer.
 
 use host_tests::random::Random;
-use host_tests::session::{Request, SessionCase};
+use host_tests::session::{Request, SessionCase, State};
 use host_tests::session_cases as cases;
 use host_tests::tally::SessionTally;
+use reference::graph::Graph;
+use reference::model::Model;
+use reference::numbers::pair_number;
+use reference::session::Outcome;
+use reference::words::words_from_bytes;
 
 const PICK: usize = 1;
 const AUTOMATIC: usize = 2;
@@ -53,6 +58,13 @@ fn large_runs() {
 fn largest_runs() {
     let tally = check("largest runs", cases::largest_runs());
     assert!(tally.of_cause(0) > 30);
+}
+
+#[test]
+fn every_size() {
+    let tally = check("every size", cases::every_size());
+    assert_eq!(tally.total(), 97 * 12);
+    assert!(tally.of_cause(0) > 350);
 }
 
 #[test]
@@ -160,6 +172,73 @@ fn long_lists() {
 fn longest_lists() {
     let tally = check("longest lists", cases::longest_lists());
     assert_eq!((tally.of(REPLAY, 12), tally.of(REPLAY, 13)), (5, 5));
+}
+
+/// What the plain model, fed the list only, answers to each call; the model.
+fn by_model(graph: &Graph, calls: &[u64]) -> (Vec<u64>, Model) {
+    let mut model = Model::new();
+    let mut numbers = Vec::new();
+    for call in calls.chunks(3) {
+        let answer = match call[0] {
+            1 => model.match_pair(graph, call[1], call[2]),
+            2 => model.match_lowest(graph),
+            _ => model.undo(graph),
+        };
+        let session = model.session(graph);
+        numbers.push(pair_number(&Outcome { session, answer }));
+    }
+    (numbers, model)
+}
+
+/// Automatic picks through their entry until one is refused: how many.
+fn picks_to_come(state: &State) -> u64 {
+    let mut state = state.clone();
+    for picks in 0.. {
+        let mut next = state.with(Request::Automatic);
+        let number = next.run();
+        if number & 0xFF != 0 {
+            assert_eq!(number, 11);
+            return picks;
+        }
+        state = next.state;
+        state.made = number >> 32 & 0xFF;
+    }
+    unreachable!("the pairs made end at n / 2");
+}
+
+/// Lists from opening beside the plain model: every answer, the pairs made, the
+/// sequence, the inverse, and the picks to come.
+#[test]
+fn logs_beside_the_plain_model() {
+    let mut made = 0;
+    for case in cases::logs() {
+        let mut found = case.call.clone();
+        let number = found.run();
+        let Request::Replay { calls, answers } = &found.request else {
+            panic!("{} is no list", case.name);
+        };
+        let weights = words_from_bytes(&found.state.weights);
+        let graph = Graph::checked(found.state.n, &found.state.adjacency, &weights)
+            .expect("a graph in order");
+        let (numbers, model) = by_model(&graph, calls);
+        assert_eq!(answers[..numbers.len()], numbers, "{}", case.name);
+        let session = model.session(&graph);
+        assert_eq!(number, 0x500 | session.pairs << 32, "{}", case.name);
+        let n = graph.size();
+        assert_eq!(found.state.sequence[..n], model.order(&graph));
+        let inverse = words_from_bytes(&found.state.inverse[..2 * n * n]);
+        assert_eq!(Some(inverse), model.inverse(&graph), "{}", case.name);
+        found.state.made = session.pairs;
+        assert_eq!(picks_to_come(&found.state), model.steps_to_come(&graph));
+        made += numbers.len();
+    }
+    assert!(made > 15_000, "{made}");
+}
+
+#[test]
+fn logs() {
+    let tally = check("logs", cases::logs());
+    assert_eq!(tally.of(REPLAY, 0), tally.total());
 }
 
 /// The numbers of the calls of a list, made one by one through their entries,
