@@ -220,6 +220,9 @@ static void path_of_four(void)
     row(0);
     expect_row((const uint8_t[]){0, 0, 1, 0});
     run("row of a path");
+    row(3);
+    expect_row((const uint8_t[]){0, 1, 0, 0});
+    run("row of a path, with a word that is not 0 but no edge");
     call.entry = AUTOMATIC;
     expect_pair(0, 2, 1, one_pair, (const uint8_t[]){0, 2, 255, 255});
     run("automatic pick of a path");
@@ -362,6 +365,23 @@ static void faulty_inverses(void)
     }
 }
 
+/* With a pair matched: a word in the row of a matched vertex, and the inverse
+   from before the pick. */
+static void inverses_of_others(void)
+{
+    for (size_t e = 0; e < COUNT(session_entries); e++) {
+        open_four();
+        call.made = 1;
+        memcpy(call.bytes[SEQUENCE], (const uint8_t[]){0, 1}, 2);
+        run_refused(session_entries[e], SASZVIGOM_INVERSE_WRONG, 0, "inverse of all vertices");
+        memset(call.bytes[INVERSE], 0, SASZVIGOM_INVERSE_BYTES(4));
+        saszvigom_store_word(call.bytes[INVERSE], 2 * 4 + 3, 65520);
+        saszvigom_store_word(call.bytes[INVERSE], 3 * 4 + 2, 1);
+        saszvigom_store_word(call.bytes[INVERSE], 1, 1);
+        run_refused(session_entries[e], SASZVIGOM_INVERSE_WRONG, 0, "word of a matched vertex");
+    }
+}
+
 /* A list with refused calls, picks and undos. */
 static void a_list(void)
 {
@@ -387,6 +407,11 @@ static void a_list(void)
     expected.number = 0x100000500;
     memcpy(expected.bytes[ANSWERS], answers, sizeof answers);
     run("list of calls, buffers as long as needed");
+
+    replay((const uint64_t[]){1, 1, 3, 3, 0, 0}, 6, 2);
+    expect_nothing_written(0x500);
+    memcpy(expected.bytes[ANSWERS], (const uint64_t[]){0x103010300, 0x3010300}, 16);
+    run("list that undoes its pick");
 }
 
 static void run_list_refused(const uint64_t *list, size_t length, size_t room, unsigned cause,
@@ -538,6 +563,7 @@ int main(void)
     faulty_graphs();
     faulty_sequences();
     faulty_inverses();
+    inverses_of_others();
     a_list();
     faulty_lists();
     long_list();
