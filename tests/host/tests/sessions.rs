@@ -3,8 +3,8 @@
 
 use host_tests::random::Random;
 use host_tests::session::{Request, SessionCase, State};
-use host_tests::session_cases as cases;
 use host_tests::tally::SessionTally;
+use host_tests::{lists, runs, session_cases as cases};
 use reference::graph::Graph;
 use reference::model::Model;
 use reference::numbers::pair_number;
@@ -30,7 +30,7 @@ fn check(name: &str, family: impl Iterator<Item = SessionCase>) -> SessionTally 
 
 #[test]
 fn small_runs() {
-    let tally = check("small runs", cases::small_runs());
+    let tally = check("small runs", runs::small_runs());
     assert!(tally.total() > 60_000);
     for entry in [PICK, AUTOMATIC, UNDO, ROW, REPLAY] {
         assert!(tally.of(entry, 0) > 1000, "{entry}");
@@ -44,25 +44,25 @@ fn small_runs() {
 
 #[test]
 fn middle_runs() {
-    let tally = check("middle runs", cases::middle_runs());
+    let tally = check("middle runs", runs::middle_runs());
     assert!(tally.of_cause(0) > 800);
 }
 
 #[test]
 fn large_runs() {
-    let tally = check("large runs", cases::large_runs());
+    let tally = check("large runs", runs::large_runs());
     assert!(tally.of_cause(0) > 50);
 }
 
 #[test]
 fn largest_runs() {
-    let tally = check("largest runs", cases::largest_runs());
+    let tally = check("largest runs", runs::largest_runs());
     assert!(tally.of_cause(0) > 30);
 }
 
 #[test]
 fn every_size() {
-    let tally = check("every size", cases::every_size());
+    let tally = check("every size", runs::every_size());
     assert_eq!(tally.total(), 97 * 12);
     assert!(tally.of_cause(0) > 350);
 }
@@ -142,13 +142,13 @@ fn random_bytes() {
 
 #[test]
 fn singular_graphs() {
-    let tally = check("singular graphs", cases::singular_graphs());
+    let tally = check("singular graphs", runs::singular_graphs());
     assert!(tally.of(UNDO, 10) > 1000);
 }
 
 #[test]
 fn lists() {
-    let tally = check("lists", cases::lists());
+    let tally = check("lists", lists::lists());
     assert!(tally.of(REPLAY, 0) > 4000);
     for cause in [1, 2, 3, 4, 5, 6] {
         assert!(tally.of(REPLAY, cause) > 10, "{cause}");
@@ -157,20 +157,20 @@ fn lists() {
 
 #[test]
 fn faulty_lists() {
-    let tally = check("faulty lists", cases::faulty_lists());
+    let tally = check("faulty lists", lists::faulty_lists());
     assert!(tally.short[9] > 1000);
     assert!(tally.of(REPLAY, 12) > 1000 && tally.of(REPLAY, 13) > 1000);
 }
 
 #[test]
 fn long_lists() {
-    let tally = check("long lists", cases::long_lists());
+    let tally = check("long lists", lists::long_lists());
     assert_eq!(tally.of(REPLAY, 0), 7);
 }
 
 #[test]
 fn longest_lists() {
-    let tally = check("longest lists", cases::longest_lists());
+    let tally = check("longest lists", lists::longest_lists());
     assert_eq!((tally.of(REPLAY, 12), tally.of(REPLAY, 13)), (5, 5));
 }
 
@@ -211,7 +211,7 @@ fn picks_to_come(state: &State) -> u64 {
 #[test]
 fn logs_beside_the_plain_model() {
     let mut made = 0;
-    for case in cases::logs() {
+    for case in lists::logs() {
         let mut found = case.call.clone();
         let number = found.run();
         let Request::Replay { calls, answers } = &found.request else {
@@ -237,7 +237,7 @@ fn logs_beside_the_plain_model() {
 
 #[test]
 fn logs() {
-    let tally = check("logs", cases::logs());
+    let tally = check("logs", lists::logs());
     assert_eq!(tally.of(REPLAY, 0), tally.total());
 }
 
@@ -269,7 +269,7 @@ fn one_by_one(case: &SessionCase, calls: &[u64]) -> (Vec<u64>, SessionCase) {
 #[test]
 fn lists_beside_single_calls() {
     let mut made = 0;
-    for case in cases::lists().chain(cases::long_lists()) {
+    for case in lists::lists().chain(lists::long_lists()) {
         let mut found = case.call.clone();
         let number = found.run();
         let Request::Replay { calls, answers } = &found.request else {

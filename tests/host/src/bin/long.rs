@@ -3,7 +3,7 @@
 //! panic that names the seed at the first difference.
 
 use host_tests::random::Random;
-use host_tests::session_cases::of_seed;
+use host_tests::seeds::of_seed;
 use host_tests::tally::SessionTally;
 use std::env;
 use std::process::ExitCode;
