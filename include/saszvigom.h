@@ -85,7 +85,7 @@ enum saszvigom_cause {
     /* The pairs made are more than n / 2, or the sequence does not hold so many
        pairs and SASZVIGOM_UNUSED after them: a pair has its larger vertex first,
        a vertex is n or more or is there twice, or two are not adjacent. The
-       place is 0, as it is for all causes up to 11. */
+       place is 0, as it is for the causes 6 to 11. */
     SASZVIGOM_SESSION_MALFORMED = 5,
     /* A word of the inverse is not the one that belongs there, or the unmatched
        vertices have no inverse. */
@@ -230,7 +230,7 @@ uint64_t saszvigom_open(uint64_t n,
  * writes nothing, but for the answers that saszvigom_replay may write, and its
  * session is the one that was sent: the next call is sent the same made again,
  * which is not in the number. Where several causes apply, the lowest is
- * returned.
+ * returned; but saszvigom_replay judges its list first.
  */
 
 /*
