@@ -1,12 +1,12 @@
 //! Runs of session calls, each on the session that the one before it left by
 //! the plain reading. The same ones every time.
 
-use crate::graphs;
+use crate::graphs::{self, Graph};
 use crate::matrices;
 use crate::random::Random;
-use crate::requests;
+use crate::requests::{self, ENTRIES};
 use crate::session::{Request, SessionCase, State};
-use crate::states::{disjoint, graph_to_open, seeded};
+use crate::states::{disjoint, graph_to_open, seeded, sound_session};
 
 /// Runs of calls on graphs of sizes from the first to the last.
 fn runs(
@@ -48,17 +48,26 @@ pub fn every_size() -> impl Iterator<Item = SessionCase> {
             graphs::with_density(&mut random, n, 100),
             graphs::matched(&mut random, n.max(1)),
         ];
-        let mut cases = Vec::new();
-        for graph in graphs {
-            let (mut state, _) = State::new(&mut random, &graph, &[], 1);
-            for entry in [3, 1, 0, 2, 4, 1] {
-                let request = requests::of_entry(&mut random, &state, entry);
-                let case = SessionCase::new("every size".to_string(), state.with(request));
-                state = case.after.state.clone();
-                cases.push(case);
-            }
-        }
-        cases
+        let mut run = |graph: &Graph| {
+            let (state, _) = State::new(&mut random, graph, &[], 1);
+            run_from(state, "every size", ENTRIES, |call, state| {
+                requests::of_entry(&mut random, state, (call + 3) % ENTRIES)
+            })
+        };
+        graphs.iter().flat_map(&mut run).collect::<Vec<_>>()
+    })
+}
+
+/// Runs on large sessions with pairs already made, through each entry in turn.
+pub fn deep_runs() -> impl Iterator<Item = SessionCase> {
+    (0..40).flat_map(|seed| {
+        let mut random = seeded(20, seed);
+        let n = random.between(48, 96) & !1;
+        let state = sound_session(&mut random, n);
+        let name = format!("deep runs, seed {seed}");
+        run_from(state, &name, 2 * ENTRIES, |call, state| {
+            requests::of_entry(&mut random, state, (call + 3) % ENTRIES)
+        })
     })
 }
 
@@ -67,12 +76,22 @@ pub fn every_size() -> impl Iterator<Item = SessionCase> {
 pub fn run(random: &mut Random, name: &str, n: usize, calls: usize) -> Vec<SessionCase> {
     let graph = graph_to_open(random, n);
     let most_excess = random.choose(&[0, 1, 2, 9]);
-    let (mut state, sound) = State::new(random, &graph, &[], most_excess);
+    let (state, sound) = State::new(random, &graph, &[], most_excess);
     let calls = if sound { calls } else { 3 };
     let next = any_habit(random);
+    run_from(state, name, calls, |_, state| next(random, state))
+}
+
+/// A run from a session; each request is chosen by its index and the session.
+fn run_from(
+    mut state: State,
+    name: &str,
+    calls: usize,
+    mut next: impl FnMut(usize, &State) -> Request,
+) -> Vec<SessionCase> {
     let mut cases = Vec::new();
     for call in 0..calls {
-        let request = next(random, &state);
+        let request = next(call, &state);
         let case = SessionCase::new(format!("{name}, call {call}"), state.with(request));
         state = case.after.state.clone();
         cases.push(case);
@@ -115,17 +134,12 @@ pub fn singular_run(random: &mut Random, name: &str, n: usize) -> Vec<SessionCas
     let graph = matrices::cancelling(random, n);
     let most = random.between(1, n / 2);
     let pairs = disjoint(random, &graph, most);
-    let (mut state, _) = State::new(random, &graph, &pairs, 1);
-    let mut cases = Vec::new();
-    for call in 0..8 {
-        let request = if random.percent(50) {
+    let (state, _) = State::new(random, &graph, &pairs, 1);
+    run_from(state, name, 8, |_, state| {
+        if random.percent(50) {
             Request::Undo
         } else {
-            requests::any(random, &state)
-        };
-        let case = SessionCase::new(format!("{name}, call {call}"), state.with(request));
-        state = case.after.state.clone();
-        cases.push(case);
-    }
-    cases
+            requests::any(random, state)
+        }
+    })
 }

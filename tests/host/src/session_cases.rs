@@ -6,7 +6,9 @@ use crate::graphs::Graph;
 use crate::lists::{faulty_lists, lists, logs, long_lists};
 use crate::random::Random;
 use crate::requests::{self, ENTRIES};
-use crate::runs::{every_size, large_runs, largest_runs, middle_runs, singular_graphs, small_runs};
+use crate::runs::{
+    deep_runs, every_size, large_runs, largest_runs, middle_runs, singular_graphs, small_runs,
+};
 use crate::session::{Request, SessionCase, State};
 use crate::states::{random_state, seeded, sound_session};
 
@@ -16,6 +18,7 @@ pub fn all() -> impl Iterator<Item = SessionCase> {
         .chain(middle_runs())
         .chain(large_runs())
         .chain(largest_runs())
+        .chain(deep_runs())
         .chain(every_size())
         .chain(sessions_of_four())
         .chain(spoiled_sessions().map(|(case, _)| case))

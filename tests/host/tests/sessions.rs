@@ -61,10 +61,19 @@ fn largest_runs() {
 }
 
 #[test]
+fn deep_runs() {
+    let tally = check("deep runs", runs::deep_runs());
+    assert_eq!(tally.total(), 400);
+    for entry in [PICK, AUTOMATIC, UNDO, ROW, REPLAY] {
+        assert!(tally.of(entry, 0) > 20, "{entry}");
+    }
+}
+
+#[test]
 fn every_size() {
     let tally = check("every size", runs::every_size());
-    assert_eq!(tally.total(), 97 * 12);
-    assert!(tally.of_cause(0) > 350);
+    assert_eq!(tally.total(), 97 * 10);
+    assert!(tally.of_cause(0) > 300);
 }
 
 #[test]
