@@ -1,5 +1,6 @@
 /*
- * saszvigom: the Tutte matrix of a graph modulo 65521, and its inverse.
+ * saszvigom: the Tutte matrix of a graph modulo 65521, its inverse, and sessions
+ * that match the vertices pair by pair.
  *
  * A graph has n vertices, numbered 0 to n - 1, with n at most 96, and a weight
  * from 1 to 65520 for every two vertices, adjacent or not. Its Tutte matrix A is
@@ -15,6 +16,14 @@
  * over. If it has none, as always for odd n, there is a vector w other than 0
  * with A w = 0, the witness. A witness alone does not show that no such matching
  * exists: the weights may cancel.
+ *
+ * saszvigom_open finds the inverse or a witness. With an inverse it begins a
+ * session, in which vertices are matched: saszvigom_pick matches two vertices,
+ * saszvigom_automatic the lowest one that is left, saszvigom_undo undoes the
+ * last of these, saszvigom_row says who may be matched with a vertex, and
+ * saszvigom_replay makes a whole list of calls. A match is accepted only if the
+ * vertices that it leaves have an inverse too, so a session never runs into a
+ * dead end: automatic picks match every vertex that is left.
  *
  * For C99 or C++11 and later. Link with libhost.a, which is for 64-bit x86 and
  * the System V ABI. It keeps no state, allocates nothing, and calls only memcpy,
@@ -49,6 +58,10 @@ extern "C" {
 #define SASZVIGOM_SEQUENCE_BYTES(n) ((size_t)(n))
 #define SASZVIGOM_WITNESS_BYTES(n) (2u * (size_t)(n))
 #define SASZVIGOM_WORK_BYTES(n) (2u * (size_t)(n) * (size_t)(n))
+#define SASZVIGOM_ROW_BYTES(n) ((size_t)(n))
+
+/* How many numbers a call has in the list of saszvigom_replay. */
+#define SASZVIGOM_NUMBERS_A_CALL 3u
 
 /* Why a call was refused: bits 0 to 7 of the number returned. The place, in bits
    16 to 31, says where. */
@@ -68,7 +81,32 @@ enum saszvigom_cause {
     /* A weight is 0 or above 65520, of adjacent vertices or of others. The place
        is the index of the first such weight: 0 for the first word, 1 for the
        second. */
-    SASZVIGOM_WEIGHT_OUT_OF_RANGE = 4
+    SASZVIGOM_WEIGHT_OUT_OF_RANGE = 4,
+    /* The pairs made are more than n / 2, or the sequence does not hold so many
+       pairs and SASZVIGOM_UNUSED after them: a pair has its larger vertex first,
+       a vertex is n or more or is there twice, or two are not adjacent. The
+       place is 0, as it is for the causes 6 to 11. */
+    SASZVIGOM_SESSION_MALFORMED = 5,
+    /* A word of the inverse is not the one that belongs there, or the unmatched
+       vertices have no inverse. */
+    SASZVIGOM_INVERSE_WRONG = 6,
+    /* A vertex is n or more, or both vertices of a pick are the same. */
+    SASZVIGOM_VERTEX_INVALID = 7,
+    /* A vertex is matched already. */
+    SASZVIGOM_VERTEX_MATCHED = 8,
+    /* The two vertices are not adjacent. */
+    SASZVIGOM_NOT_ADJACENT = 9,
+    /* The vertices that would be unmatched after the call have no inverse. */
+    SASZVIGOM_REST_SINGULAR = 10,
+    /* An automatic pick with no vertex unmatched, or an undo without a pair. */
+    SASZVIGOM_NOTHING_LEFT = 11,
+    /* A call of a list has a kind other than those of enum saszvigom_call. The
+       place is the index of the first such call, 0 for the first call of the
+       list; 65535 if it is larger. */
+    SASZVIGOM_CALL_UNKNOWN = 12,
+    /* A list ends within a call: its length is no multiple of 3. The place is
+       the number of its whole calls; 65535 if it is larger. */
+    SASZVIGOM_LIST_CUT = 13
 };
 
 /* The buffers, as the place of SASZVIGOM_BUFFER_TOO_SHORT names them. */
@@ -78,7 +116,10 @@ enum saszvigom_buffer {
     SASZVIGOM_BUFFER_INVERSE = 3,
     SASZVIGOM_BUFFER_SEQUENCE = 4,
     SASZVIGOM_BUFFER_WITNESS = 5,
-    SASZVIGOM_BUFFER_WORK = 6
+    SASZVIGOM_BUFFER_WORK = 6,
+    SASZVIGOM_BUFFER_ROW = 7,
+    /* 8 is the list of calls, which is never too short. */
+    SASZVIGOM_BUFFER_ANSWERS = 9
 };
 
 /* What a call found: bits 8 to 15 of the number returned. */
@@ -88,7 +129,20 @@ enum saszvigom_kind {
     /* A has an inverse. */
     SASZVIGOM_OPENED = 1,
     /* A has none. */
-    SASZVIGOM_SINGULAR = 2
+    SASZVIGOM_SINGULAR = 2,
+    /* A pair, which was appended or removed. */
+    SASZVIGOM_PAIR = 3,
+    /* A row, which was written. */
+    SASZVIGOM_ROW = 4,
+    /* The calls of a list were made. */
+    SASZVIGOM_REPLAYED = 5
+};
+
+/* The kinds of calls in the list of saszvigom_replay. */
+enum saszvigom_call {
+    SASZVIGOM_CALL_PICK = 1,
+    SASZVIGOM_CALL_AUTOMATIC = 2,
+    SASZVIGOM_CALL_UNDO = 3
 };
 
 /*
@@ -116,7 +170,7 @@ enum saszvigom_kind {
  * The number returned, and what is written:
  *
  *   A has an inverse: kind SASZVIGOM_OPENED. inverse holds it, and the words of
- *       witness and work are 0.
+ *       witness and work are 0. This is a session with no pairs made.
  *   A has none: kind SASZVIGOM_SINGULAR, with a column f, the first one from the
  *       left that is a combination of the columns before it; column 0 is one if
  *       it is all 0. witness holds the one vector w with A w = 0, w(f) = 1 and
@@ -142,6 +196,152 @@ uint64_t saszvigom_open(uint64_t n,
                         uint8_t *witness, size_t witness_len,
                         uint8_t *work, size_t work_len);
 
+/*
+ * A session is the size n, the number of pairs made, and four buffers:
+ *
+ *   adjacency  read; the graph, as for saszvigom_open
+ *   weights    read; the graph, as for saszvigom_open
+ *   inverse    n * n words, row by row: the inverse of A restricted to the
+ *              unmatched vertices, and 0 in the rows and columns of the others
+ *   sequence   n bytes: the vertices of the pairs in the order in which they
+ *              were matched, of each pair the smaller first, and then
+ *              SASZVIGOM_UNUSED
+ *
+ * It is sound if all this holds, which every session call confirms before it
+ * does anything else: no call trusts what it is lent. An opened graph is sound
+ * with made = 0, and a call leaves a sound session sound. The library keeps
+ * nothing, so a session may be copied, stored, and gone on with in another
+ * process; of the number returned keep the pairs made.
+ *
+ * The lengths, and what is said of alignment, overlap, null and the bytes past
+ * those needed, are as for saszvigom_open, for all buffers of a call.
+ *
+ * The numbers of the session calls, by their bits; all others are 0:
+ *
+ *                        0 to 7   8 to 15   16 to 23   24 to 31   32 to 39
+ *     pick, automatic    0        3         smaller    larger     made
+ *     undo               0        3         smaller    larger     made
+ *     row                0        4         0          0          made
+ *     replay             0        5         0          0          made
+ *     refused            cause    0         place, 16 to 31       0
+ *
+ * Here made is the number of pairs after the call, which is the made of the next
+ * call: read these 8 bits and no more, by saszvigom_made_of. A refused call
+ * writes nothing, but for the answers that saszvigom_replay may write, and its
+ * session is the one that was sent: the next call is sent the same made again,
+ * which is not in the number. Where several causes apply, the lowest is
+ * returned; but saszvigom_replay judges its list first.
+ */
+
+/*
+ * Matches vertices a and b, in either order.
+ *
+ *   n, made    the session's size and number of pairs made
+ *   a, b       two vertices
+ *   adjacency, weights
+ *              read
+ *   inverse    read, and written: that of the vertices then unmatched
+ *   sequence   read, and written: the pair is appended
+ *
+ * Kind SASZVIGOM_PAIR with the pair, unless a cause from 1 to 10 applies. Two
+ * adjacent unmatched vertices are refused with SASZVIGOM_REST_SINGULAR if the
+ * vertices left after them have no inverse.
+ */
+uint64_t saszvigom_pick(uint64_t n, uint64_t made, uint64_t a, uint64_t b,
+                        const uint8_t *adjacency, size_t adjacency_len,
+                        const uint8_t *weights, size_t weights_len,
+                        uint8_t *inverse, size_t inverse_len,
+                        uint8_t *sequence, size_t sequence_len);
+
+/*
+ * Matches the lowest unmatched vertex with the lowest vertex that
+ * saszvigom_pick would accept with it; there always is one.
+ *
+ * The arguments are those of saszvigom_pick. Kind SASZVIGOM_PAIR with the pair,
+ * unless a cause from 1 to 6 applies, or SASZVIGOM_NOTHING_LEFT: all vertices are
+ * matched.
+ */
+uint64_t saszvigom_automatic(uint64_t n, uint64_t made,
+                             const uint8_t *adjacency, size_t adjacency_len,
+                             const uint8_t *weights, size_t weights_len,
+                             uint8_t *inverse, size_t inverse_len,
+                             uint8_t *sequence, size_t sequence_len);
+
+/*
+ * Removes the last pair: its two bytes of sequence become SASZVIGOM_UNUSED, and
+ * inverse is again that of the vertices then unmatched. Undoing a pick leaves
+ * every byte as it was before the pick.
+ *
+ * The arguments are those of saszvigom_pick. Kind SASZVIGOM_PAIR with the pair
+ * removed, unless a cause from 1 to 6 applies, or SASZVIGOM_NOTHING_LEFT: there
+ * is no pair. SASZVIGOM_REST_SINGULAR is possible only for a session that did
+ * not come from saszvigom_open but was put together by other means.
+ */
+uint64_t saszvigom_undo(uint64_t n, uint64_t made,
+                        const uint8_t *adjacency, size_t adjacency_len,
+                        const uint8_t *weights, size_t weights_len,
+                        uint8_t *inverse, size_t inverse_len,
+                        uint8_t *sequence, size_t sequence_len);
+
+/*
+ * Finds the vertices that saszvigom_pick would accept with vertex a.
+ *
+ *   n, made    the session's size and number of pairs made
+ *   a          a vertex
+ *   adjacency, weights, inverse, sequence
+ *              read
+ *   row        written; n bytes: byte b is 1 if a pick of a and b would be
+ *              accepted, else 0
+ *
+ * Kind SASZVIGOM_ROW, unless a cause from 1 to 6 applies, or
+ * SASZVIGOM_VERTEX_INVALID or SASZVIGOM_VERTEX_MATCHED for a itself. The pairs
+ * made are those that were sent.
+ */
+uint64_t saszvigom_row(uint64_t n, uint64_t made, uint64_t a,
+                       const uint8_t *adjacency, size_t adjacency_len,
+                       const uint8_t *weights, size_t weights_len,
+                       const uint8_t *inverse, size_t inverse_len,
+                       const uint8_t *sequence, size_t sequence_len,
+                       uint8_t *row, size_t row_len);
+
+/*
+ * Makes a list of calls, each on the session that the one before it left, as
+ * saszvigom_pick, saszvigom_automatic and saszvigom_undo would one by one; but
+ * the session is confirmed only once, so that a long list takes far less time.
+ *
+ *   n, made    the session's size and number of pairs made
+ *   adjacency, weights
+ *              read
+ *   inverse, sequence
+ *              read, and written as by the calls
+ *   calls      read; three numbers a call: its kind, one of enum saszvigom_call,
+ *              and two vertices, which are ignored but for SASZVIGOM_CALL_PICK
+ *   answers    written; a number a call: the one that the call returns
+ *
+ * calls and answers are arrays of uint64_t, aligned as such, and their lengths
+ * count numbers, not bytes. No other buffer needs alignment.
+ *
+ * The list is judged before anything else. It is refused, whatever the session
+ * is, if answers has less room than there are whole calls, with
+ * SASZVIGOM_BUFFER_TOO_SHORT at SASZVIGOM_BUFFER_ANSWERS; else with
+ * SASZVIGOM_CALL_UNKNOWN; else with SASZVIGOM_LIST_CUT. Then no call is made and
+ * nothing is written.
+ *
+ * Else every call is made and answered, also after one that is refused. If the
+ * session sent is sound, the number is of kind SASZVIGOM_REPLAYED, with the
+ * pairs made at the end. If not, it is the refusal, a cause from 1 to 6 with its
+ * place, which is written as the answer of every call too; nothing else is
+ * written, and the session is the one sent. An empty list is in order, and tells
+ * whether a session is sound.
+ */
+uint64_t saszvigom_replay(uint64_t n, uint64_t made,
+                          const uint8_t *adjacency, size_t adjacency_len,
+                          const uint8_t *weights, size_t weights_len,
+                          uint8_t *inverse, size_t inverse_len,
+                          uint8_t *sequence, size_t sequence_len,
+                          const uint64_t *calls, size_t calls_len,
+                          uint64_t *answers, size_t answers_len);
+
 /* The cause in a number returned: one of enum saszvigom_cause. */
 static inline unsigned saszvigom_cause_of(uint64_t number)
 {
@@ -165,6 +365,27 @@ static inline unsigned saszvigom_place_of(uint64_t number)
 static inline unsigned saszvigom_column_of(uint64_t number)
 {
     return (unsigned)(number >> 16 & 0xFFu);
+}
+
+/* The smaller vertex of the pair. It means nothing for a kind other than
+   SASZVIGOM_PAIR. */
+static inline unsigned saszvigom_smaller_of(uint64_t number)
+{
+    return (unsigned)(number >> 16 & 0xFFu);
+}
+
+/* The larger vertex of the pair. It means nothing for a kind other than
+   SASZVIGOM_PAIR. */
+static inline unsigned saszvigom_larger_of(uint64_t number)
+{
+    return (unsigned)(number >> 24 & 0xFFu);
+}
+
+/* The pairs made after the call. It means nothing where the call was refused:
+   the pairs made are then those that were sent. */
+static inline unsigned saszvigom_made_of(uint64_t number)
+{
+    return (unsigned)(number >> 32 & 0xFFu);
 }
 
 /* The index of the weight of vertices i < j < n. */

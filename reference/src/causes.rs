@@ -28,9 +28,11 @@ pub enum Cause {
     RestSingular = 10,
     /// No vertex is unmatched; or there is no pair to undo.
     NothingLeft = 11,
-    /// A record's kind is unknown or not due, or bytes follow the end.
+    /// A record's kind is unknown or not due, or bytes follow the end; or a call
+    /// of a replay has an unknown kind.
     KindNotDue = 12,
-    /// The data stops inside a body or before the end record.
+    /// The data stops inside a body or before the end record; or the list of a
+    /// replay stops inside a call.
     DataStops = 13,
     /// A record names a vertex not below n, or the same vertex twice.
     RecordVertexInvalid = 14,
@@ -84,4 +86,6 @@ pub mod buffer {
     pub const SCRATCH: u64 = 6;
     /// Document 01: "row".
     pub const ROW: u64 = 7;
+    /// The answers of a replay. Its list of calls is 8.
+    pub const ANSWERS: u64 = 9;
 }

@@ -43,3 +43,9 @@ pub mod listing;
 
 /// "For the host": words as two bytes, low first.
 pub mod words;
+
+/// "For the host": the number that a session call returns.
+pub mod numbers;
+
+/// "For the host": a list of session calls, made one after the other.
+pub mod replay;

@@ -116,6 +116,17 @@ pub fn partner_row(
     Outcome { session, answer }
 }
 
+/// Whether the session is sound: the causes 1 to 6.
+pub(crate) fn check_sound(
+    session: Session,
+    adjacency: &[u8],
+    weights: &[u16],
+    inverse: &[u16],
+    order: &[u8],
+) -> Result<(), Refusal> {
+    confirm(session, adjacency, weights, inverse, order, None).map(|_| ())
+}
+
 /// Whether the session is in order (document 01: "well formed"): at most n/2
 /// pairs; the used bytes of the order of matching are adjacent pairs, smaller
 /// first, all vertices different and below n; the others up to n are unused.

@@ -1,14 +1,19 @@
 #include "compare.h"
 
+#include <stdbool.h>
 #include <stdio.h>
 #include <stdlib.h>
 #include <string.h>
 
 #define GUARD 255
-#define BLOCK (BUFFERS * (LONGEST + GUARD + 1) + GUARD)
+#define BLOCK (BUFFERS * (LONGEST + GUARD + sizeof(uint64_t)) + GUARD)
+
+const char *const entry_names[ENTRIES] = {
+    "open", "pick", "automatic", "undo", "row", "replay",
+};
 
 const char *const buffer_names[BUFFERS] = {
-    "adjacency", "weights", "inverse", "sequence", "witness", "work",
+    "adjacency", "weights", "inverse", "sequence", "witness", "work", "row", "calls", "answers",
 };
 
 uint8_t guard_byte(size_t position)
@@ -23,15 +28,41 @@ static _Noreturn void differs(const char *name, const char *where, size_t offset
     exit(1);
 }
 
-static uint64_t open_graph(const struct call *call, uint8_t *const buffers[BUFFERS])
+/* What the session calls are lent, each buffer with its length. */
+#define LENT                                                                                       \
+    buffers[ADJACENCY], call->length[ADJACENCY], buffers[WEIGHTS], call->length[WEIGHTS],          \
+        buffers[INVERSE], call->length[INVERSE], buffers[SEQUENCE], call->length[SEQUENCE]
+
+static uint64_t replay_calls(const struct call *call, uint8_t *const buffers[BUFFERS])
 {
-    return saszvigom_open(call->n,
-                          buffers[ADJACENCY], call->length[ADJACENCY],
-                          buffers[WEIGHTS], call->length[WEIGHTS],
-                          buffers[INVERSE], call->length[INVERSE],
-                          buffers[SEQUENCE], call->length[SEQUENCE],
-                          buffers[WITNESS], call->length[WITNESS],
-                          buffers[WORK], call->length[WORK]);
+    return saszvigom_replay(call->n, call->made, LENT,
+                            (const uint64_t *)(const void *)buffers[CALLS],
+                            call->length[CALLS] / sizeof(uint64_t),
+                            (uint64_t *)(void *)buffers[ANSWERS],
+                            call->length[ANSWERS] / sizeof(uint64_t));
+}
+
+static uint64_t make_call(const struct call *call, uint8_t *const buffers[BUFFERS])
+{
+    switch (call->entry) {
+    case OPEN:
+        return saszvigom_open(call->n, LENT, buffers[WITNESS], call->length[WITNESS],
+                              buffers[WORK], call->length[WORK]);
+    case PICK:
+        return saszvigom_pick(call->n, call->made, call->a, call->b, LENT);
+    case AUTOMATIC:
+        return saszvigom_automatic(call->n, call->made, LENT);
+    case UNDO:
+        return saszvigom_undo(call->n, call->made, LENT);
+    case ROW:
+        return saszvigom_row(call->n, call->made, call->a, LENT,
+                             buffers[PARTNERS], call->length[PARTNERS]);
+    case REPLAY:
+        return replay_calls(call, buffers);
+    default:
+        printf("FAIL entry %d\n", (int)call->entry);
+        exit(1);
+    }
 }
 
 static void compare_number(const char *name, uint64_t found, uint64_t wanted)
@@ -66,15 +97,28 @@ static void compare_guards(const char *name, const uint8_t *block, size_t start,
             differs(name, "guard", i, block[i], guard_byte(i));
 }
 
-/* The buffers in one block, at odd addresses and between guard bytes. */
+/* Whether a buffer holds 64-bit numbers and must be aligned as they are. */
+static bool holds_numbers(size_t buffer)
+{
+    return buffer == CALLS || buffer == ANSWERS;
+}
+
+/* The first place for a buffer: a multiple of eight, or odd for bytes. */
+static size_t start_of(size_t buffer, size_t position)
+{
+    const size_t aligned = (position + 7) / 8 * 8;
+    return holds_numbers(buffer) ? aligned : position | 1;
+}
+
+/* The buffers in one block between guard bytes, those of bytes at odd addresses. */
 static void run_in_one_block(const char *name, const struct call *call,
                              const struct outcome *expected)
 {
-    static _Alignas(2) uint8_t block[BLOCK];
+    static _Alignas(uint64_t) uint8_t block[BLOCK];
     uint8_t *buffers[BUFFERS];
     size_t end = 0;
     for (size_t b = 0; b < BUFFERS; b++) {
-        const size_t start = (end + GUARD) | 1;
+        const size_t start = start_of(b, end + GUARD);
         set_guards(block, end, start);
         buffers[b] = block + start;
         memcpy(buffers[b], call->bytes[b], call->length[b]);
@@ -82,7 +126,7 @@ static void run_in_one_block(const char *name, const struct call *call,
     }
     set_guards(block, end, end + GUARD);
 
-    compare_number(name, open_graph(call, buffers), expected->number);
+    compare_number(name, make_call(call, buffers), expected->number);
 
     end = 0;
     for (size_t b = 0; b < BUFFERS; b++) {
@@ -105,19 +149,20 @@ static uint8_t *allocate(const char *name, size_t length)
 }
 
 /* Each buffer in a block of its own, so that a memory checker sees its ends. A
-   buffer of length 0 is the end of a block of one byte. */
+   buffer of length 0 is the end of a block of one byte, or of one number. */
 static void run_in_own_blocks(const char *name, const struct call *call,
                               const struct outcome *expected)
 {
     uint8_t *blocks[BUFFERS], *buffers[BUFFERS];
     for (size_t b = 0; b < BUFFERS; b++) {
         const size_t length = call->length[b];
-        blocks[b] = allocate(name, length > 0 ? length : 1);
-        buffers[b] = length > 0 ? blocks[b] : blocks[b] + 1;
+        const size_t skipped = length > 0 ? 0 : holds_numbers(b) ? sizeof(uint64_t) : 1;
+        blocks[b] = allocate(name, length + skipped);
+        buffers[b] = blocks[b] + skipped;
         memcpy(buffers[b], call->bytes[b], length);
     }
 
-    compare_number(name, open_graph(call, buffers), expected->number);
+    compare_number(name, make_call(call, buffers), expected->number);
 
     for (size_t b = 0; b < BUFFERS; b++) {
         compare_bytes(name, buffer_names[b], buffers[b], expected->bytes[b], call->length[b]);

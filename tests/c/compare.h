@@ -7,16 +7,23 @@
 
 #include "saszvigom.h"
 
-enum { ADJACENCY, WEIGHTS, INVERSE, SEQUENCE, WITNESS, WORK, BUFFERS };
+enum entry { OPEN, PICK, AUTOMATIC, UNDO, ROW, REPLAY, ENTRIES };
+
+/* The buffers, in the order of their numbers from 1 on. */
+enum { ADJACENCY, WEIGHTS, INVERSE, SEQUENCE, WITNESS, WORK, PARTNERS, CALLS, ANSWERS, BUFFERS };
 
 /* The length of the longest buffer: what 96 vertices need, and 64 bytes more. */
 #define LONGEST (SASZVIGOM_INVERSE_BYTES(SASZVIGOM_MAX_VERTICES) + 64)
 
+extern const char *const entry_names[ENTRIES];
 extern const char *const buffer_names[BUFFERS];
 
-/* A call: the size, and for each buffer its length and the bytes before. */
+/* A call: the entry, its numbers, and for each buffer its length in bytes and
+   the bytes before. An entry uses some of the numbers and buffers only. Those of
+   calls and answers are 64-bit numbers as they lie in memory. */
 struct call {
-    uint64_t n;
+    enum entry entry;
+    uint64_t n, made, a, b;
     size_t length[BUFFERS];
     uint8_t bytes[BUFFERS][LONGEST];
 };
@@ -30,9 +37,9 @@ struct outcome {
 /* A byte that differs from its neighbours, from 0 and from 255. */
 uint8_t guard_byte(size_t position);
 
-/* Runs a call twice: with the buffers in one block, at odd addresses and between
-   guard bytes, and with each buffer in a block of its own length. Prints the
-   first difference and exits with status 1. */
+/* Runs a call twice: with the buffers in one block between guard bytes, those of
+   bytes at odd addresses, and with each buffer in a block of its own length.
+   Prints the first difference and exits with status 1. */
 void check_call(const char *name, const struct call *call, const struct outcome *expected);
 
 #endif

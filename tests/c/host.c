@@ -3,103 +3,17 @@
  * byte of every buffer with what is expected. Prints a line for each case and
  * stops with status 1 at the first difference.
  */
-#include "compare.h"
+#include "setup.h"
 
-#include <pthread.h>
 #include <stdbool.h>
 #include <stdio.h>
 #include <stdlib.h>
 #include <string.h>
 
-/* What the stack of a small thread has in all. */
-#define STACK_KIB 128
-
-static struct call call;
-static struct outcome expected;
-static size_t cases;
-
-static void run(const char *name)
-{
-    check_call(name, &call, &expected);
-    cases++;
-    printf("ok   %s\n", name);
-}
-
-/* Makes the buffers as long as n vertices need. */
-static void set_lengths(size_t n)
-{
-    call.length[ADJACENCY] = SASZVIGOM_ADJACENCY_BYTES(n);
-    call.length[WEIGHTS] = SASZVIGOM_WEIGHTS_BYTES(n);
-    call.length[INVERSE] = SASZVIGOM_INVERSE_BYTES(n);
-    call.length[SEQUENCE] = SASZVIGOM_SEQUENCE_BYTES(n);
-    call.length[WITNESS] = SASZVIGOM_WITNESS_BYTES(n);
-    call.length[WORK] = SASZVIGOM_WORK_BYTES(n);
-}
-
-static void set_lengths_as_needed(void)
-{
-    set_lengths((size_t)call.n);
-}
-
-/* Sets up a graph without edges and with weights 1, in buffers that are longer
-   than needed by an odd number of bytes. What they hold else is arbitrary. */
-static void set_graph(size_t n)
-{
-    call.n = n;
-    set_lengths(n);
-    for (size_t b = 0; b < BUFFERS; b++) {
-        call.length[b] += 2 * b + 1;
-        for (size_t i = 0; i < LONGEST; i++)
-            call.bytes[b][i] = guard_byte(i + 7 * b);
-    }
-    memset(call.bytes[ADJACENCY], 0, SASZVIGOM_ADJACENCY_BYTES(n));
-    for (size_t k = 0; k < n * (n - 1) / 2; k++)
-        saszvigom_store_word(call.bytes[WEIGHTS], k, 1);
-}
-
-static void set_cell(size_t i, size_t j, uint8_t value)
-{
-    call.bytes[ADJACENCY][i * (size_t)call.n + j] = value;
-}
-
-static void link_vertices(size_t i, size_t j)
-{
-    set_cell(i, j, 1);
-    set_cell(j, i, 1);
-}
-
-static void link_all(void)
-{
-    for (size_t i = 0; i < call.n; i++)
-        for (size_t j = i + 1; j < call.n; j++)
-            link_vertices(i, j);
-}
-
-/* Sets up a graph with weights 1 and the edges given as in "01 12". */
-static void set_edges(size_t n, const char *edges)
-{
-    set_graph(n);
-    for (const char *edge = edges; edge[0] != '\0'; edge += edge[2] == ' ' ? 3 : 2)
-        link_vertices((size_t)(edge[0] - '0'), (size_t)(edge[1] - '0'));
-}
-
-static void set_weight(size_t index, uint16_t weight)
-{
-    saszvigom_store_word(call.bytes[WEIGHTS], index, weight);
-}
-
-/* Expects that nothing is written. */
-static void expect_refusal(unsigned cause, unsigned place)
-{
-    expected.number = cause | (uint64_t)place << 16;
-    memcpy(expected.bytes, call.bytes, sizeof expected.bytes);
-}
-
 static void expect_written(uint64_t number)
 {
     const size_t n = (size_t)call.n;
-    expected.number = number;
-    memcpy(expected.bytes, call.bytes, sizeof expected.bytes);
+    expect_nothing_written(number);
     memset(expected.bytes[INVERSE], 0, 2 * n * n);
     memset(expected.bytes[SEQUENCE], 255, n);
     memset(expected.bytes[WITNESS], 0, 2 * n);
@@ -240,7 +154,7 @@ static void sizes(void)
 
 static void lengths(void)
 {
-    for (size_t b = 0; b < BUFFERS; b++) {
+    for (size_t b = ADJACENCY; b <= WORK; b++) {
         char name[64];
         set_graph(4);
         link_all();
@@ -250,7 +164,7 @@ static void lengths(void)
         (void)snprintf(name, sizeof name, "%s short by a byte", buffer_names[b]);
         run(name);
 
-        for (size_t later = b + 1; later < BUFFERS; later++)
+        for (size_t later = b + 1; later <= WORK; later++)
             call.length[later] = 0;
         set_cell(0, 0, 9);
         set_weight(0, 0);
@@ -346,24 +260,6 @@ static void *run_largest_graphs(void *unused)
     return unused;
 }
 
-/* The largest graphs on a thread with a small stack. Where it is too small the
-   program ends by a signal, and the line printed first is its last. */
-static void small_stack(void)
-{
-    pthread_attr_t attributes;
-    pthread_t thread;
-    printf("on a thread with %d KiB of stack\n", STACK_KIB);
-    fflush(stdout);
-    if (pthread_attr_init(&attributes) != 0
-        || pthread_attr_setstacksize(&attributes, STACK_KIB * 1024) != 0
-        || pthread_create(&thread, &attributes, run_largest_graphs, NULL) != 0
-        || pthread_join(thread, NULL) != 0) {
-        printf("FAIL thread\n");
-        exit(1);
-    }
-    pthread_attr_destroy(&attributes);
-}
-
 int main(void)
 {
     smallest_graphs();
@@ -374,7 +270,7 @@ int main(void)
     adjacency_faults();
     weight_faults();
     accessors();
-    small_stack();
+    run_on_small_stack(run_largest_graphs);
     printf("%zu cases\n", cases);
     return 0;
 }

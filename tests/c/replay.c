@@ -8,11 +8,12 @@
  * For each case:
  *
  *     the length of its name, at least 1, and the name
- *     n
- *     the lengths of the six buffers
- *     the bytes of the six buffers before the call
+ *     the entry, as enum entry numbers them
+ *     n, the pairs made, and two vertices
+ *     the lengths of the nine buffers in bytes
+ *     the bytes of the nine buffers before the call
  *     the number expected
- *     the bytes of the six buffers expected after the call
+ *     the bytes of the nine buffers expected after the call
  *
  * and at the end 0, in the place of a name's length, and the number of cases.
  */
@@ -28,9 +29,10 @@ static struct call call;
 static struct outcome expected;
 static char name[LONGEST_NAME + 1];
 
-/* How many cases there were, and of each outcome; refused by cause. */
+/* How many cases there were, of each entry, and of each outcome; refused by
+   cause. */
 static struct {
-    size_t cases, opened, singular, refused[SASZVIGOM_WEIGHT_OUT_OF_RANGE + 1];
+    size_t cases, entries[ENTRIES], carried_out, refused[SASZVIGOM_LIST_CUT + 1];
 } tally;
 
 static _Noreturn void fail(const char *what)
@@ -85,12 +87,26 @@ static bool read_name(void)
     return true;
 }
 
+static void read_numbers(void)
+{
+    const uint64_t entry = read_number();
+    if (entry >= ENTRIES)
+        fail("there is no such entry");
+    call.entry = (enum entry)entry;
+    call.n = read_number();
+    call.made = read_number();
+    call.a = read_number();
+    call.b = read_number();
+}
+
 static void read_lengths(void)
 {
     for (size_t b = 0; b < BUFFERS; b++) {
         const uint64_t length = read_number();
         if (length > LONGEST)
             fail("a buffer is too long");
+        if ((b == CALLS || b == ANSWERS) && length % sizeof(uint64_t) != 0)
+            fail("a list of numbers has an odd length");
         call.length[b] = (size_t)length;
     }
 }
@@ -106,7 +122,7 @@ static bool read_case(void)
 {
     if (!read_name())
         return false;
-    call.n = read_number();
+    read_numbers();
     read_lengths();
     read_buffers(call.bytes);
     expected.number = read_number();
@@ -122,30 +138,43 @@ static void read_end(void)
         fail("there is more after its end");
 }
 
-static void count(uint64_t number)
+static void count(void)
 {
-    const unsigned kind = saszvigom_kind_of(number);
-    const unsigned cause = saszvigom_cause_of(number);
-    if (kind == SASZVIGOM_OPENED)
-        tally.opened++;
-    else if (kind == SASZVIGOM_SINGULAR)
-        tally.singular++;
-    else if (kind == SASZVIGOM_REFUSED && 0 < cause && cause <= SASZVIGOM_WEIGHT_OUT_OF_RANGE)
+    const unsigned cause = saszvigom_cause_of(expected.number);
+    const bool refused = saszvigom_kind_of(expected.number) == SASZVIGOM_REFUSED;
+    if (cause > SASZVIGOM_LIST_CUT || refused != (cause > 0))
+        fail("the number expected is none that a call returns");
+    if (refused)
         tally.refused[cause]++;
     else
-        fail("the number expected is none that a call returns");
+        tally.carried_out++;
+    tally.entries[call.entry]++;
     tally.cases++;
+}
+
+static void print_tally(void)
+{
+    const char *separator = ":";
+    printf("%zu cases", tally.cases);
+    for (size_t e = 0; e < ENTRIES; e++)
+        if (tally.entries[e] > 0) {
+            printf("%s %zu %s", separator, tally.entries[e], entry_names[e]);
+            separator = ",";
+        }
+    printf("; %zu carried out", tally.carried_out);
+    for (size_t cause = 1; cause <= SASZVIGOM_LIST_CUT; cause++)
+        if (tally.refused[cause] > 0)
+            printf(", %zu with %zu", tally.refused[cause], cause);
+    printf("\n");
 }
 
 int main(void)
 {
     while (read_case()) {
         check_call(name, &call, &expected);
-        count(expected.number);
+        count();
     }
     read_end();
-    printf("%zu cases: %zu opened, %zu singular, refused with 1 to 4: %zu, %zu, %zu, %zu\n",
-           tally.cases, tally.opened, tally.singular, tally.refused[1], tally.refused[2],
-           tally.refused[3], tally.refused[4]);
+    print_tally();
     return 0;
 }

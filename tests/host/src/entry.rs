@@ -1,4 +1,4 @@
-//! The C entry of the library as a safe function.
+//! The C entries of the library as safe functions.
 
 extern "C" {
     fn saszvigom_open(
@@ -15,6 +15,80 @@ extern "C" {
         witness_len: usize,
         work: *mut u8,
         work_len: usize,
+    ) -> u64;
+
+    fn saszvigom_pick(
+        n: u64,
+        made: u64,
+        a: u64,
+        b: u64,
+        adjacency: *const u8,
+        adjacency_len: usize,
+        weights: *const u8,
+        weights_len: usize,
+        inverse: *mut u8,
+        inverse_len: usize,
+        sequence: *mut u8,
+        sequence_len: usize,
+    ) -> u64;
+
+    fn saszvigom_automatic(
+        n: u64,
+        made: u64,
+        adjacency: *const u8,
+        adjacency_len: usize,
+        weights: *const u8,
+        weights_len: usize,
+        inverse: *mut u8,
+        inverse_len: usize,
+        sequence: *mut u8,
+        sequence_len: usize,
+    ) -> u64;
+
+    fn saszvigom_undo(
+        n: u64,
+        made: u64,
+        adjacency: *const u8,
+        adjacency_len: usize,
+        weights: *const u8,
+        weights_len: usize,
+        inverse: *mut u8,
+        inverse_len: usize,
+        sequence: *mut u8,
+        sequence_len: usize,
+    ) -> u64;
+
+    fn saszvigom_row(
+        n: u64,
+        made: u64,
+        a: u64,
+        adjacency: *const u8,
+        adjacency_len: usize,
+        weights: *const u8,
+        weights_len: usize,
+        inverse: *const u8,
+        inverse_len: usize,
+        sequence: *const u8,
+        sequence_len: usize,
+        row: *mut u8,
+        row_len: usize,
+    ) -> u64;
+
+    fn saszvigom_replay(
+        n: u64,
+        made: u64,
+        adjacency: *const u8,
+        adjacency_len: usize,
+        weights: *const u8,
+        weights_len: usize,
+        inverse: *mut u8,
+        inverse_len: usize,
+        sequence: *mut u8,
+        sequence_len: usize,
+        calls: *const u64,
+        calls_len: usize,
+        answers: *mut u64,
+        answers_len: usize,
     ) -> u64;
 }
 
@@ -51,6 +125,120 @@ pub fn open(n: u64, adjacency: &[u8], weights: &[u8], written: Written) -> u64 {
             witness.len(),
             work.as_mut_ptr(),
             work.len(),
+        )
+    }
+}
+
+/// What every session call is lent.
+pub struct Lent<'a> {
+    pub n: u64,
+    pub made: u64,
+    pub adjacency: &'a [u8],
+    pub weights: &'a [u8],
+    pub inverse: &'a mut [u8],
+    pub sequence: &'a mut [u8],
+}
+
+/// Matches two vertices.
+pub fn pick(lent: Lent, a: u64, b: u64) -> u64 {
+    // SAFETY: as for opening.
+    unsafe {
+        saszvigom_pick(
+            lent.n,
+            lent.made,
+            a,
+            b,
+            lent.adjacency.as_ptr(),
+            lent.adjacency.len(),
+            lent.weights.as_ptr(),
+            lent.weights.len(),
+            lent.inverse.as_mut_ptr(),
+            lent.inverse.len(),
+            lent.sequence.as_mut_ptr(),
+            lent.sequence.len(),
+        )
+    }
+}
+
+/// Matches the lowest unmatched vertex with its lowest possible partner.
+pub fn automatic(lent: Lent) -> u64 {
+    // SAFETY: as for opening.
+    unsafe {
+        saszvigom_automatic(
+            lent.n,
+            lent.made,
+            lent.adjacency.as_ptr(),
+            lent.adjacency.len(),
+            lent.weights.as_ptr(),
+            lent.weights.len(),
+            lent.inverse.as_mut_ptr(),
+            lent.inverse.len(),
+            lent.sequence.as_mut_ptr(),
+            lent.sequence.len(),
+        )
+    }
+}
+
+/// Removes the last pair.
+pub fn undo(lent: Lent) -> u64 {
+    // SAFETY: as for opening.
+    unsafe {
+        saszvigom_undo(
+            lent.n,
+            lent.made,
+            lent.adjacency.as_ptr(),
+            lent.adjacency.len(),
+            lent.weights.as_ptr(),
+            lent.weights.len(),
+            lent.inverse.as_mut_ptr(),
+            lent.inverse.len(),
+            lent.sequence.as_mut_ptr(),
+            lent.sequence.len(),
+        )
+    }
+}
+
+/// Writes which vertices may be matched with a.
+pub fn row(lent: Lent, a: u64, row: &mut [u8]) -> u64 {
+    // SAFETY: as for opening.
+    unsafe {
+        saszvigom_row(
+            lent.n,
+            lent.made,
+            a,
+            lent.adjacency.as_ptr(),
+            lent.adjacency.len(),
+            lent.weights.as_ptr(),
+            lent.weights.len(),
+            lent.inverse.as_ptr(),
+            lent.inverse.len(),
+            lent.sequence.as_ptr(),
+            lent.sequence.len(),
+            row.as_mut_ptr(),
+            row.len(),
+        )
+    }
+}
+
+/// Makes a list of calls, three numbers a call, and writes their numbers.
+pub fn replay(lent: Lent, calls: &[u64], answers: &mut [u64]) -> u64 {
+    // SAFETY: as for opening; slices of numbers are aligned.
+    unsafe {
+        saszvigom_replay(
+            lent.n,
+            lent.made,
+            lent.adjacency.as_ptr(),
+            lent.adjacency.len(),
+            lent.weights.as_ptr(),
+            lent.weights.len(),
+            lent.inverse.as_mut_ptr(),
+            lent.inverse.len(),
+            lent.sequence.as_mut_ptr(),
+            lent.sequence.len(),
+            calls.as_ptr(),
+            calls.len(),
+            answers.as_mut_ptr(),
+            answers.len(),
         )
     }
 }

@@ -1,11 +1,23 @@
-//! Seeded random and damaged calls of the C entry, and the comparison with the
-//! plain reading. The test runs them from Rust; the program `cases` writes them
-//! out for tests/c/replay.c.
+//! Seeded random and damaged calls of the C entries, and the comparison with
+//! the plain reading. The tests run them from Rust; the program `cases` writes
+//! them out for tests/c/replay.c; the program `long` runs as many session calls
+//! as it is told.
 
 pub mod call;
 pub mod cases;
 pub mod damage;
 pub mod entry;
+pub mod faults;
 pub mod graphs;
+pub mod guards;
+pub mod lists;
 pub mod matrices;
 pub mod random;
+pub mod requests;
+pub mod runs;
+pub mod seeds;
+pub mod session;
+pub mod session_cases;
+pub mod states;
+pub mod stream;
+pub mod tally;

@@ -185,7 +185,7 @@ fn power(base: u64, exponent: u64) -> u64 {
     product
 }
 
-fn inverse_of(graph: &Graph) -> Option<Vec<u16>> {
+pub(crate) fn inverse_of(graph: &Graph) -> Option<Vec<u16>> {
     let n = graph.n;
     let mut inverse = vec![0; n * n];
     let opened = opening::open(

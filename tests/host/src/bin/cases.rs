@@ -1,49 +1,50 @@
-//! Writes all cases to standard output, for tests/c/replay.c to run them.
-//!
-//! Every number is eight bytes, the low one first. For each case:
-//!
-//! * the length of its name, at least 1, and the name;
-//! * n;
-//! * the lengths of the six buffers;
-//! * the bytes of the six buffers before the call;
-//! * the number expected;
-//! * the bytes of the six buffers expected after the call;
-//!
-//! and at the end 0, in the place of a name's length, and the number of cases.
-//! What is expected is by the plain reading.
+//! Writes cases to standard output, for tests/c/replay.c to run them: `opening`
+//! those of opening, `sessions N` every Nth of the session calls. What is
+//! expected is by the plain reading.
 
-use host_tests::cases::{self, Case};
-use std::io::{self, BufWriter, Write};
+use host_tests::stream::Stream;
+use host_tests::{cases, session_cases};
+use std::env;
+use std::io::{self, BufWriter};
+use std::process::ExitCode;
 
-fn main() -> io::Result<()> {
-    let mut out = BufWriter::new(io::stdout().lock());
-    let mut count = 0;
+fn main() -> ExitCode {
+    let arguments: Vec<String> = env::args().skip(1).collect();
+    let arguments: Vec<&str> = arguments.iter().map(String::as_str).collect();
+    let written = match arguments[..] {
+        ["opening"] => write_openings(),
+        ["sessions", stride] => match stride.parse() {
+            Ok(stride) if stride > 0 => write_sessions(stride),
+            _ => return usage(),
+        },
+        _ => return usage(),
+    };
+    match written {
+        Ok(()) => ExitCode::SUCCESS,
+        Err(error) => {
+            eprintln!("cases: {error}");
+            ExitCode::FAILURE
+        }
+    }
+}
+
+fn usage() -> ExitCode {
+    eprintln!("usage: cases opening | cases sessions N");
+    ExitCode::from(2)
+}
+
+fn write_openings() -> io::Result<()> {
+    let mut stream = Stream::new(BufWriter::new(io::stdout().lock()));
     for case in cases::all() {
-        write_case(&mut out, &case)?;
-        count += 1;
+        stream.opening(&case)?;
     }
-    write_number(&mut out, 0)?;
-    write_number(&mut out, count)?;
-    out.flush()
+    stream.end()
 }
 
-fn write_case(out: &mut impl Write, case: &Case) -> io::Result<()> {
-    let (outcome, after) = case.call.expected();
-    write_number(out, case.name.len() as u64)?;
-    out.write_all(case.name.as_bytes())?;
-    write_number(out, case.call.n)?;
-    for buffer in case.call.buffers() {
-        write_number(out, buffer.len() as u64)?;
+fn write_sessions(stride: usize) -> io::Result<()> {
+    let mut stream = Stream::new(BufWriter::new(io::stdout().lock()));
+    for case in session_cases::all().step_by(stride) {
+        stream.session(&case)?;
     }
-    write_buffers(out, case.call.buffers())?;
-    write_number(out, outcome.number())?;
-    write_buffers(out, after.buffers())
-}
-
-fn write_buffers(out: &mut impl Write, buffers: [&[u8]; 6]) -> io::Result<()> {
-    buffers.iter().try_for_each(|buffer| out.write_all(buffer))
-}
-
-fn write_number(out: &mut impl Write, number: u64) -> io::Result<()> {
-    out.write_all(&number.to_le_bytes())
+    stream.end()
 }

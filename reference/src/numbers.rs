@@ -1,0 +1,34 @@
+//! The one number that a session call returns through the host (docs/HOST.md).
+
+use crate::causes::Refusal;
+use crate::session::{Edge, Outcome};
+
+/// A pair appended or removed: kind 3, the smaller vertex in bits 16 to 23 and
+/// the larger in bits 24 to 31.
+pub fn pair_number(outcome: &Outcome<Edge>) -> u64 {
+    number(outcome, 3, |edge| edge.smaller | edge.larger << 8)
+}
+
+/// A row written: kind 4.
+pub fn row_number(outcome: &Outcome<()>) -> u64 {
+    number(outcome, 4, |_| 0)
+}
+
+/// A list of calls made: kind 5.
+pub fn replay_number(outcome: &Outcome<()>) -> u64 {
+    number(outcome, 5, |_| 0)
+}
+
+/// Bits 0 to 7: the cause, or 0; 8 to 15: the kind, or 0; 16 to 31: a value, or
+/// the place; 32 to 39: the pairs made, where the call was carried out.
+fn number<T>(outcome: &Outcome<T>, kind: u64, value: impl Fn(&T) -> u64) -> u64 {
+    match &outcome.answer {
+        Ok(answer) => kind << 8 | value(answer) << 16 | outcome.session.pairs << 32,
+        Err(refusal) => refusal_number(*refusal),
+    }
+}
+
+fn refusal_number(refusal: Refusal) -> u64 {
+    let (cause, place) = refusal.numbers();
+    u64::from(cause) | place << 16
+}

@@ -1,0 +1,111 @@
+#include "setup.h"
+
+#include <pthread.h>
+#include <stdio.h>
+#include <stdlib.h>
+#include <string.h>
+
+/* What the stack of a small thread has in all. */
+#define STACK_KIB 128
+
+struct call call;
+struct outcome expected;
+size_t cases;
+
+void run(const char *name)
+{
+    check_call(name, &call, &expected);
+    cases++;
+    printf("ok   %s\n", name);
+}
+
+static void set_lengths(size_t n)
+{
+    call.length[ADJACENCY] = SASZVIGOM_ADJACENCY_BYTES(n);
+    call.length[WEIGHTS] = SASZVIGOM_WEIGHTS_BYTES(n);
+    call.length[INVERSE] = SASZVIGOM_INVERSE_BYTES(n);
+    call.length[SEQUENCE] = SASZVIGOM_SEQUENCE_BYTES(n);
+    call.length[WITNESS] = SASZVIGOM_WITNESS_BYTES(n);
+    call.length[WORK] = SASZVIGOM_WORK_BYTES(n);
+    call.length[PARTNERS] = SASZVIGOM_ROW_BYTES(n);
+}
+
+void set_lengths_as_needed(void)
+{
+    set_lengths((size_t)call.n);
+}
+
+void set_graph(size_t n)
+{
+    call.entry = OPEN;
+    call.n = n;
+    call.made = 0;
+    set_lengths(n);
+    for (size_t b = 0; b < BUFFERS; b++)
+        for (size_t i = 0; i < LONGEST; i++)
+            call.bytes[b][i] = guard_byte(i + 7 * b);
+    for (size_t b = ADJACENCY; b <= PARTNERS; b++)
+        call.length[b] += 2 * b + 1;
+    call.length[CALLS] = 0;
+    call.length[ANSWERS] = 0;
+    memset(call.bytes[ADJACENCY], 0, SASZVIGOM_ADJACENCY_BYTES(n));
+    for (size_t k = 0; k < n * (n - 1) / 2; k++)
+        saszvigom_store_word(call.bytes[WEIGHTS], k, 1);
+}
+
+void set_edges(size_t n, const char *edges)
+{
+    set_graph(n);
+    for (const char *edge = edges; edge[0] != '\0'; edge += edge[2] == ' ' ? 3 : 2)
+        link_vertices((size_t)(edge[0] - '0'), (size_t)(edge[1] - '0'));
+}
+
+void set_cell(size_t i, size_t j, uint8_t value)
+{
+    call.bytes[ADJACENCY][i * (size_t)call.n + j] = value;
+}
+
+void set_weight(size_t index, uint16_t weight)
+{
+    saszvigom_store_word(call.bytes[WEIGHTS], index, weight);
+}
+
+void link_vertices(size_t i, size_t j)
+{
+    set_cell(i, j, 1);
+    set_cell(j, i, 1);
+}
+
+void link_all(void)
+{
+    for (size_t i = 0; i < call.n; i++)
+        for (size_t j = i + 1; j < call.n; j++)
+            link_vertices(i, j);
+}
+
+void expect_nothing_written(uint64_t number)
+{
+    expected.number = number;
+    memcpy(expected.bytes, call.bytes, sizeof expected.bytes);
+}
+
+void expect_refusal(unsigned cause, unsigned place)
+{
+    expect_nothing_written(cause | (uint64_t)place << 16);
+}
+
+void run_on_small_stack(void *(*work)(void *))
+{
+    pthread_attr_t attributes;
+    pthread_t thread;
+    printf("on a thread with %d KiB of stack\n", STACK_KIB);
+    fflush(stdout);
+    if (pthread_attr_init(&attributes) != 0
+        || pthread_attr_setstacksize(&attributes, STACK_KIB * 1024) != 0
+        || pthread_create(&thread, &attributes, work, NULL) != 0
+        || pthread_join(thread, NULL) != 0) {
+        printf("FAIL thread\n");
+        exit(1);
+    }
+    pthread_attr_destroy(&attributes);
+}

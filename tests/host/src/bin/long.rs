@@ -1,0 +1,62 @@
+//! Runs session calls through the C entries beside the plain reading: `long
+//! COUNT FIRST` at least COUNT calls, with the seeds from FIRST on. Ends with a
+//! panic that names the seed at the first difference.
+
+use host_tests::random::Random;
+use host_tests::seeds::of_seed;
+use host_tests::tally::SessionTally;
+use std::env;
+use std::process::ExitCode;
+use std::sync::atomic::{AtomicU64, AtomicUsize, Ordering};
+use std::thread;
+
+fn main() -> ExitCode {
+    let numbers: Result<Vec<u64>, _> = env::args().skip(1).map(|text| text.parse()).collect();
+    let Ok([count, first]) = numbers.as_deref() else {
+        eprintln!("usage: long COUNT FIRST");
+        return ExitCode::from(2);
+    };
+    let seeds = AtomicU64::new(*first);
+    let calls = AtomicUsize::new(0);
+    let threads = thread::available_parallelism().map_or(1, usize::from);
+    let work = || run(&seeds, &calls, *count as usize);
+    let tally = thread::scope(|scope| {
+        let workers: Vec<_> = (0..threads).map(|_| scope.spawn(work)).collect();
+        let mut tally = SessionTally::default();
+        for worker in workers {
+            tally.add(&worker.join().expect("no difference"));
+        }
+        tally
+    });
+    let last = seeds.load(Ordering::Relaxed) - 1;
+    tally.print(&format!("seeds {first} to {last}"));
+    ExitCode::SUCCESS
+}
+
+/// Lets no further seed be taken once a thread has met a difference.
+struct StopOnPanic<'a>(&'a AtomicUsize);
+
+impl Drop for StopOnPanic<'_> {
+    fn drop(&mut self) {
+        if thread::panicking() {
+            self.0.store(usize::MAX / 2, Ordering::Relaxed);
+        }
+    }
+}
+
+/// Takes one seed after the other until there were so many calls in all.
+fn run(seeds: &AtomicU64, calls: &AtomicUsize, count: usize) -> SessionTally {
+    let _stop = StopOnPanic(calls);
+    let mut tally = SessionTally::default();
+    while calls.load(Ordering::Relaxed) < count {
+        let seed = seeds.fetch_add(1, Ordering::Relaxed);
+        let mut guards = Random::new(seed);
+        let cases = of_seed(seed);
+        for case in &cases {
+            case.check(&mut guards);
+            tally.count(case);
+        }
+        calls.fetch_add(cases.len(), Ordering::Relaxed);
+    }
+    tally
+}

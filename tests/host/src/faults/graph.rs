@@ -1,0 +1,131 @@
+//! Faults of the size, of lengths, and of the graph.
+
+use super::places::{adjacent, all_pairs, choice, set_cells, set_weight, size, unmatched_two};
+use crate::damage::any_large_size;
+use crate::random::Random;
+use crate::session::State;
+use reference::words::words_from_bytes;
+
+pub fn large_size(random: &mut Random, state: &mut State) -> bool {
+    state.n = any_large_size(random);
+    true
+}
+
+pub fn short_buffer(random: &mut Random, state: &mut State) -> bool {
+    let n = size(state);
+    if n < 2 {
+        return false;
+    }
+    let needed = [n * n, n * n - n, 2 * n * n, n];
+    let number = random.below(4);
+    let short = random
+        .choose(&[1, 1, 2, needed[number]])
+        .min(needed[number]);
+    state.buffers_mut()[number].truncate(needed[number] - short);
+    true
+}
+
+pub fn adjacency_above_one(random: &mut Random, state: &mut State) -> bool {
+    let n = size(state);
+    if n == 0 {
+        return false;
+    }
+    state.adjacency[random.below(n * n)] = random.choose(&[2, 3, 128, 254, 255]);
+    true
+}
+
+pub fn adjacency_unlike_mirror(random: &mut Random, state: &mut State) -> bool {
+    let Some((i, j)) = choice(random, &all_pairs(size(state), |_, _| true)) else {
+        return false;
+    };
+    let cell = random.choose(&[i * size(state) + j, j * size(state) + i]);
+    state.adjacency[cell] ^= 1;
+    true
+}
+
+pub fn adjacent_to_itself(random: &mut Random, state: &mut State) -> bool {
+    let n = size(state);
+    if n == 0 {
+        return false;
+    }
+    state.adjacency[random.below(n) * (n + 1)] = 1;
+    true
+}
+
+fn spoil_weight(random: &mut Random, state: &mut State, weight: u16) -> bool {
+    let count = size(state) * size(state).saturating_sub(1) / 2;
+    if count == 0 {
+        return false;
+    }
+    set_weight(state, random.below(count), weight);
+    true
+}
+
+pub fn weight_zero(random: &mut Random, state: &mut State) -> bool {
+    spoil_weight(random, state, 0)
+}
+
+pub fn weight_too_large(random: &mut Random, state: &mut State) -> bool {
+    let weight = random.between(65521, 65535) as u16;
+    spoil_weight(random, state, weight)
+}
+
+pub fn edge_changed(random: &mut Random, state: &mut State) -> bool {
+    let linked = random.percent(50);
+    let Some((i, j)) = unmatched_two(random, state, linked) else {
+        return false;
+    };
+    set_cells(state, i, j, u8::from(!linked));
+    true
+}
+
+/// Another weight from 1 to 65520 for two vertices.
+fn change_weight(random: &mut Random, state: &mut State, i: usize, j: usize) {
+    let index = state.graph().weight_index(i, j);
+    let weight = words_from_bytes(&state.weights)[index];
+    let more = random.between(1, 65519);
+    let changed = (usize::from(weight) - 1 + more) % 65520 + 1;
+    set_weight(state, index, changed as u16);
+}
+
+pub fn weight_of_edge_changed(random: &mut Random, state: &mut State) -> bool {
+    let Some((i, j)) = unmatched_two(random, state, true) else {
+        return false;
+    };
+    change_weight(random, state, i, j);
+    true
+}
+
+pub fn weight_without_edge(random: &mut Random, state: &mut State) -> bool {
+    let pairs = all_pairs(size(state), |i, j| !adjacent(state, i, j));
+    let Some((i, j)) = choice(random, &pairs) else {
+        return false;
+    };
+    change_weight(random, state, i, j);
+    true
+}
+
+/// An edge with a matched vertex is no part of the inverse.
+pub fn edge_of_matched_added(random: &mut Random, state: &mut State) -> bool {
+    let left = state.unmatched();
+    let pairs = all_pairs(size(state), |i, j| {
+        let matched = !left.contains(&i) || !left.contains(&j);
+        matched && !adjacent(state, i, j)
+    });
+    let Some((i, j)) = choice(random, &pairs) else {
+        return false;
+    };
+    set_cells(state, i, j, 1);
+    true
+}
+
+pub fn excess_changed(random: &mut Random, state: &mut State) -> bool {
+    let n = size(state);
+    let needed = [n * n, n * n - n, 2 * n * n, n];
+    for (buffer, needed) in state.buffers_mut().into_iter().zip(needed) {
+        let odd = random.choose(&[1, 2, 3]);
+        buffer.truncate(needed);
+        buffer.extend(random.bytes(odd));
+    }
+    true
+}

@@ -1,0 +1,55 @@
+//! How often session calls had which outcome.
+
+use crate::session::SessionCase;
+
+/// Entries 1 to 5, causes 0 to 13: 0 is carried out.
+#[derive(Default)]
+pub struct SessionTally {
+    counts: [[usize; 14]; 6],
+    /// By the place of cause 2.
+    pub short: [usize; 10],
+}
+
+impl SessionTally {
+    pub fn count(&mut self, case: &SessionCase) {
+        let (entry, cause) = (case.call.request.entry(), case.cause());
+        self.counts[entry as usize][cause as usize] += 1;
+        if cause == 2 {
+            self.short[(case.number >> 16) as usize] += 1;
+        }
+    }
+
+    pub fn add(&mut self, other: &SessionTally) {
+        for (counts, others) in self.counts.iter_mut().zip(&other.counts) {
+            for (count, other) in counts.iter_mut().zip(others) {
+                *count += other;
+            }
+        }
+        for (count, other) in self.short.iter_mut().zip(&other.short) {
+            *count += other;
+        }
+    }
+
+    pub fn total(&self) -> usize {
+        self.counts.iter().flatten().sum()
+    }
+
+    /// How many calls of all entries had a cause, or were carried out for 0.
+    pub fn of_cause(&self, cause: usize) -> usize {
+        self.counts.iter().map(|counts| counts[cause]).sum()
+    }
+
+    /// How many calls of an entry had a cause.
+    pub fn of(&self, entry: usize, cause: usize) -> usize {
+        self.counts[entry][cause]
+    }
+
+    pub fn print(&self, name: &str) {
+        let causes: Vec<usize> = (1..14).map(|cause| self.of_cause(cause)).collect();
+        println!(
+            "{name}: {} calls: {} carried out, refused with 1 to 13: {causes:?}",
+            self.total(),
+            self.of_cause(0)
+        );
+    }
+}

@@ -1,0 +1,299 @@
+//! Session calls through the C entries beside the plain reading, on all cases:
+//! the number and every byte of every buffer.
+
+use host_tests::random::Random;
+use host_tests::session::{Request, SessionCase, State};
+use host_tests::tally::SessionTally;
+use host_tests::{lists, runs, session_cases as cases};
+use reference::graph::Graph;
+use reference::model::Model;
+use reference::numbers::pair_number;
+use reference::session::Outcome;
+use reference::words::words_from_bytes;
+
+const PICK: usize = 1;
+const AUTOMATIC: usize = 2;
+const UNDO: usize = 3;
+const ROW: usize = 4;
+const REPLAY: usize = 5;
+
+fn check(name: &str, family: impl Iterator<Item = SessionCase>) -> SessionTally {
+    let mut guards = Random::new(2000);
+    let mut tally = SessionTally::default();
+    for case in family {
+        case.check(&mut guards);
+        tally.count(&case);
+    }
+    tally.print(name);
+    tally
+}
+
+#[test]
+fn small_runs() {
+    let tally = check("small runs", runs::small_runs());
+    assert!(tally.total() > 60_000);
+    for entry in [PICK, AUTOMATIC, UNDO, ROW, REPLAY] {
+        assert!(tally.of(entry, 0) > 1000, "{entry}");
+    }
+    for cause in [7, 8, 9, 10] {
+        assert!(tally.of(PICK, cause) > 300, "{cause}");
+    }
+    assert!(tally.of(AUTOMATIC, 11) > 1000 && tally.of(UNDO, 11) > 1000);
+    assert!(tally.of(ROW, 7) > 100 && tally.of(ROW, 8) > 300);
+}
+
+#[test]
+fn middle_runs() {
+    let tally = check("middle runs", runs::middle_runs());
+    assert!(tally.of_cause(0) > 800);
+}
+
+#[test]
+fn large_runs() {
+    let tally = check("large runs", runs::large_runs());
+    assert!(tally.of_cause(0) > 50);
+}
+
+#[test]
+fn largest_runs() {
+    let tally = check("largest runs", runs::largest_runs());
+    assert!(tally.of_cause(0) > 30);
+}
+
+#[test]
+fn deep_runs() {
+    let tally = check("deep runs", runs::deep_runs());
+    assert_eq!(tally.total(), 400);
+    for entry in [PICK, AUTOMATIC, UNDO, ROW, REPLAY] {
+        assert!(tally.of(entry, 0) > 20, "{entry}");
+    }
+}
+
+#[test]
+fn every_size() {
+    let tally = check("every size", runs::every_size());
+    assert_eq!(tally.total(), 97 * 10);
+    assert!(tally.of_cause(0) > 300);
+}
+
+#[test]
+fn sessions_of_four() {
+    let tally = check("sessions of four", cases::sessions_of_four());
+    for cause in [0, 6, 7, 8, 9, 10, 11] {
+        assert!(tally.of_cause(cause) > 30, "{cause}");
+    }
+}
+
+/// Refused with the cause of the fault; where it has none the session is sound.
+fn check_fault(case: &SessionCase, cause: u64) {
+    let found = case.cause();
+    let list = matches!(case.call.request, Request::Replay { .. });
+    if cause == 0 {
+        assert!(found == 0 || found > 6 && !list, "{}", case.name);
+    } else {
+        assert_eq!(found, cause, "{}", case.name);
+    }
+}
+
+#[test]
+fn spoiled_sessions() {
+    let mut applied = 0;
+    let families = cases::spoiled_sessions()
+        .chain(cases::spoiled_middle_sessions())
+        .chain(cases::spoiled_large_sessions());
+    let checked = families.map(|(case, fault)| {
+        if let Some(fault) = fault {
+            check_fault(&case, fault.cause);
+            applied += 1;
+        }
+        case
+    });
+    let tally = check("spoiled sessions", checked);
+    assert!(applied > 40_000, "{applied}");
+    for cause in 1..=6 {
+        assert!(tally.of_cause(cause) > 1000, "{cause}");
+    }
+    assert!(tally.short[1..=4].iter().all(|&count| count > 100));
+}
+
+#[test]
+fn several_faults() {
+    let tally = check("several faults", cases::several_faults());
+    for cause in 1..=6 {
+        assert!(tally.of_cause(cause) > 150, "{cause}");
+    }
+}
+
+#[test]
+fn every_high_bit() {
+    let tally = check("high bits", cases::every_high_bit());
+    assert!(tally.of_cause(1) > 6000 && tally.of_cause(5) > 6000);
+    assert!(tally.of(PICK, 7) > 500 && tally.of(ROW, 7) > 500);
+}
+
+#[test]
+fn every_length() {
+    let tally = check("every length", cases::every_length());
+    for place in [1, 2, 3, 4, 7, 9] {
+        assert!(tally.short[place] > 5, "{place}");
+    }
+    assert!(tally.of_cause(13) > 5);
+}
+
+#[test]
+fn random_bytes() {
+    let tally = check("random bytes", cases::random_bytes());
+    assert!(tally.of_cause(0) > 50);
+    for cause in 1..=6 {
+        assert!(tally.of_cause(cause) > 300, "{cause}");
+    }
+}
+
+#[test]
+fn singular_graphs() {
+    let tally = check("singular graphs", runs::singular_graphs());
+    assert!(tally.of(UNDO, 10) > 1000);
+}
+
+#[test]
+fn lists() {
+    let tally = check("lists", lists::lists());
+    assert!(tally.of(REPLAY, 0) > 4000);
+    for cause in [1, 2, 3, 4, 5, 6] {
+        assert!(tally.of(REPLAY, cause) > 10, "{cause}");
+    }
+}
+
+#[test]
+fn faulty_lists() {
+    let tally = check("faulty lists", lists::faulty_lists());
+    assert!(tally.short[9] > 1000);
+    assert!(tally.of(REPLAY, 12) > 1000 && tally.of(REPLAY, 13) > 1000);
+}
+
+#[test]
+fn long_lists() {
+    let tally = check("long lists", lists::long_lists());
+    assert_eq!(tally.of(REPLAY, 0), 7);
+}
+
+#[test]
+fn longest_lists() {
+    let tally = check("longest lists", lists::longest_lists());
+    assert_eq!((tally.of(REPLAY, 12), tally.of(REPLAY, 13)), (5, 5));
+}
+
+/// What the plain model, fed the list only, answers to each call; the model.
+fn by_model(graph: &Graph, calls: &[u64]) -> (Vec<u64>, Model) {
+    let mut model = Model::new();
+    let mut numbers = Vec::new();
+    for call in calls.chunks(3) {
+        let answer = match call[0] {
+            1 => model.match_pair(graph, call[1], call[2]),
+            2 => model.match_lowest(graph),
+            _ => model.undo(graph),
+        };
+        let session = model.session(graph);
+        numbers.push(pair_number(&Outcome { session, answer }));
+    }
+    (numbers, model)
+}
+
+/// Automatic picks through their entry until one is refused: how many.
+fn picks_to_come(state: &State) -> u64 {
+    let mut state = state.clone();
+    for picks in 0.. {
+        let mut next = state.with(Request::Automatic);
+        let number = next.run();
+        if number & 0xFF != 0 {
+            assert_eq!(number, 11);
+            return picks;
+        }
+        state = next.state;
+        state.made = number >> 32 & 0xFF;
+    }
+    unreachable!("the pairs made end at n / 2");
+}
+
+/// Lists from opening beside the plain model: every answer, the pairs made, the
+/// sequence, the inverse, and the picks to come.
+#[test]
+fn logs_beside_the_plain_model() {
+    let mut made = 0;
+    for case in lists::logs() {
+        let mut found = case.call.clone();
+        let number = found.run();
+        let Request::Replay { calls, answers } = &found.request else {
+            panic!("{} is no list", case.name);
+        };
+        let weights = words_from_bytes(&found.state.weights);
+        let graph = Graph::checked(found.state.n, &found.state.adjacency, &weights)
+            .expect("a graph in order");
+        let (numbers, model) = by_model(&graph, calls);
+        assert_eq!(answers[..numbers.len()], numbers, "{}", case.name);
+        let session = model.session(&graph);
+        assert_eq!(number, 0x500 | session.pairs << 32, "{}", case.name);
+        let n = graph.size();
+        assert_eq!(found.state.sequence[..n], model.order(&graph));
+        let inverse = words_from_bytes(&found.state.inverse[..2 * n * n]);
+        assert_eq!(Some(inverse), model.inverse(&graph), "{}", case.name);
+        found.state.made = session.pairs;
+        assert_eq!(picks_to_come(&found.state), model.steps_to_come(&graph));
+        made += numbers.len();
+    }
+    assert!(made > 15_000, "{made}");
+}
+
+#[test]
+fn logs() {
+    let tally = check("logs", lists::logs());
+    assert_eq!(tally.of(REPLAY, 0), tally.total());
+}
+
+/// The numbers of the calls of a list, made one by one through their entries,
+/// and the session they leave.
+fn one_by_one(case: &SessionCase, calls: &[u64]) -> (Vec<u64>, SessionCase) {
+    let mut state = case.call.state.clone();
+    let mut numbers = Vec::new();
+    for call in calls.chunks(3) {
+        let request = match call[0] {
+            1 => Request::Pick(call[1], call[2]),
+            2 => Request::Automatic,
+            _ => Request::Undo,
+        };
+        let mut single = state.with(request);
+        let number = single.run();
+        state = single.state;
+        if number & 0xFF == 0 {
+            state.made = number >> 32 & 0xFF;
+        }
+        numbers.push(number);
+    }
+    let left = SessionCase::new(String::new(), state.with(Request::Undo));
+    (numbers, left)
+}
+
+/// A list through its entry beside its calls through theirs: the answers, every
+/// byte left, and the pairs made.
+#[test]
+fn lists_beside_single_calls() {
+    let mut made = 0;
+    for case in lists::lists().chain(lists::long_lists()) {
+        let mut found = case.call.clone();
+        let number = found.run();
+        let Request::Replay { calls, answers } = &found.request else {
+            panic!("{} is no list", case.name);
+        };
+        let (singles, left) = one_by_one(&case, calls);
+        assert_eq!(answers[..singles.len()], singles, "{}", case.name);
+        if number & 0xFF == 0 {
+            assert_eq!(number, 0x500 | left.call.state.made << 32, "{}", case.name);
+            found.state.made = left.call.state.made;
+        } else {
+            assert!(singles.iter().all(|&single| single == number));
+        }
+        assert_eq!(found.state, left.call.state, "{}", case.name);
+        made += singles.len();
+    }
+    assert!(made > 30_000, "{made}");
+}
