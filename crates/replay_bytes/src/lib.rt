@@ -120,6 +120,13 @@ pub fn replay(
         return number(ruling, 0);
     }
     replay_words(
-        n, made, adjacency, weights, inverse, sequence, list, answers,
+        n,
+        made,
+        adjacency,
+        weights,
+        inverse,
+        sequence,
+        list,
+        answers,
     )
 }

@@ -28,7 +28,7 @@ same-length-2 : tie.Need-same-length-2
 same-length-2 c = search needs
 
 returns : tie.Need-returns
-returns c = 
+returns c =
     let called = c .before .before .before .before in
     rw (called .before .before .before .before .request .given .1) (called .pick .ensures .0)
 
@@ -39,7 +39,7 @@ same-length-4 : tie.Need-same-length-4
 same-length-4 c = search needs
 
 returns-2 : tie.Need-returns-2
-returns-2 c = 
+returns-2 c =
     let called = c .before .before .before .before in
     rw (called .before .before .before .enum-told .given .1) (called .automatic .ensures)
 
@@ -50,7 +50,7 @@ same-length-6 : tie.Need-same-length-6
 same-length-6 c = search needs
 
 returns-3 : tie.Need-returns-3
-returns-3 c = 
+returns-3 c =
     let called = c .before .before .before .before in
     rw (called .before .before .before .enum-told2 .given .1) (called .undo .ensures)
 

@@ -35,7 +35,7 @@ same-length : tie.Need-same-length
 same-length c = search needs
 
 returns-2 : tie.Need-returns-2
-returns-2 c = 
+returns-2 c =
     let start = c .before .before .before .before .before .before .before .before .before .before in
     let ok = sym (rw (c .before .before .before .before .before .enum-told .given .1) at (c .before .before .before .before .before .before .before .judge .ensures)) in
     every-call ok (list-room (start .args .list .now) _ ok) (rw (c .before .before .before .before .number .ensures 0) at (c .before .before .fill .ensures))

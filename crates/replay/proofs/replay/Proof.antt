@@ -20,7 +20,7 @@ enum-known-judged : tie.Need-enum-known-judged
 enum-known-judged c = search needs
 
 returns : tie.Need-returns
-returns c = 
+returns c =
     let R = refuses-list _ (sym (rw (c .before .judged .given .1) at (c .before .before .before .judge .ensures))) in
     (R, replays-follow _ _ _ R)
 
@@ -49,7 +49,7 @@ same-length-3 : tie.Need-same-length-3
 same-length-3 c = search needs
 
 returns-2 : tie.Need-returns-2
-returns-2 c = 
+returns-2 c =
     let R = refused-so _ _ _ (sym (rw (c .before .before .before .before .before .sound .given .1) at (c .before .before .before .before .before .before .before .before .confirm .ensures .ruled))) (c .before .before .refuse .ensures) in
     (R, replays-follow _ _ _ R)
 
@@ -69,7 +69,7 @@ slice-aggregate-run-2 : tie.Need-slice-aggregate-run-2
 slice-aggregate-run-2 c = sym (length-take-le _ _ (list-room _ _ (sym (rw (c .before .before .before .before .before .before .before .before .before .before .before .enum-told .given .1) at (c .before .before .before .before .before .before .before .before .before .before .before .before .before .judge .ensures)))))
 
 run-requires : tie.Need-run-requires
-run-requires c κs = 
+run-requires c κs =
     let start = c .before .before .before .before .before .before .before .before .before .before .before .before .before .before .before .before .before .before .before .before in
     let room = length-take-le _ (start .args .answers .now) (list-room (start .args .list .now) _ (sym (rw (c .before .before .before .before .before .before .before .before .before .before .before .enum-told .given .1) at (c .before .before .before .before .before .before .before .before .before .before .before .before .before .judge .ensures)))) in
     (known (c .before .before .before .before .before .before .before .confirm .ensures) (c .before .before .before .before .enum-told2 .given .1), omega (arith, room))
@@ -84,7 +84,7 @@ same-length-6 : tie.Need-same-length-6
 same-length-6 c = search needs
 
 returns-3 : tie.Need-returns-3
-returns-3 c = 
+returns-3 c =
     let start = c .before .before .before .before .before .before .before .before .before .before .before .before .before .before .before .before .before .before .before .before .before .before .before .before .before .before .before .before in
     let ok = sym (rw (c .before .before .before .before .before .before .before .before .before .before .before .before .before .before .before .before .before .before .before .enum-told .given .1) at (c .before .before .before .before .before .before .before .before .before .before .before .before .before .before .before .before .before .before .before .before .before .judge .ensures)) in
     let room = list-room (start .args .list .now) _ ok in

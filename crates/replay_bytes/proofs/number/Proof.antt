@@ -9,12 +9,12 @@ enum-told : tie.Need-enum-told
 enum-told c = search needs
 
 mul-result : tie.Need-mul-result
-mul-result c = 
+mul-result c =
     let h = rw (c .enum-told .given .1) at (c .before .before .pre) in
     record { fits = omega arith }
 
 add-result : tie.Need-add-result
-add-result c = 
+add-result c =
     let h = rw (c .enum-told .given .1) at (c .before .before .pre) in
     record { fits = omega arith }
 

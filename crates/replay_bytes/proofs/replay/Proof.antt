@@ -37,12 +37,12 @@ enum-known-lengths : tie.Need-enum-known-lengths
 enum-known-lengths c = search needs
 
 refuse-requires : tie.Need-refuse-requires
-refuse-requires c κs = 
+refuse-requires c κs =
     let at = c .before .before .before .before in
     handles-small modulus-prime everything {s = unpacked-state (host at)} {c = automatic} (unsound _ (refuses at (c .before .before .lengths .given .1))) .place-below
 
 number-requires : tie.Need-number-requires
-number-requires c κs = 
+number-requires c κs =
     let at = c .before .before .before .before .before .before .before in
     let a = start at .args in
     host-refuses-all (a .n) (a .made) (a .adjacency .now) (a .weights .now) (a .inverse .now) (a .sequence .now) (a .list .now) (a .answers .now)
@@ -52,7 +52,7 @@ same-length : tie.Need-same-length
 same-length c = search needs
 
 returns : tie.Need-returns
-returns c = 
+returns c =
     let at = c .before .before .before .before .before .before .before .before in
     let a = start at .args in
     let H =
@@ -64,7 +64,7 @@ enum-told : tie.Need-enum-told
 enum-told c = search needs
 
 replay-words-requires : tie.Need-replay-words-requires
-replay-words-requires c κs = 
+replay-words-requires c κs =
     let told = c .before .before .before in
     let at = told .before .before in
     let a = start at .args in
@@ -80,7 +80,7 @@ same-length-4 : tie.Need-same-length-4
 same-length-4 c = search needs
 
 returns-2 : tie.Need-returns-2
-returns-2 c = 
+returns-2 c =
     let H = c .before .before .before .before .before .before .replay-words .ensures in
     (H, host-demand H)
 

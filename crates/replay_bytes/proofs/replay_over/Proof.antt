@@ -15,7 +15,7 @@ extent-requires : tie.Need-extent-requires
 extent-requires c κs = search needs
 
 store-requires : tie.Need-store-requires
-store-requires c κs = 
+store-requires c κs =
     let told = c .before .before .extent in
     let replayed = c .before .before .before .before .before .before .before .before .before .before .replay in
     let small = extent-small (ruling-of (replayed .result .ruling)) (length (c .before .before .before .before .before .before .before .before .before .before .before .before .before .before .before .before .before .before .before .before .before .args .table .now)) in
@@ -39,7 +39,7 @@ same-length-4 : tie.Need-same-length-4
 same-length-4 c = search needs
 
 returns : tie.Need-returns
-returns c = 
+returns c =
     let replayed = c .before .before .before .before .before .before .before .before .before .before .before .before .before .before .replay in
     record {
       verdict = _;

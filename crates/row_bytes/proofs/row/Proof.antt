@@ -28,14 +28,14 @@ enum-known-lengths : tie.Need-enum-known-lengths
 enum-known-lengths c = search needs
 
 refusal-number-requires : tie.Need-refusal-number-requires
-refusal-number-requires c κs = 
+refusal-number-requires c κs =
     let at = c .before .before .before in
     let a = start at .args in
     handles-small modulus-prime everything {s = unpacked-state (host at)} {c = automatic}
     (unsound _ (room-refused (a .n) (a .made) (a .adjacency .now) (a .weights .now) (a .inverse .now) (a .sequence .now) modulus everything (rw (c .before .lengths .given .1) at (at .judge-lengths .ensures)))) .place-below
 
 returns : tie.Need-returns
-returns c = 
+returns c =
     let at = c .before .before .before .before in
     let a = start at .args in
     rw (c .refusal-number .ensures)
@@ -47,7 +47,7 @@ enum-told : tie.Need-enum-told
 enum-told c = search needs
 
 row-words-requires : tie.Need-row-words-requires
-row-words-requires c κs = 
+row-words-requires c κs =
     let told = c .before in
     let at = told .before .before in
     let a = start at .args in

@@ -16,7 +16,7 @@ same-length : tie.Need-same-length
 same-length c = search needs
 
 returns : tie.Need-returns
-returns c = 
+returns c =
     let shown = c .before .before .before .row in
     let a = c .before .before .before .before .before .before .before .before .before .before .args in
     record {
