@@ -36,9 +36,9 @@ void expect_nothing_written(uint64_t number);
 /* Expects a refusal. */
 void expect_refusal(unsigned cause, unsigned place);
 
-/* Runs something on a thread with a small stack, 128 KiB in all. Where that is
-   too small the program ends by a signal, and the line printed first is its
-   last. */
+/* Runs something on a thread with a small stack, 128 KiB in all, and 144 with
+   sanitizers. Where that is too small the program ends by a signal, and the line
+   printed first is its last. */
 void run_on_small_stack(void *(*work)(void *));
 
 #endif
