@@ -1,24 +1,20 @@
 -- A session that is known to be sound, and what a call makes of it. Assumes nothing.
 use mathlib.Core.Path.{_≡_, refl, sym, ap, _∙_}
-use mathlib.Core.Logic.{_≢_}
 use mathlib.Core.List.{List, [], _∷_, _++_}
-use Prim.Native.Nat.{ℕ, suc, _+_, _*_, _-_, _≤_, _<_}
-use native.Mathlib.Numerals.{add-one}
+use Prim.Native.Nat.{ℕ, suc, _+_, _*_, _≤_, _<_}
 use native.Mathlib.Omega.{arith}
-use lib.ListN.{length, getD, take, drop, set, length-set, take-append-drop}
+use lib.ListN.{length, take, drop, set, length-set, take-append-drop}
 use lib.Seq.{length-take-le, getD-take}
-use Rattle.lists.specs.Table.{table, index-below}
-use Rattle.modular.specs.Congruence.{Congruent}
 use Rattle.residue.specs.Modulus.{modulus, modulus-prime}
 use Rattle.skew.specs.Subset.{_∈_, Without, marked-in, marked-nonzero}
 use Rattle.skew.specs.Remove.{invertible-without}
 use Rattle.matching.specs.Decision.{Refusal, because, accepted, refused, Every, Lowest}
-use Rattle.matching.specs.Graph.{Graph, over, largest, tutte}
+use Rattle.matching.specs.Graph.{Graph, over, tutte}
 use Rattle.matching.specs.Pairs.{Pair, Pairs, pair-of, everything, unmatched, pairs-on}
 use Rattle.matching.specs.Pairs as spelling
-use Rattle.matching.specs.Session.{State, graph-of, with-pairs, InverseTable, WellFormed, onto}
+use Rattle.matching.specs.Session.{State, with-pairs, InverseTable}
 use Rattle.matching.specs.Causes.{session-ruling, LongEnough, lent-to-session}
-use Rattle.matching.specs.Model.{Call, pick, automatic, done, denied, skew, Step, pick-ruling, Allowed, OpenPartner, step, Nonsingular, picks, pick-refused, picks-lowest, none-left}
+use Rattle.matching.specs.Model.{Call, pick, automatic, done, denied, skew, pick-ruling, Allowed, OpenPartner, step, picks, pick-refused, picks-lowest, none-left}
 use Rattle.matching.specs.Calls.{Handles, unsound, refuses, carries}
 use Rattle.laws.specs.Facts.{allowed-of-accepted, unmatched-without, open-partner}
 use Rattle.laws.specs.Rules.{rule-step}
@@ -34,7 +30,7 @@ use Rattle.sequence.specs.Formed.{Left, unmarked}
 use Rattle.soundness.specs.Sound.{state, Confirmed}
 use Rattle.tutte.specs.Table.{Complete}
 use Rattle.partners.specs.Standing.{Tables, Standing, Marked}
-use Rattle.pairing.specs.Appended.{pair-below, Shrunk, shrunk-inverse, Room, Appended}
+use Rattle.pairing.specs.Appended.{pair-below, shrunk-inverse, Room, Appended}
 use Rattle.calls.specs.Answers.{answer-of}
 use Rattle.calls.specs.Bytes.{bytes-appended}
 use Rattle.calls.specs.declared.Reply.{Reply}

@@ -7,14 +7,14 @@ use Prim.Native.Nat.{ℕ, suc, _+_, _*_, _-_}
 use native.Mathlib.Omega.{arith}
 use lib.ListN.{length, getD, take, drop, set, length-set}
 use lib.Seq.{length-take-le}
-use Rattle.residue.specs.Modulus.{modulus, modulus-prime}
+use Rattle.residue.specs.Modulus.{modulus-prime}
 use Rattle.skew.specs.Subset.{Without}
 use Rattle.matching.specs.Decision.{because}
 use Rattle.matching.specs.Graph.{Graph, over}
 use Rattle.matching.specs.Pairs.{Pair, Pairs, everything, unmatched, pairs-on, unused}
 use Rattle.matching.specs.Pairs as spelling
 use Rattle.matching.specs.Session.{State, with-pairs, onto}
-use Rattle.matching.specs.Model.{undo, done, denied, step, no-pair, undo-refused, undoes}
+use Rattle.matching.specs.Model.{undo, done, denied, no-pair, undo-refused, undoes}
 use Rattle.matching.specs.Calls.{Handles, carries}
 use Rattle.laws.specs.Rules.{rule-step}
 use Rattle.laws.specs.History.{Fits, Valid, cons}

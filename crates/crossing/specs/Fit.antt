@@ -7,7 +7,7 @@ use lib.ListN.{length, take}
 use lib.Seq.{length-take-le, getD-take}
 use Rattle.skew.specs.Subset.{Subset}
 use Rattle.matching.specs.Decision.{Refusal, Ruling, accepted, refused, judge}
-use Rattle.matching.specs.Graph.{largest, over}
+use Rattle.matching.specs.Graph.{largest}
 use Rattle.matching.specs.Pairs.{unmatched, pairs-on}
 use Rattle.matching.specs.Session.{State, graph-of}
 use Rattle.matching.specs.Causes.{LongEnough, lent-always, lent-to-session, too-large, too-short, bad-cell, bad-weight, ill-formed, not-inverse, session-ruling}

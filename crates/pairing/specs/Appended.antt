@@ -1,16 +1,15 @@
 -- What appending a pair leaves. Assumes nothing.
-use mathlib.Core.Path.{_≡_, refl, sym, ap, _∙_}
+use mathlib.Core.Path.{_≡_, sym, ap, _∙_}
 use mathlib.Core.Logic.{_≢_}
 use mathlib.Core.List.{List, _++_}
 use Prim.Native.Nat.{ℕ, _+_, _*_, _/_, _%_, _≤_, _<_}
-use native.Mathlib.Nat.{mod-eq-of-lt}
 use native.Mathlib.Omega.{arith}
 use native.Mathlib.Decide.{decLt}
 use lib.ListN.{length, getD, take, drop, set}
 use Rattle.lists.specs.Values.{list-of, getD-list-of}
-use Rattle.lists.specs.Table.{table, vector, Square, row-below, column-below, index-of}
+use Rattle.lists.specs.Table.{table, vector, row-below, column-below, index-of}
 use Rattle.modular.specs.Congruence.{Congruent, equals, flip, _⨾_, _⊖_, _⊛_, linear}
-use Rattle.modular.specs.Prime.{remainder, by-remainders, remainders-equal}
+use Rattle.modular.specs.Prime.{remainder, by-remainders}
 use Rattle.modular.specs.Reciprocal.{Reciprocal}
 use Rattle.residue.specs.Modulus.{modulus, modulus-prime}
 use Rattle.skew.specs.Choose.{choose-no}

@@ -2,14 +2,13 @@
 use mathlib.Core.Path.{_≡_, refl, sym, ap, _∙_}
 use mathlib.Core.Logic.{_≢_}
 use mathlib.Core.Bool.{Bool, true, false, true≢false}
-use mathlib.Core.List.{List, _++_}
+use mathlib.Core.List.{List}
 use Prim.Native.Nat.{ℕ, _+_, _*_, _%_, _<_}
 use native.Mathlib.Omega.{arith}
-use lib.ListN.{length, getD, take, drop, set, take-append-drop}
-use lib.Seq.{length-take-le}
+use lib.ListN.{length, getD, take, set}
 use Rattle.lists.specs.Values.{list-of, getD-list-of}
 use Rattle.lists.specs.Table.{table, vector}
-use Rattle.modular.specs.Congruence.{Congruent, equals, flip, _⨾_, _⊕_, _⊖_, _⊛_, linear}
+use Rattle.modular.specs.Congruence.{Congruent, equals, _⊕_, _⊖_, _⊛_, linear}
 use Rattle.modular.specs.Sum.{sum, sum-equal, sum-add, sum-vanish}
 use Rattle.modular.specs.Prime.{remainder, below-equal}
 use Rattle.modular.specs.Operations.{negative, negative-plus}

@@ -1,5 +1,5 @@
 -- The vertices that pairs leave, marked, with the inverse for them, and what these say of a pick. Assumes nothing.
-use mathlib.Core.Path.{_≡_, refl, sym, ap, ap₂, _∙_}
+use mathlib.Core.Path.{_≡_, refl, sym, ap₂, _∙_}
 use mathlib.Core.Logic.{_≢_, _↔_}
 use mathlib.Core.List.{List, [], _∷_}
 use Prim.Native.Nat.{ℕ, _+_, _*_, _≤_, _<_}
@@ -11,14 +11,14 @@ use Rattle.lists.specs.Table.{table, index-below, index-row, index-column}
 use Rattle.modular.specs.Congruence.{Congruent, equals}
 use Rattle.modular.specs.Prime.{below-equal}
 use Rattle.residue.specs.Modulus.{modulus, modulus-prime}
-use Rattle.skew.specs.Subset.{_∈_, marked, marked-in, marked-nonzero, clash, marked-out}
+use Rattle.skew.specs.Subset.{_∈_, marked, marked-in, clash, marked-out}
 use Rattle.skew.specs.Remove.{invertible-without}
 use Rattle.matching.specs.Decision as decision
 use Rattle.matching.specs.Decision.{Every, Lowest, because, accepted, refused, not?, both?, Cause}
 use Rattle.matching.specs.Graph.{Graph, over, largest, cell, tutte, fault, kind-of, InOrder}
 use Rattle.matching.specs.Pairs.{Pairs, pair-of, everything, unmatched, in?}
 use Rattle.matching.specs.Session.{InverseTable}
-use Rattle.matching.specs.Model.{Named, named?, needs, Adjacent, adjacent?, skew, Nonsingular, nonsingular?, pick-ruling, OpenPartner}
+use Rattle.matching.specs.Model.{Named, named?, needs, adjacent?, skew, Nonsingular, nonsingular?, pick-ruling, OpenPartner}
 use Rattle.matching.specs.Calls.{bit-of}
 use Rattle.laws.specs.Sound.{judge-refused, judge-next, when-at, unless-absent}
 use Rattle.laws.specs.Faults.{fault-kind, kind-large, kind-unequal}

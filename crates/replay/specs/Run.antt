@@ -1,6 +1,6 @@
 -- A run of the first calls of a list. Assumes nothing.
 use mathlib.Core.Path.{_≡_, refl, sym, ap, ap₂, subst, _∙_}
-use mathlib.Core.List.{List, [], _∷_, _++_, map, append-nil}
+use mathlib.Core.List.{List, [], _∷_, _++_, append-nil}
 use Prim.Native.Nat.{ℕ, zero, suc, _+_, _*_, _≤_, _<_}
 use native.Mathlib.Numerals.{add-one}
 use native.Mathlib.Omega.{arith}
@@ -13,7 +13,7 @@ use Rattle.matching.specs.Decision.{Refusal, Ruling, accepted, refused}
 use Rattle.matching.specs.Pairs.{everything, pairs-on}
 use Rattle.matching.specs.Session.{State, graph-of, onto}
 use Rattle.matching.specs.Causes.{session-ruling}
-use Rattle.matching.specs.Model.{Call, Answer, denied}
+use Rattle.matching.specs.Model.{Call, Answer}
 use Rattle.matching.specs.Calls.{Returned, state-after, Handles, unsound, refuses, carries, Runs, none, more}
 use Rattle.matching.specs.Host.{refusal-number, answer-number}
 use Rattle.matching.specs.Replay.{call-of, call-count, first-calls, calls-of, list-ruling, numbers-of, Replays, replays, refuses-list, DemandThreeOf}

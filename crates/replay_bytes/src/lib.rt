@@ -2,7 +2,7 @@
 use checks::Ruling;
 use session::Session;
 ghost use mathlib.Core.Path.{_≡_};
-ghost use Prim.Native.Nat.{_*_, _≤_, _<_, _^_};
+ghost use Prim.Native.Nat.{_*_, _≤_};
 ghost use lib.ListN.{length};
 ghost use Rattle.residue.specs.Modulus.{modulus-prime};
 ghost use Rattle.matching.specs.Pairs.{everything};

@@ -1,7 +1,7 @@
 -- Open row over lent words, and through the host. Assumes nothing.
 use mathlib.Core.Path.{_≡_, refl, sym, ap, _∙_}
 use mathlib.Core.List.{List, [], _∷_}
-use Prim.Native.Nat.{ℕ, _+_, _^_, _≤_, _<_}
+use Prim.Native.Nat.{ℕ, _^_, _<_}
 use native.Mathlib.Omega.{arith}
 use native.Mathlib.Decide.{decLt}
 use lib.Dec.{lit<}
@@ -9,10 +9,10 @@ use lib.ListN.{length}
 use Rattle.lists.specs.Values.{list-of-same}
 use Rattle.residue.specs.Modulus.{modulus, modulus-prime}
 use Rattle.skew.specs.Choose.{choose}
-use Rattle.matching.specs.Decision.{Refusal, because, Finding, absent, at, when, not?, unless, Ruling, accepted, refused, judge}
-use Rattle.matching.specs.Graph.{largest, over}
-use Rattle.matching.specs.Pairs.{Pairs, everything, unmatched, pairs-on, in?}
-use Rattle.matching.specs.Session.{Session, State, pairs-of, onto}
+use Rattle.matching.specs.Decision.{Refusal, because, absent, at, unless, Ruling, accepted, refused, judge}
+use Rattle.matching.specs.Graph.{largest}
+use Rattle.matching.specs.Pairs.{everything, unmatched, pairs-on, in?}
+use Rattle.matching.specs.Session.{Session, State, pairs-of}
 use Rattle.matching.specs.Causes.{lent-row, lent-to-session, session-ruling, too-large, too-short}
 use Rattle.matching.specs.Model.{automatic, needs}
 use Rattle.matching.specs.Calls.{bit-of, open-row, row-ruling, ShowsRow, shows, row-refused, unsound}

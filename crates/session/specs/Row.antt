@@ -4,20 +4,19 @@ use mathlib.Core.List.{List, [], _∷_, _++_}
 use Prim.Native.Nat.{ℕ, _≤_, _<_}
 use native.Mathlib.Omega.{arith}
 use native.Mathlib.Decide.{decLt}
-use lib.ListN.{length, drop, take-append-drop}
-use Rattle.lists.specs.Values.{list-of, length-list-of}
+use lib.ListN.{length, drop}
+use Rattle.lists.specs.Values.{length-list-of}
 use Rattle.residue.specs.Modulus.{modulus, modulus-prime}
 use Rattle.skew.specs.Choose.{choose-yes, choose-no}
 use Rattle.matching.specs.Decision.{Refusal, because, Finding, absent, at, Ruling, accepted, refused, Cause, judge, unless}
-use Rattle.matching.specs.Graph.{Graph}
 use Rattle.matching.specs.Pairs.{everything, unmatched}
 use Rattle.matching.specs.Session.{State, graph-of, pairs-of, onto}
-use Rattle.matching.specs.Causes.{Lent, lent-always, lent-row, first-short, too-large, too-short, bad-cell, bad-weight, ill-formed, not-inverse, session-ruling}
+use Rattle.matching.specs.Causes.{Lent, lent-always, lent-row, too-large, too-short, bad-cell, bad-weight, ill-formed, not-inverse, session-ruling}
 use Rattle.matching.specs.Calls.{open-row, row-ruling, ShowsRow, shows, row-refused}
 use Rattle.laws.specs.Sound.{judge-first, judge-second, judge-refused, judge-next}
 use Rattle.checks.specs.Answers.{then}
 use Rattle.checks.specs.Lengths.{short-then, lengths-refused, lengths-accepted}
-use Rattle.partners.specs.Standing.{vertex-causes, written-row, Row}
+use Rattle.partners.specs.Standing.{vertex-causes, Row}
 
 -- the ruling of a list of causes, and then that of another
 judge-then : (a b : List Cause) → judge (a ++ b) ≡ then (judge a) (judge b)

@@ -3,9 +3,6 @@
 use calls::Answer;
 use checks::Refusal;
 use checks::Ruling;
-ghost use mathlib.Core.Path.{_≡_};
-ghost use Prim.Native.Nat.{_*_, _≤_};
-ghost use lib.ListN.{length};
 ghost use Rattle.residue.specs.Modulus.{modulus-prime};
 ghost use Rattle.matching.specs.Pairs.{everything};
 ghost use Rattle.matching.specs.Model.{pick, automatic, undo};

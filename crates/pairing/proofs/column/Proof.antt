@@ -3,7 +3,6 @@ use mathlib.Core.Path.{refl}
 use Prim.Native.Nat.{_-_}
 use native.Mathlib.Omega.{arith}
 use lib.ListN.{length}
-use borrow.Author.Needs.{needs}
 use Rattle.lists.specs.Table.{table, index-small}
 use Rattle.lists.specs.Written.{Written, written-start, written-more, written-all}
 use Rattle.pairing.proofs.column.Statement.{statement}

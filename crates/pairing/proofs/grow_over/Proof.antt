@@ -1,8 +1,6 @@
 -- `pairing::grow_over` meets its contract: the update by the columns that border the inverse. Assumes nothing.
 use mathlib.Core.Path.{_≡_, sym, ap, _∙_}
-use Prim.Native.Nat.{_≤_, _<_}
 use native.Mathlib.Nat.{mod-lt}
-use native.Mathlib.Omega.{arith}
 use lib.Dec.{lit<}
 use lib.ListN.{length}
 use Rattle.lists.specs.Values.{length-list-of, list-of}

@@ -1,6 +1,5 @@
 -- `pairing::ordered` meets its contract. Assumes nothing.
 use mathlib.Core.Path.{sym}
-use native.Mathlib.Omega.{arith}
 use Rattle.pairing.specs.Appended.{pair-unordered}
 use Rattle.laws.specs.Facts.{pair-of-smaller}
 use Rattle.pairing.proofs.ordered.Statement.{statement}

@@ -1,5 +1,4 @@
 -- `pairing::shrink_over` meets its contract: the update by the two columns. Assumes nothing.
-use mathlib.Core.Path.{sym}
 use native.Mathlib.Omega.{arith}
 use borrow.Author.Needs.{needs}
 use Rattle.pairing.specs.Appended.{shrunk}

@@ -7,7 +7,6 @@ use native.Mathlib.Omega.{arith}
 use lib.ListN.{length, length-set}
 use borrow.Author.Needs.{needs}
 use Rattle.residue.specs.Modulus.{modulus-prime}
-use Rattle.lists.specs.Values.{list-of}
 use Rattle.lists.specs.Written.{Written, written-start, written-more, written-all}
 use Rattle.matching.specs.Graph.{over}
 use Rattle.matching.specs.Pairs.{Pairs, everything}

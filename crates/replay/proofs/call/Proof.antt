@@ -1,5 +1,4 @@
 -- `replay::call` meets its contract: the kind decides. Assumes nothing.
-use mathlib.Core.Path.{sym, subst}
 use borrow.Author.Needs.{needs}
 use Rattle.replay.specs.List.{call-pick, call-automatic, call-undo}
 use Rattle.replay.proofs.call.Statement.{statement}

@@ -1,6 +1,6 @@
 -- `replay::first_unknown` meets its contract. The invariant of its loop: the calls before i are of a kind. The measure is what is left of the
 -- count. Assumes nothing.
-use Prim.Native.Nat.{_-_, _*_, _≤_}
+use Prim.Native.Nat.{_-_, _≤_}
 use native.Mathlib.Omega.{arith}
 use borrow.Author.Count.{below-none, below-more}
 use Rattle.matching.specs.Decision.{Every}

@@ -1,5 +1,5 @@
 -- `replay::refuse` meets its contract: the list is refused, or every call is. Assumes nothing.
-use mathlib.Core.Path.{sym, _∙_}
+use mathlib.Core.Path.{sym}
 use lib.Seq.{length-take-le}
 use borrow.Author.Needs.{needs}
 use Rattle.replay.specs.List.{list-room}

@@ -4,7 +4,6 @@ use mathlib.Core.Path.{_≡_, refl, _∙_}
 use Prim.Native.Nat.{_-_, _≤_}
 use native.Mathlib.Omega.{arith}
 use lib.ListN.{length, length-set}
-use borrow.Author.Needs.{needs}
 use Rattle.soundness.specs.Sound.{state}
 use Rattle.calls.specs.Answers.{handles-fit}
 use Rattle.calls.specs.Known.{Known, called-known}

@@ -1,5 +1,4 @@
 -- `replay_bytes::number` meets its contract: each case is one of the definition. Assumes nothing.
-use mathlib.Core.Path.{_∙_}
 use native.Mathlib.Omega.{arith}
 use borrow.Author.Needs.{needs}
 use Rattle.replay_bytes.proofs.number.Statement.{statement}

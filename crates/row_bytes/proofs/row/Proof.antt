@@ -1,5 +1,5 @@
 -- `row_bytes::row` meets its contract: a refusal for the size or the lengths writes nothing, and else words are lent. Assumes nothing.
-use mathlib.Core.Path.{_≡_, sym, _∙_}
+use mathlib.Core.Path.{sym, _∙_}
 use borrow.Author.Needs.{needs}
 use Rattle.residue.specs.Modulus.{modulus, modulus-prime}
 use Rattle.matching.specs.Pairs.{everything}
