@@ -118,7 +118,7 @@ enum saszvigom_buffer {
     SASZVIGOM_BUFFER_WITNESS = 5,
     SASZVIGOM_BUFFER_WORK = 6,
     SASZVIGOM_BUFFER_ROW = 7,
-    /* 8 is the list of calls, which is never too short. */
+    /* 8 names no buffer yet. */
     SASZVIGOM_BUFFER_ANSWERS = 9
 };
 
