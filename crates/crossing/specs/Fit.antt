@@ -12,10 +12,11 @@ use Rattle.matching.specs.Pairs.{unmatched, pairs-on}
 use Rattle.matching.specs.Session.{State, graph-of}
 use Rattle.matching.specs.Causes.{LongEnough, lent-always, lent-to-session, too-large, too-short, bad-cell, bad-weight, ill-formed, not-inverse, session-ruling}
 use Rattle.matching.specs.Host.{words, unpacked-state}
+use Rattle.checks.specs.Weights.{needed}
 use Rattle.checks.specs.Lengths.{lengths-refused, lengths-accepted}
 use Rattle.soundness.specs.Sound.{state}
 use Rattle.packing.specs.Words.{words-length, words-half}
-use Rattle.crossing.specs.Needed.{needed-weights, needed-agree, needed-counted}
+use Rattle.crossing.specs.Needed.{needed-weights, needed-agree, needed-counted, needed-fits}
 use Rattle.crossing.specs.Steps.{session-same}
 
 -- the size and the lengths are in order
@@ -25,6 +26,12 @@ Fits s = (s .session .size ≤ largest) × LongEnough (lent-to-session s [])
 -- the words of the inverse that n vertices need
 abbrev pub needed-inverse : ℕ → List ℕ → List ℕ
 needed-inverse n inverse = take (n * n) (words inverse)
+
+-- n vertices are few enough, and the bytes hold the words that they need
+pub record Needed (n : ℕ) (weights inverse : List ℕ) : Type 0 where
+  pub size : n ≤ largest
+  pub weights-fit : 2 * needed n ≤ length weights
+  pub inverse-fits : 2 * (n * n) ≤ length inverse
 
 -- the words lent in the place of a host's bytes
 abbrev pub needed-state : State → State
@@ -66,6 +73,9 @@ module _ (n made : ℕ) (adjacency weights inverse sequence : List ℕ) where
 
     pub table-stores : 2 * (n * n) ≤ length inverse
     table-stores = omega (arith, F .1 .1 .1 .0, words-length inverse .0)
+
+    pub needed-words : Needed n weights inverse
+    needed-words = record { size = F .0; weights-fit = needed-fits n weights (F .0) (F .1 .1 .0); inverse-fits = table-stores }
 
     pub needed-long : LongEnough (lent-to-session (needed-state (state n made adjacency weights inverse sequence)) [])
     needed-long = (F .1 .0, (omega (arith, needed-counted n weights (F .0) (F .1 .1 .0)), (omega (arith, table-length), (F .1 .1 .1 .1 .0, tt))))

@@ -7,7 +7,7 @@ use session::Returned;
 use session::Session;
 ghost use mathlib.Core.Path.{_≡_};
 ghost use Prim.Native.Nat.{_*_, _≤_, _<_, _^_};
-ghost use lib.ListN.{length};
+ghost use lib.ListN.{length, take};
 ghost use Rattle.residue.specs.Modulus.{modulus-prime};
 ghost use Rattle.matching.specs.Decision.{because};
 ghost use Rattle.matching.specs.Pairs.{everything};
@@ -17,7 +17,9 @@ ghost use Rattle.matching.specs.Host.{refusal-number, answer-number, unpacked-s
 ghost use Rattle.soundness.specs.Sound.{state};
 ghost use Rattle.pairing.specs.Appended.{pair-is};
 ghost use Rattle.calls.specs.Answers.{answer-of};
-ghost use Rattle.crossing.specs.Fit.{Fits};
+ghost use Rattle.checks.specs.Weights.{needed};
+ghost use Rattle.crossing.specs.Needed.{needed-weights};
+ghost use Rattle.crossing.specs.Fit.{Needed, needed-inverse, Fits};
 ghost use Rattle.crossing.specs.Through.{call-of, HandlesOver, handed-back};
 
 // A session call that the host asks for.
@@ -92,6 +94,18 @@ fn call_over(
     }
 }
 
+// The words that n vertices need, of those of two byte slices; there is room for the largest graph: 96 * 95 / 2 weights, and 96 * 96 words of
+// the inverse. For proved callers.
+pub fn unpack(n: usize, weights: &[u8], inverse: &[u8], values: &mut [u16], table: &mut [u16])
+    requires { ⌜ Needed n (now weights) (now inverse) × (length (now values) ≡ 4560) × (length (now table) ≡ 9216) ⌝ }
+    ensures { λ _. ⌜ (take (needed n) (now (values .exit)) ≡ needed-weights n (now (weights .entry))) × (take (n * n) (now (table .exit)) ≡ needed-inverse n (now (inverse .entry))) ⌝ }
+{
+    let count = checks::weights_needed(n);
+    let size = n * n;
+    packing::unpack(weights, &mut values[..count]);
+    packing::unpack(inverse, &mut table[..size]);
+}
+
 // The same over bytes, of which as many words are read as the graph needs.
 fn call_words(
     request: Request,
@@ -105,13 +119,11 @@ fn call_words(
     requires { ⌜ Fits (unpacked-state (state n made (now adjacency) (now weights) (now inverse) (now sequence))) ⌝ }
     ensures { λ r. ⌜ HostHandles modulus-prime everything (state n made (now (adjacency .entry)) (now (weights .entry)) (now (inverse .entry)) (now (sequence .entry))) (call-of request) r (handed-back (state n made (now (adjacency .entry)) (now (weights .entry)) (now (inverse .entry)) (now (sequence .entry))) r (now (inverse .exit)) (now (sequence .exit))) ⌝ }
 {
-    // The words of the largest graph: 96 * 95 / 2 weights and 96 * 96 of the inverse.
     let mut values = [0u16; 4560];
     let mut table = [0u16; 9216];
+    unpack(n, weights, inverse, &mut values, &mut table);
     let count = checks::weights_needed(n);
     let size = n * n;
-    packing::unpack(weights, &mut values[..count]);
-    packing::unpack(inverse, &mut table[..size]);
     call_over(
         request,
         n,

@@ -74,13 +74,11 @@ fn replay_words(
     requires { ⌜ Fits (unpacked-state (state n made (now adjacency) (now weights) (now inverse) (now sequence))) ⌝ }
     ensures { λ r. ⌜ HostReplays modulus-prime everything (state n made (now (adjacency .entry)) (now (weights .entry)) (now (inverse .entry)) (now (sequence .entry))) (now (list .entry)) (now (answers .entry)) r (handed-back (state n made (now (adjacency .entry)) (now (weights .entry)) (now (inverse .entry)) (now (sequence .entry))) r (now (inverse .exit)) (now (sequence .exit))) (now (answers .exit)) ⌝ }
 {
-    // The words of the largest graph: 96 * 95 / 2 weights and 96 * 96 of the inverse.
     let mut values = [0u16; 4560];
     let mut table = [0u16; 9216];
+    crossing::unpack(n, weights, inverse, &mut values, &mut table);
     let count = checks::weights_needed(n);
     let size = n * n;
-    packing::unpack(weights, &mut values[..count]);
-    packing::unpack(inverse, &mut table[..size]);
     replay_over(
         n,
         made,

@@ -55,13 +55,11 @@ fn row_words(
     requires { ⌜ Fits (unpacked-state (state n made (now adjacency) (now weights) (now inverse) (now sequence))) ⌝ }
     ensures { λ r. ⌜ HostShowsRow modulus-prime everything (state n made (now (adjacency .entry)) (now (weights .entry)) (now (inverse .entry)) (now (sequence .entry))) a (now (row .entry)) r (state n made (now (adjacency .entry)) (now (weights .entry)) (now (inverse .entry)) (now (sequence .entry))) (now (row .exit)) ⌝ }
 {
-    // The words of the largest graph: 96 * 95 / 2 weights and 96 * 96 of the inverse.
     let mut values = [0u16; 4560];
     let mut table = [0u16; 9216];
+    crossing::unpack(n, weights, inverse, &mut values, &mut table);
     let count = checks::weights_needed(n);
     let size = n * n;
-    packing::unpack(weights, &mut values[..count]);
-    packing::unpack(inverse, &mut table[..size]);
     row_over(
         n,
         made,

@@ -1,64 +1,49 @@
--- `replay_bytes::replay_words` meets its contract: the words that it unpacks are those that the graph needs. Assumes nothing.
+-- `replay_bytes::replay_words` meets its contract: the words that it lends are those that the graph needs. Assumes nothing.
 use mathlib.Core.Path.{_≡_, sym, ap, _∙_}
-use mathlib.Core.List.{_++_}
-use Prim.Native.Nat.{_*_, _≤_}
+use Prim.Native.Nat.{ℕ, _*_, _≤_}
 use native.Mathlib.Omega.{arith}
-use lib.ListN.{length, take, drop, replicate}
-use Rattle.lists.specs.Part.{length-part, part-filled}
-use Rattle.lists.specs.Table.{square-small}
-use Rattle.matching.specs.Host.{words}
-use Rattle.crossing.specs.Needed.{needed-small, needed-weights, needed-fits}
-use Rattle.crossing.specs.Fit.{needed-inverse, table-stores}
-use Rattle.replay_bytes.specs.Through.{host-replays}
+use lib.ListN.{length, take, length-replicate}
+use lib.Seq.{length-take-le}
 use borrow.Author.Needs.{needs}
+use Rattle.lists.specs.Table.{square-small}
+use Rattle.crossing.specs.Needed.{needed-small, needed-weights}
+use Rattle.crossing.specs.Fit.{needed-words, table-stores}
+use Rattle.replay_bytes.specs.Through.{host-replays}
 use Rattle.replay_bytes.proofs.replay_words.Statement.{statement}
 use Rattle.replay_bytes.proofs.replay_words.Tie as tie
 
 abbrev start : tie.After-weights-needed → tie.Start
-start at = at .before .before .before .before .before .before .before
+start at = at .before .before .before .before .before .before .before .before .before .before .before .before .before
 
--- the arrays have room for what is needed
-counted : (at : tie.After-weights-needed) → at .weights-needed .result ≤ 4560
-counted at = rw (at .weights-needed .ensures) (needed-small _)
+-- the arrays keep their lengths, and so have room for what is needed
+counted : (at : tie.After-weights-needed) → at .weights-needed .result ≤ length (at .before .before .before .unpack .last .1 .1 .1 .0)
+counted at =
+    omega (arith, at .weights-needed .ensures, needed-small (start at .args .n), at .before .before .before .unpack .kept .1 .1 .1 .0, length-replicate {A = ℕ} 4560 0)
 
-squared : (at : tie.After-weights-needed) → start at .args .n * start at .args .n ≤ 9216
-squared at = square-small _ (start at .pre .0)
+squared : (at : tie.After-weights-needed) → start at .args .n * start at .args .n ≤ length (at .before .before .before .unpack .last .1 .1 .1 .1 .0)
+squared at =
+    omega (arith, square-small (start at .args .n) (start at .pre .0), at .before .before .before .unpack .kept .1 .1 .1 .1 .0, length-replicate {A = ℕ} 9216 0)
 
--- as many words come back
-abbrev counting : tie.After-unpack → tie.After-weights-needed
-counting at = at .before .before
+values-length : (at : tie.After-weights-needed) → length (take (at .weights-needed .result) (at .before .before .before .unpack .last .1 .1 .1 .0)) ≡ at .weights-needed .result
+values-length at = length-take-le _ (at .before .before .before .unpack .last .1 .1 .1 .0) (counted at)
 
-values-length : (at : tie.After-unpack) → length (at .unpack .last .1 .0) ≡ counting at .weights-needed .result
-values-length at = at .unpack .kept .1 .0 ∙ length-part _ 4560 0 (counted (counting at))
+table-length : (at : tie.After-weights-needed) → (let k = start at .args .n * start at .args .n in length (take k (at .before .before .before .unpack .last .1 .1 .1 .1 .0)) ≡ k)
+table-length at = length-take-le _ (at .before .before .before .unpack .last .1 .1 .1 .1 .0) (squared at)
 
-abbrev weights-unpacked : tie.After-unpack2 → tie.After-unpack
-weights-unpacked at = at .before .before .before .before
+values-are : (at : tie.After-weights-needed) → take (at .weights-needed .result) (at .before .before .before .unpack .last .1 .1 .1 .0) ≡ needed-weights (start at .args .n) (start at .args .weights .now)
+values-are at = ap (λ k. take k (at .before .before .before .unpack .last .1 .1 .1 .0)) (at .weights-needed .ensures) ∙ at .before .before .before .unpack .ensures .0
 
-abbrev entry : tie.After-unpack2 → tie.Start
-entry at = start (counting (weights-unpacked at))
+slice-aggregate-unpack : tie.Need-slice-aggregate-unpack
+slice-aggregate-unpack c = search needs
 
-words-length : (at : tie.After-unpack2) → length (at .unpack2 .last .1 .0) ≡ entry at .args .n * entry at .args .n
-words-length at = at .unpack2 .kept .1 .0 ∙ length-part _ 9216 0 (squared (counting (weights-unpacked at)))
+slice-aggregate-unpack-2 : tie.Need-slice-aggregate-unpack-2
+slice-aggregate-unpack-2 c = search needs
 
-words-lent : (at : tie.After-unpack2) → (let k = entry at .args .n * entry at .args .n in length (take k (at .unpack2 .last .1 .0 ++ drop k (replicate 9216 0))) ≡ k)
-words-lent at = ap length (part-filled _ (at .unpack2 .last .1 .0) _ (words-length at) .1) ∙ words-length at
-
--- and they are those of the bytes
-values-are : (at : tie.After-unpack)
-    → (let k = counting at .weights-needed .result in take k (at .unpack .last .1 .0 ++ drop k (replicate 4560 0)))
-    ≡ needed-weights (start (counting at) .args .n) (start (counting at) .args .weights .now)
-values-are at =
-    part-filled _ (at .unpack .last .1 .0) _ (values-length at) .1
-    ∙ at .unpack .ensures
-    ∙ ap (λ k. take k (words (start (counting at) .args .weights .now))) (length-part _ 4560 0 (counted (counting at)) ∙ counting at .weights-needed .ensures)
-
-table-is : (at : tie.After-unpack2)
-    → (let k = entry at .args .n * entry at .args .n in take k (at .unpack2 .last .1 .0 ++ drop k (replicate 9216 0)))
-    ≡ needed-inverse (entry at .args .n) (entry at .args .inverse .now)
-table-is at =
-    part-filled _ (at .unpack2 .last .1 .0) _ (words-length at) .1
-    ∙ at .unpack2 .ensures
-    ∙ ap (λ k. take k (words (entry at .args .inverse .now))) (length-part _ 9216 0 (squared (counting (weights-unpacked at))))
+unpack-requires : tie.Need-unpack-requires
+unpack-requires c κs = 
+    let s = c .before .before .before .before .before .before .before .before .before in
+    let a = s .args in
+    (needed-words (a .n) (a .made) (a .adjacency .now) (a .weights .now) (a .inverse .now) (a .sequence .now) (s .pre), length-replicate {A = ℕ} 4560 0, length-replicate {A = ℕ} 9216 0)
 
 weights-needed-requires : tie.Need-weights-needed-requires
 weights-needed-requires c κs = search needs
@@ -66,48 +51,23 @@ weights-needed-requires c κs = search needs
 mul-size : tie.Need-mul-size
 mul-size c = search needs
 
-array-borrow-prefix-values : tie.Need-array-borrow-prefix-values
-array-borrow-prefix-values c = counted c
-
-slice-aggregate-unpack : tie.Need-slice-aggregate-unpack
-slice-aggregate-unpack c = sym (length-part _ 4560 0 (counted (c .before)))
-
-unpack-requires : tie.Need-unpack-requires
-unpack-requires c κs =
-    let s = start (c .before) in
-    omega (arith, c .before .weights-needed .ensures, needed-fits (s .args .n) (s .args .weights .now) (s .pre .0) (s .pre .1 .1 .0), length-part _ 4560 0 (counted (c .before)))
-
-array-borrow-prefix-table : tie.Need-array-borrow-prefix-table
-array-borrow-prefix-table c = squared (c .before .before .before .before)
-
-slice-aggregate-unpack-2 : tie.Need-slice-aggregate-unpack-2
-slice-aggregate-unpack-2 c = sym (length-part _ 9216 0 (squared (c .before .before .before .before .before)))
-
-unpack-requires-2 : tie.Need-unpack-requires-2
-unpack-requires-2 c κs =
-    let at = c .before .before .before .before .before in
-    let a = start at .args in
-    omega (arith, table-stores (a .n) (a .made) (a .adjacency .now) (a .weights .now) (a .inverse .now) (a .sequence .now) (start at .pre), length-part _ 9216 0 (squared at))
-
 array-share-prefix-values : tie.Need-array-share-prefix-values
-array-share-prefix-values c = let at = weights-unpacked (c .before) in part-filled _ (at .unpack .last .1 .0) _ (values-length at) .0
+array-share-prefix-values c = counted c
 
 slice-aggregate-replay-over : tie.Need-slice-aggregate-replay-over
-slice-aggregate-replay-over c =
-    let at = weights-unpacked (c .before .before) in
-    sym (ap length (part-filled _ (at .unpack .last .1 .0) _ (values-length at) .1) ∙ values-length at)
+slice-aggregate-replay-over c = sym (values-length (c .before))
 
-array-borrow-prefix-table-2 : tie.Need-array-borrow-prefix-table-2
-array-borrow-prefix-table-2 c = let at = c .before .before in part-filled _ (at .unpack2 .last .1 .0) _ (words-length at) .0
+array-borrow-prefix-table : tie.Need-array-borrow-prefix-table
+array-borrow-prefix-table c = squared (c .before)
 
 slice-aggregate-replay-over-2 : tie.Need-slice-aggregate-replay-over-2
-slice-aggregate-replay-over-2 c = sym (words-lent (c .before .before .before))
+slice-aggregate-replay-over-2 c = sym (table-length (c .before .before))
 
 replay-over-requires : tie.Need-replay-over-requires
-replay-over-requires c κs =
-    let at = c .before .before .before .before .before .before in
-    let a = entry at .args in
-    omega (arith, table-stores (a .n) (a .made) (a .adjacency .now) (a .weights .now) (a .inverse .now) (a .sequence .now) (entry at .pre), words-lent at)
+replay-over-requires c κs = 
+    let at = c .before .before .before .before .before in
+    let a = start at .args in
+    omega (arith, table-stores (a .n) (a .made) (a .adjacency .now) (a .weights .now) (a .inverse .now) (a .sequence .now) (start at .pre), table-length at)
 
 same-length : tie.Need-same-length
 same-length c = search needs
@@ -119,30 +79,26 @@ same-length-3 : tie.Need-same-length-3
 same-length-3 c = search needs
 
 returns : tie.Need-returns
-returns c =
+returns c = 
     let called = c .before .before .before .before .before .before .before in
-    let at = called .before .before .before .before .before .before .before in
-    let s = entry at in
-    let a = s .args in
+    let at = called .before .before .before .before .before .before in
+    let a = start at .args in
     host-replays (a .n) (a .made) (a .adjacency .now) (a .weights .now) (a .inverse .now) (a .sequence .now) (a .list .now) (a .answers .now)
-    (λ x. omega (arith, counting (weights-unpacked at) .before .before .before .before .slice-known .given x)) (s .pre)
-    (rw (values-are (weights-unpacked at), table-is at) at (called .replay-over .ensures))
+    (λ x. omega (arith, at .before .before .before .before .before .before .before .before .before .before .slice-known .given x)) (start at .pre)
+    (rw (values-are at, at .before .before .before .unpack .ensures .1) at (called .replay-over .ensures))
 
 pub replay-words-spec : {M : Type 1} → statement M
 replay-words-spec =
     tie.close
     (tie.spec
+    slice-aggregate-unpack
+    slice-aggregate-unpack-2
+    unpack-requires
     weights-needed-requires
     mul-size
-    array-borrow-prefix-values
-    slice-aggregate-unpack
-    unpack-requires
-    array-borrow-prefix-table
-    slice-aggregate-unpack-2
-    unpack-requires-2
     array-share-prefix-values
     slice-aggregate-replay-over
-    array-borrow-prefix-table-2
+    array-borrow-prefix-table
     slice-aggregate-replay-over-2
     replay-over-requires
     same-length
