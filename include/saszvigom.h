@@ -100,7 +100,8 @@ enum saszvigom_cause {
     SASZVIGOM_REST_SINGULAR = 10,
     /* An automatic pick with no vertex unmatched, or an undo without a pair. */
     SASZVIGOM_NOTHING_LEFT = 11,
-    /* A call of a list has a kind other than those of enum saszvigom_call. The
+    /* A whole call of a list has a kind other than those of enum saszvigom_call.
+       The
        place is the index of the first such call, 0 for the first call of the
        list; 65535 if it is larger. */
     SASZVIGOM_CALL_UNKNOWN = 12,
@@ -118,8 +119,8 @@ enum saszvigom_buffer {
     SASZVIGOM_BUFFER_WITNESS = 5,
     SASZVIGOM_BUFFER_WORK = 6,
     SASZVIGOM_BUFFER_ROW = 7,
-    /* 8 names no buffer yet. */
-    SASZVIGOM_BUFFER_ANSWERS = 9
+    /* 8 and 9 name no buffer yet. */
+    SASZVIGOM_BUFFER_ANSWERS = 10
 };
 
 /* What a call found: bits 8 to 15 of the number returned. */
@@ -208,7 +209,7 @@ uint64_t saszvigom_open(uint64_t n,
  *              SASZVIGOM_UNUSED
  *
  * It is sound if all this holds, which every session call confirms before it
- * does anything else: no call trusts what it is lent. An opened graph is sound
+ * changes anything: no call trusts what it is lent. An opened graph is sound
  * with made = 0, and a call leaves a sound session sound. The library keeps
  * nothing, so a session may be copied, stored, and gone on with in another
  * process; of the number returned keep the pairs made.
@@ -316,7 +317,8 @@ uint64_t saszvigom_row(uint64_t n, uint64_t made, uint64_t a,
  *              read, and written as by the calls
  *   calls      read; three numbers a call: its kind, one of enum saszvigom_call,
  *              and two vertices, which are ignored but for SASZVIGOM_CALL_PICK
- *   answers    written; a number a call: the one that the call returns
+ *   answers    written; a number a call: the one that the call returns. What
+ *              stands past these numbers is not written
  *
  * calls and answers are arrays of uint64_t, aligned as such, and their lengths
  * count numbers, not bytes. No other buffer needs alignment.
@@ -331,7 +333,9 @@ uint64_t saszvigom_row(uint64_t n, uint64_t made, uint64_t a,
  * session sent is sound, the number is of kind SASZVIGOM_REPLAYED, with the
  * pairs made at the end. If not, it is the refusal, a cause from 1 to 6 with its
  * place, which is written as the answer of every call too; nothing else is
- * written, and the session is the one sent. An empty list is in order, and tells
+ * written, and the session is the one sent. So the answers are not written
+ * exactly if the cause is SASZVIGOM_CALL_UNKNOWN or SASZVIGOM_LIST_CUT, or
+ * SASZVIGOM_BUFFER_TOO_SHORT at SASZVIGOM_BUFFER_ANSWERS. An empty list is in order, and tells
  * whether a session is sound.
  */
 uint64_t saszvigom_replay(uint64_t n, uint64_t made,

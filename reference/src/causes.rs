@@ -87,5 +87,5 @@ pub mod buffer {
     /// Document 01: "row".
     pub const ROW: u64 = 7;
     /// The answers of a replay. Its list of calls is 8.
-    pub const ANSWERS: u64 = 9;
+    pub const ANSWERS: u64 = 10;
 }

@@ -48,10 +48,10 @@ fn refusal(cause: u64, place: u64) -> u64 {
 fn too_little_room_for_answers() {
     let calls = [AUTOMATIC, 0, 0, UNDO, 0, 0];
     for room in 0..2 {
-        assert_eq!(refused(session(4, 0), &calls, room), refusal(2, 9));
+        assert_eq!(refused(session(4, 0), &calls, room), refusal(2, 10));
     }
-    assert_eq!(refused(session(4, 0), &[9, 0, 0, 7], 0), refusal(2, 9));
-    assert_eq!(refused(session(97, 9), &calls, 1), refusal(2, 9));
+    assert_eq!(refused(session(4, 0), &[9, 0, 0, 7], 0), refusal(2, 10));
+    assert_eq!(refused(session(97, 9), &calls, 1), refusal(2, 10));
 }
 
 #[test]

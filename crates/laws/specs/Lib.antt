@@ -15,7 +15,7 @@ pub mod Carried
 -- Demand 3.
 pub mod Demand
 pub mod Fresh
--- The reader, and one outcome for open row, the reader and the listing.
+-- The reader, and one outcome for open row, replay, the reader and the listing.
 pub mod Reading
 pub mod Outcomes
 -- The host.

@@ -1,5 +1,5 @@
--- Open row, the reader and the listing have exactly one outcome each. Assumes nothing.
-use mathlib.Core.Path.{_≡_, refl, sym, _∙_}
+-- Open row, replay, the reader and the listing have exactly one outcome each. Assumes nothing.
+use mathlib.Core.Path.{_≡_, refl, sym, ap, _∙_}
 use mathlib.Core.List.{List, [], _++_}
 use Prim.Native.Nat.{ℕ}
 use native.Mathlib.Omega.{arith}
@@ -12,13 +12,15 @@ use Rattle.skew.specs.Matching.{invertible-even}
 use Rattle.matching.specs.Decision.{Refusal, Ruling, accepted, refused}
 use Rattle.matching.specs.Graph.{Graph, tutte}
 use Rattle.matching.specs.Pairs.{Pair, everything, unmatched}
-use Rattle.matching.specs.Session.{State}
+use Rattle.matching.specs.Session.{State, onto}
 use Rattle.matching.specs.Opening.{Singular}
 use Rattle.matching.specs.Model.{skew, automatic, pairs-after, Nonsingular, PicksToCome}
-use Rattle.matching.specs.Calls.{row-ruling, ShowsRow, shows, row-refused}
+use Rattle.matching.specs.Calls.{state-after, row-ruling, ShowsRow, shows, row-refused}
+use Rattle.matching.specs.Replay.{calls-of, list-ruling, numbers-of, Replays, refuses-list, replays}
 use Rattle.matching.specs.Records.{Reading, sheet, unread, ReadsAs, graph, Read, not-read, graph-read, room, Fills, refuses-records, lacks-room, fills}
 use Rattle.matching.specs.Computed.{read}
 use Rattle.matching.specs.Listing.{input-limit, first-line, pair-lines, witness-lines, line-full, line-none, refused-line, Lists, refuses-sheet, pairs-up, shows-witness}
+use Rattle.laws.specs.Carried.{runs-some, runs-unique}
 use Rattle.laws.specs.Facts.{picks-to-come, picks-to-come-half}
 use Rattle.laws.specs.Determined.{singular-of, singular-unique}
 use Rattle.laws.specs.Reading.{reads-unique}
@@ -40,6 +42,23 @@ module _ {p : ℕ} (P : OddPrime p) (S : Subset) where
   row-unique (shows e) (row-refused r e′) = never (cc)
   row-unique (row-refused r e) (shows e′) = never (cc)
   row-unique (row-refused r e) (row-refused r′ e′) = (cc, refl, refl)
+
+module _ {p : ℕ} (P : OddPrime p) (S : Subset) where
+  pub replays-some : (s : State) (numbers answers : List ℕ) → (v : Ruling) × (t : State) × (after : List ℕ) × Replays P S s numbers answers v t after
+  replays-some s numbers answers = go (list-ruling numbers (length answers)) refl
+    where
+      go : (v : Ruling) → list-ruling numbers (length answers) ≡ v → (v : Ruling) × (t : State) × (after : List ℕ) × Replays P S s numbers answers v t after
+      go (refused r) e = (refused r, s, answers, refuses-list r e)
+      go accepted e = let R = runs-some P S s (calls-of numbers) in (_, _, _, replays (R .0) e (R .1))
+
+  pub replays-unique : {s t t′ : State} {numbers answers after after′ : List ℕ} {v v′ : Ruling} → Replays P S s numbers answers v t after
+      → Replays P S s numbers answers v′ t′ after′ → (v ≡ v′) × (t ≡ t′) × (after ≡ after′)
+  replays-unique (refuses-list r e) (refuses-list r′ e′) = (cc, refl, refl)
+  replays-unique (refuses-list r e) (replays _ e′ _) = never (cc)
+  replays-unique (replays _ e _) (refuses-list r e′) = never (cc)
+  replays-unique {s} {answers = answers} (replays a e R) (replays b e′ R′) =
+      let q : a ≡ b = runs-unique P S R R′ in
+      (refl, ap (λ l. state-after s l (length l)) q, ap (λ l. onto (numbers-of l) answers) q)
 
 pub fills-some : (bytes adjacency weights : List ℕ) → (o : Read) × (a : List ℕ) × (w : List ℕ) × Fills bytes adjacency weights o a w
 fills-some bytes adjacency weights = by-reading (read bytes .reading) (read bytes .reads)

@@ -16,10 +16,10 @@ use Rattle.matching.specs.Host.{bytes-of, number, refusal-number, answer
 use Rattle.matching.specs.Demand.{FollowsModel}
 
 -- a call is three numbers: its kind, 1 hand pick, 2 automatic pick, 3 take-back, and two vertices, which a hand pick alone looks at
-abbrev pub Kind : ℕ → Type 0
-Kind k = (0 < k) × (k < 4)
+abbrev pub CallKind : ℕ → Type 0
+CallKind k = (0 < k) × (k < 4)
 
-abbrev pub kind? : (k : ℕ) → Dec (Kind k)
+abbrev pub kind? : (k : ℕ) → Dec (CallKind k)
 kind? k = both? (decLt 0 k) (decLt k 4)
 
 unfoldable pub call-of : (kind a b : ℕ) → Call
@@ -39,7 +39,7 @@ first-calls numbers (suc k) =
 abbrev pub calls-of : List ℕ → List Call
 calls-of numbers = first-calls numbers (call-count numbers)
 
--- an index as a place, which has 16 bits: 65535 stands for every later one
+-- an index as a place, which has 16 bits: 65535 stands for itself and every later one
 abbrev pub place-of : ℕ → ℕ
 place-of i = choose (decLt i 65535) i 65535
 
@@ -47,12 +47,12 @@ abbrev pub as-place : Finding → Finding
 as-place absent = absent
 as-place (at i) = at (place-of i)
 
--- 2: the answers do not fit; they are buffer 9, since document 02 has an eighth
+-- 2: the answers do not fit; they are buffer 10, since document 02 has 8 and 9
 abbrev pub lent-answers : (count length : ℕ) → Lent
-lent-answers count length = record { number = 9; length = length; needed = count }
+lent-answers count length = record { number = 10; length = length; needed = count }
 
--- 12: a call of another kind, at the index of the first
-unfoldable pub first-unknown : (numbers : List ℕ) → First (call-count numbers) (λ i. ¬ Kind (getD numbers (3 * i) 0))
+-- 12: a whole call of another kind, at the index of the first
+unfoldable pub first-unknown : (numbers : List ℕ) → First (call-count numbers) (λ i. ¬ CallKind (getD numbers (3 * i) 0))
 unfolding first? decLt
 first-unknown numbers = first? _ (call-count numbers) (λ i. not? (kind? (getD numbers (3 * i) 0)))
 
@@ -60,7 +60,7 @@ unfoldable pub unknown-kind : List ℕ → Cause
 unfolding first-unknown
 unknown-kind numbers = record { number = 12; finding = as-place (found (first-unknown numbers)) }
 
--- 13: the list ends within a call, at the index of that call
+-- 13: the list ends within a call, at the number of whole calls before it
 abbrev pub cut-call : List ℕ → Cause
 cut-call numbers = record { number = 13; finding = when (not? (ℕ-discrete (length numbers % 3) 0)) (place-of (call-count numbers)) }
 
@@ -75,8 +75,8 @@ abbrev pub numbers-of : List Returned → List ℕ
 numbers-of returned = map (λ (r : Returned). answer-number (r .answer) (r .state .session)) returned
 
 module _ {p : ℕ} (P : OddPrime p) (S : Subset) where
-  -- a replay: the refusal of the list, or the run of its calls, whose ruling is that of the session, the state after the last call, and
-  -- the numbers of all answers over those lent
+  -- either the list is refused and nothing changes, or its calls are run: the ruling is the session's, the state is that after the last
+  -- call, and the first answers are the numbers of the calls
   pub data Replays (s : State) (numbers answers : List ℕ) : Ruling → State → List ℕ → Type 0 where
     refuses-list : (r : Refusal) → list-ruling numbers (length answers) ≡ refused r → Replays s numbers answers (refused r) s answers
     replays : (returned : List Returned) → list-ruling numbers (length answers) ≡ accepted → Runs P S s (calls-of numbers) returned
@@ -99,7 +99,7 @@ abbrev pub replay-number : Ruling → Session → ℕ
 replay-number accepted s = number 0 5 0 (s .made)
 replay-number (refused r) s = refusal-number r
 
--- the state left, stored over the host's bytes; the tables are not written. On a refusal all is as it came
+-- the state left, stored over the host's bytes; the tables are not written. On a refusal the state is as it came; the answers are in `Replays`
 abbrev pub replay-stored : Ruling → State → State → State
 replay-stored accepted left s = record {
   session = left .session;

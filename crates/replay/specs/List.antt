@@ -11,27 +11,27 @@ use Rattle.skew.specs.Choose.{choose, choose-yes, choose-no}
 use Rattle.matching.specs.Decision.{Every, Lowest, Refusal, because, Finding, absent, at, when, unless, accepted, refused, Cause, judge, not?, found}
 use Rattle.matching.specs.Causes.{too-short}
 use Rattle.matching.specs.Model.{pick, automatic, undo}
-use Rattle.matching.specs.Replay.{Kind, call-of, call-count, place-of, as-place, lent-answers, first-unknown, unknown-kind, cut-call, list-ruling}
+use Rattle.matching.specs.Replay.{CallKind, call-of, call-count, place-of, as-place, lent-answers, first-unknown, unknown-kind, cut-call, list-ruling}
 use Rattle.laws.specs.Numbers.{Small}
 use Rattle.laws.specs.Sound.{judge-refused, judge-next, when-at, unless-absent, found-absent, found-at, short-absent, judge-accepted}
 
 abbrev pub Unknown : List ℕ → ℕ → Type 0
-Unknown numbers i = ¬ Kind (getD numbers (3 * i) 0)
+Unknown numbers i = ¬ CallKind (getD numbers (3 * i) 0)
 
 module _ (numbers : List ℕ) (room : ℕ) where
   abbrev two : Cause
   two = too-short (lent-answers (call-count numbers) room ∷ [])
 
-  pub answers-short : room < call-count numbers → list-ruling numbers room ≡ refused (because 2 9)
+  pub answers-short : room < call-count numbers → list-ruling numbers room ≡ refused (because 2 10)
   unfolding list-ruling
-  answers-short l = judge-refused two (unknown-kind numbers ∷ cut-call numbers ∷ []) 9 (choose-yes (decLt room (call-count numbers)) (at 9) absent l)
+  answers-short l = judge-refused two (unknown-kind numbers ∷ cut-call numbers ∷ []) 10 (choose-yes (decLt room (call-count numbers)) (at 10) absent l)
 
   module _ (enough : call-count numbers ≤ room) where
     from-kinds : list-ruling numbers room ≡ judge (unknown-kind numbers ∷ cut-call numbers ∷ [])
     unfolding list-ruling
     from-kinds =
         judge-next two (unknown-kind numbers ∷ cut-call numbers ∷ [])
-        (choose-no (decLt room (call-count numbers)) (at 9) absent (λ l. omega arith))
+        (choose-no (decLt room (call-count numbers)) (at 10) absent (λ l. omega arith))
 
     pub kind-unknown : {i : ℕ} → Lowest (call-count numbers) (Unknown numbers) i → list-ruling numbers room ≡ refused (because 12 (place-of i))
     unfolding unknown-kind
@@ -94,7 +94,7 @@ list-small numbers room e =
     judged-small (too-short (lent-answers (call-count numbers) room ∷ []) ∷ unknown-kind numbers ∷ cut-call numbers ∷ [])
     (omega arith, omega arith, short (decLt room (call-count numbers)), (omega arith, omega arith, unknown (found (first-unknown numbers)), (omega arith, omega arith, cut (not? (ℕ-discrete (length numbers % 3) 0)), tt))) e
   where
-    short : (d : Dec (room < call-count numbers)) (x : ℕ) → choose d (at 9) absent ≡ at x → x < 2 ^ 16
+    short : (d : Dec (room < call-count numbers)) (x : ℕ) → choose d (at 10) absent ≡ at x → x < 2 ^ 16
     short (yes _) x q = rw (← same-place q) (lit< tt)
     short (no _) x q = absurd (let z : _≡_ {A = ℕ} 0 1 = cc in omega arith)
 

@@ -58,7 +58,10 @@ fn judge(list: &[u64], room: usize) -> Ruling
 {
     let count = list.len() / 3;
     if room < count {
-        return Ruling::Refused(Refusal { cause: 2, place: 9 });
+        return Ruling::Refused(Refusal {
+            cause: 2,
+            place: 10,
+        });
     }
     if let Finding::At(i) = first_unknown(list, count) {
         let at = place(i);

@@ -54,7 +54,7 @@ same-length-2 : tie.Need-same-length-2
 same-length-2 c = search needs
 
 returns : tie.Need-returns
-returns c = 
+returns c =
     let at = c .before .before .before .before .before .before .before .before in
     let a = start at .args in
     let first = c .before .before .before .before .before .before .unpack in
@@ -64,12 +64,12 @@ returns c =
     let front = length-take-le count (a .values .now) (counted at) in
     let square = length-take-le size (a .table .now) (squared at) in (
       ap (λ k. take k (first .last .1 .0 ++ drop count (a .values .now))) (sym (at .weights-needed .ensures))
-      ∙ part-filled count (first .last .1 .0) _ (first .kept .1 .0 ∙ front) .1
-      ∙ first .ensures
-      ∙ ap (λ k. take k (words (a .weights .now))) (front ∙ at .weights-needed .ensures),
+          ∙ part-filled count (first .last .1 .0) _ (first .kept .1 .0 ∙ front) .1
+          ∙ first .ensures
+          ∙ ap (λ k. take k (words (a .weights .now))) (front ∙ at .weights-needed .ensures),
       part-filled size (second .last .1 .0) _ (second .kept .1 .0 ∙ square) .1
-      ∙ second .ensures
-      ∙ ap (λ k. take k (words (a .inverse .now))) square,
+          ∙ second .ensures
+          ∙ ap (λ k. take k (words (a .inverse .now))) square,
     )
 
 pub unpack-spec : {M : Type 1} → statement M

@@ -40,7 +40,7 @@ slice-aggregate-unpack-2 : tie.Need-slice-aggregate-unpack-2
 slice-aggregate-unpack-2 c = search needs
 
 unpack-requires : tie.Need-unpack-requires
-unpack-requires c κs = 
+unpack-requires c κs =
     let s = c .before .before .before .before .before .before .before .before .before in
     let a = s .args in
     (needed-words (a .n) (a .made) (a .adjacency .now) (a .weights .now) (a .inverse .now) (a .sequence .now) (s .pre), length-replicate {A = ℕ} 4560 0, length-replicate {A = ℕ} 9216 0)
@@ -64,7 +64,7 @@ slice-aggregate-replay-over-2 : tie.Need-slice-aggregate-replay-over-2
 slice-aggregate-replay-over-2 c = sym (table-length (c .before .before))
 
 replay-over-requires : tie.Need-replay-over-requires
-replay-over-requires c κs = 
+replay-over-requires c κs =
     let at = c .before .before .before .before .before in
     let a = start at .args in
     omega (arith, table-stores (a .n) (a .made) (a .adjacency .now) (a .weights .now) (a .inverse .now) (a .sequence .now) (start at .pre), table-length at)
@@ -79,7 +79,7 @@ same-length-3 : tie.Need-same-length-3
 same-length-3 c = search needs
 
 returns : tie.Need-returns
-returns c = 
+returns c =
     let called = c .before .before .before .before .before .before .before in
     let at = called .before .before .before .before .before .before in
     let a = start at .args in

@@ -40,7 +40,7 @@ slice-aggregate-unpack-2 : tie.Need-slice-aggregate-unpack-2
 slice-aggregate-unpack-2 c = search needs
 
 unpack-requires : tie.Need-unpack-requires
-unpack-requires c κs = 
+unpack-requires c κs =
     let s = c .before .before .before .before .before .before .before in
     let a = s .args in
     (needed-words (a .n) (a .made) (a .adjacency .now) (a .weights .now) (a .inverse .now) (a .sequence .now) (s .pre), length-replicate {A = ℕ} 4560 0, length-replicate {A = ℕ} 9216 0)
@@ -64,7 +64,7 @@ slice-aggregate-row-over-2 : tie.Need-slice-aggregate-row-over-2
 slice-aggregate-row-over-2 c = sym (table-length (c .before .before))
 
 row-over-requires : tie.Need-row-over-requires
-row-over-requires c κs = 
+row-over-requires c κs =
     let at = c .before .before .before in
     let a = start at .args in
     rw (values-are at, at .before .before .before .unpack .ensures .1)
@@ -74,7 +74,7 @@ same-length : tie.Need-same-length
 same-length c = search needs
 
 returns : tie.Need-returns
-returns c = 
+returns c =
     let called = c .before .before in
     let at = called .before .before .before .before in
     let a = start at .args in
