@@ -7,7 +7,7 @@ use crate::session::SessionCase;
 pub struct SessionTally {
     counts: [[usize; 14]; 6],
     /// By the place of cause 2.
-    pub short: [usize; 10],
+    pub short: [usize; 11],
 }
 
 impl SessionTally {

@@ -134,7 +134,7 @@ fn every_high_bit() {
 #[test]
 fn every_length() {
     let tally = check("every length", cases::every_length());
-    for place in [1, 2, 3, 4, 7, 9] {
+    for place in [1, 2, 3, 4, 7, 10] {
         assert!(tally.short[place] > 5, "{place}");
     }
     assert!(tally.of_cause(13) > 5);
@@ -167,7 +167,7 @@ fn lists() {
 #[test]
 fn faulty_lists() {
     let tally = check("faulty lists", lists::faulty_lists());
-    assert!(tally.short[9] > 1000);
+    assert!(tally.short[10] > 1000);
     assert!(tally.of(REPLAY, 12) > 1000 && tally.of(REPLAY, 13) > 1000);
 }
 
