@@ -7,6 +7,8 @@
 //
 //   open        opening
 //   refused     a hand pick of vertex 0 with itself, which is refused once the session is confirmed
+//   confirmed   the same on the session that undo is given
+//   short       a hand pick with a sequence that is short by a byte
 //   pick        the hand pick that an automatic pick would make
 //   automatic   an automatic pick
 //   undo        a take-back of that pair
@@ -14,7 +16,7 @@
 //   run         opening, and automatic picks by single calls until none is left
 //   replay      the same by one replay
 //
-// Before it the session is opened, and for undo a pair is made, outside `measured`.
+// Before it the session is opened, and for undo and confirmed a pair is made, outside `measured`.
 #include "graphs.h"
 
 #include <cstdio>
@@ -112,7 +114,7 @@ extern "C" __attribute__((noinline)) void measured(Session &session, const std::
     const size_t pairs = session.graph.n / 2;
     if (call == "open")
         expect(session.open(), SASZVIGOM_OPENED, 0);
-    else if (call == "refused")
+    else if (call == "refused" || call == "confirmed")
         expect(session.pick(0, 0), SASZVIGOM_REFUSED, 7);
     else if (call == "pick")
         expect(session.pick(a, b), SASZVIGOM_PAIR, 0);
@@ -120,6 +122,8 @@ extern "C" __attribute__((noinline)) void measured(Session &session, const std::
         expect(session.automatic(), SASZVIGOM_PAIR, 0);
     else if (call == "undo")
         expect(session.undo(), SASZVIGOM_PAIR, 0);
+    else if (call == "short")
+        expect(session.pick(a, b), SASZVIGOM_REFUSED, 2);
     else if (call == "row")
         expect(session.row(0), SASZVIGOM_ROW, 0);
     else if (call == "run") {
@@ -148,7 +152,9 @@ int main(int argc, char **argv)
     Session session(std::string(argv[3]) == "dense" ? dense(n) : sparse(n));
     expect(session.open(), SASZVIGOM_OPENED, 0);
     const uint64_t pair = session.automatic();
-    if (call != "undo")
+    if (call == "short")
+        session.buffers.sequence.pop_back();
+    else if (call != "undo" && call != "confirmed")
         expect(session.undo(), SASZVIGOM_PAIR, 0);
     const Session before = session;
     std::vector<double> times;
