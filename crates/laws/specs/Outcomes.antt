@@ -17,8 +17,8 @@ use Rattle.matching.specs.Opening.{Singular}
 use Rattle.matching.specs.Model.{skew, automatic, pairs-after, Nonsingular, PicksToCome}
 use Rattle.matching.specs.Calls.{state-after, row-ruling, ShowsRow, shows, row-refused}
 use Rattle.matching.specs.Replay.{calls-of, list-ruling, numbers-of, Replays, refuses-list, replays}
-use Rattle.matching.specs.Records.{Reading, sheet, unread, ReadsAs, graph, Read, not-read, graph-read, room, Fills, refuses-records, lacks-room, fills}
-use Rattle.matching.specs.Computed.{read}
+use Rattle.matching.specs.Records.{Reading, sheet, unread, ReadsFrom, ReadsAs, graph, Read, not-read, graph-read, room, FillsFrom, refuses-records, lacks-room, fills}
+use Rattle.matching.specs.Computed.{read-from, read}
 use Rattle.matching.specs.Listing.{input-limit, first-line, pair-lines, witness-lines, line-full, line-none, refused-line, Lists, refuses-sheet, pairs-up, shows-witness}
 use Rattle.laws.specs.Carried.{runs-some, runs-unique}
 use Rattle.laws.specs.Facts.{picks-to-come, picks-to-come-half}
@@ -60,14 +60,14 @@ module _ {p : ℕ} (P : OddPrime p) (S : Subset) where
       let q : a ≡ b = runs-unique P S R R′ in
       (refl, ap (λ l. state-after s l (length l)) q, ap (λ l. onto (numbers-of l) answers) q)
 
-pub fills-some : (bytes adjacency weights : List ℕ) → (o : Read) × (a : List ℕ) × (w : List ℕ) × Fills bytes adjacency weights o a w
-fills-some bytes adjacency weights = by-reading (read bytes .reading) (read bytes .reads)
+pub fills-some : (bytes : List ℕ) (at : ℕ) (adjacency weights : List ℕ) → (o : Read) × (a : List ℕ) × (w : List ℕ) × FillsFrom bytes at adjacency weights o a w
+fills-some bytes at adjacency weights = by-reading (read-from bytes at .reading) (read-from bytes at .reads)
   where
-    by-reading : (r : Reading) → ReadsAs bytes r → (o : Read) × (a : List ℕ) × (w : List ℕ) × Fills bytes adjacency weights o a w
+    by-reading : (r : Reading) → ReadsFrom bytes at r → (o : Read) × (a : List ℕ) × (w : List ℕ) × FillsFrom bytes at adjacency weights o a w
     by-reading (unread why) R = (not-read why, adjacency, weights, refuses-records R)
     by-reading (sheet n drawn edges) R = go (room n adjacency weights) refl
       where
-        go : (v : Ruling) → room n adjacency weights ≡ v → (o : Read) × (a : List ℕ) × (w : List ℕ) × Fills bytes adjacency weights o a w
+        go : (v : Ruling) → room n adjacency weights ≡ v → (o : Read) × (a : List ℕ) × (w : List ℕ) × FillsFrom bytes at adjacency weights o a w
         go accepted e = (graph-read n (length edges), _, _, fills R e)
         go (refused why) e = (not-read why, adjacency, weights, lacks-room R e)
 
@@ -76,7 +76,7 @@ sheets : {n n′ : ℕ} {drawn drawn′ : List ℕ} {edges edges′ : List Pair}
     → (n ≡ n′) × (drawn ≡ drawn′) × (edges ≡ edges′)
 sheets e = (cc, cc, cc)
 
-pub fills-unique : {bytes adjacency weights a a′ w w′ : List ℕ} {o o′ : Read} → Fills bytes adjacency weights o a w → Fills bytes adjacency weights o′ a′ w′
+pub fills-unique : {bytes adjacency weights a a′ w w′ : List ℕ} {at : ℕ} {o o′ : Read} → FillsFrom bytes at adjacency weights o a w → FillsFrom bytes at adjacency weights o′ a′ w′
     → (o ≡ o′) × (a ≡ a′) × (w ≡ w′)
 fills-unique (refuses-records R) (refuses-records R′) = let q = reads-unique R R′ in (cc, refl, refl)
 fills-unique (refuses-records R) (lacks-room R′ f′) = let q = reads-unique R R′ in never (cc)

@@ -20,7 +20,7 @@ use Rattle.matching.specs.Calls.{Returned, model-step, Handles, unsound,
 use Rattle.matching.specs.Records.{Reading, sheet, unread, ReadsAs, cells, graph, Read, graph-read, not-read, room, Fills, lacks-room, fills}
 use Rattle.matching.specs.Computed.{read}
 use Rattle.matching.specs.Listing.{input-limit, first-line, pair-lines, witness-lines, line-full, line-none, refused-line, Lists, refuses-sheet, pairs-up, shows-witness}
-use Rattle.matching.specs.Host.{opening-number, answer-number, row-number, words, bytes-of, unpacked-state, state-stored, HostHandles}
+use Rattle.matching.specs.Host.{opening-number, answer-number, row-number, words, bytes-of, unpacked-state, state-stored, HostHandles, read-number, weights-stored, HostReads, draws-ruling, draws-number, draws-stored, HostDraws}
 
 -- n vertices with these edges and weights
 abbrev pub linked : ℕ → List Pair → List ℕ → Graph
@@ -101,6 +101,10 @@ pub data Claim : Type 0 where
   host-bytes : List ℕ → List ℕ → List ℕ → Claim
   -- a call through the host on a state of bytes: the number, and the bytes afterwards; with the pair, and the words left
   host-handled : State → Call → Pair → State → ℕ → State → Claim
+  -- a sheet through the host into an adjacency table and the weights' bytes: the answer and the words left, the number, and the bytes afterwards
+  host-reads : (bytes adjacency weights : List ℕ) → Read → (left : List ℕ) → ℕ → (adjacency′ weights′ : List ℕ) → Claim
+  -- the draws of a seed through the host, for so many vertices: the number, and the weights' bytes afterwards
+  host-draws : (n seed : ℕ) (weights : List ℕ) → ℕ → List ℕ → Claim
 
 -- buffers of just the length that is needed, full of something else
 abbrev pub before : ℕ → Buffers
@@ -142,6 +146,8 @@ Holds (host-row v s k) = row-number v s ≡ k
 Holds (host-words bytes ws) = words bytes ≡ ws
 Holds (host-bytes ws old new) = onto (bytes-of ws) old ≡ new
 Holds (host-handled s c e left k after) = HostHandles modulus-prime everything s c k after
+Holds (host-reads bytes adjacency weights o left k adjacency′ weights′) = HostReads bytes adjacency weights k adjacency′ weights′
+Holds (host-draws n seed weights k weights′) = HostDraws n seed weights k weights′
 
 -- every claim of a list
 abbrev pub All : (Claim → Type 0) → List Claim → Type 0
@@ -308,6 +314,12 @@ Shown (host-words bytes ws) = words bytes ≡ ws
 Shown (host-bytes ws old new) = onto (bytes-of ws) old ≡ new
 Shown (host-handled s c e left k after) =
     ShownHandled (unpacked-state s) c e left × (k ≡ answer-number (done e) (left .session)) × (after ≡ state-stored (done e) left s)
+Shown (host-reads bytes adjacency weights o left k adjacency′ weights′) =
+    ShownFilling (read (take input-limit bytes) .reading) adjacency (words weights) o adjacency′ left
+    × (k ≡ read-number o)
+    × (weights′ ≡ weights-stored o left weights)
+Shown (host-draws n seed weights k weights′) =
+    (k ≡ draws-number (draws-ruling n weights) n) × (weights′ ≡ draws-stored (draws-ruling n weights) n seed weights)
 
 enough : (c : Claim) → Shown c → Holds c
 unfolding Shown Holds
@@ -343,6 +355,14 @@ enough (host-words bytes ws) e = e
 enough (host-bytes ws old new) e = e
 enough (host-handled s c x left k after) e =
     record { given = done x; left = left; outcome = shown-handled (unpacked-state s) c x left (e .0); numbered = e .1; stored = e .2 }
+enough (host-reads bytes adjacency weights o left k adjacency′ weights′) e = record {
+  given = o;
+  left = left;
+  outcome = filled (take input-limit bytes) adjacency (words weights) o adjacency′ left (read (take input-limit bytes) .reading) refl (e .0);
+  numbered = e .1;
+  stored = e .2;
+}
+enough (host-draws n seed weights k weights′) e = record { numbered = e .0; stored = e .1 }
 
 pub all : (claims : List Claim) → All Shown claims → All Holds claims
 all [] _ = tt

@@ -5,7 +5,7 @@ use mathlib.Core.List.{List, [], _∷_}
 use Prim.Native.Nat.{ℕ, zero, suc, _+_, _<_}
 use native.Mathlib.Omega.{arith}
 use native.Mathlib.Decide.{ℕ-discrete, decLt}
-use lib.ListN.{length}
+use lib.ListN.{length, drop, length-drop}
 use Rattle.draws.specs.Draws.{draws}
 use Rattle.skew.specs.Choose.{choose}
 use Rattle.matching.specs.Decision.{because}
@@ -140,6 +140,10 @@ module _ (len : ℕ) where
   read-on (suc more) (ended n weights edges) at [] l = record { reading = _; reads = whole }
   read-on (suc more) (ended n weights edges) at (k ∷ rest) l = record { reading = _; reads = not-due nothing-due }
 
-unfoldable pub read : (bytes : List ℕ) → Result (length bytes) start 0 bytes
+unfoldable pub read-from : (bytes : List ℕ) (at : ℕ) → Result (length bytes) start at (drop at bytes)
 unfolding read-on
-read bytes = read-on (length bytes) (length bytes + 1) start 0 bytes (omega arith)
+read-from bytes at = read-on (length bytes) (length bytes + 1) start at (drop at bytes) (omega (arith, length-drop at bytes))
+
+unfoldable pub read : (bytes : List ℕ) → Result (length bytes) start 0 bytes
+unfolding read-from
+read bytes = read-from bytes 0

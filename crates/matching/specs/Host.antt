@@ -5,17 +5,21 @@ use mathlib.Core.Logic.{_↔_}
 use mathlib.Core.List.{List, [], _∷_}
 use Prim.Native.Nat.{ℕ, _+_, _*_, _/_, _%_, _^_}
 use native.Mathlib.Decide.{ℕ-discrete}
+use lib.ListN.{length, take}
 use Rattle.modular.specs.Prime.{OddPrime}
+use Rattle.draws.specs.Draws.{draws}
 use Rattle.skew.specs.Choose.{choose}
 use Rattle.skew.specs.Subset.{Subset}
 use Rattle.skew.specs.Inverse.{Invertible}
-use Rattle.matching.specs.Decision.{Refusal, Ruling, accepted, refused}
-use Rattle.matching.specs.Graph.{over, tutte}
+use Rattle.matching.specs.Decision.{Refusal, Ruling, accepted, refused, judge}
+use Rattle.matching.specs.Graph.{over, pair-count, tutte}
 use Rattle.matching.specs.Session.{Session, State, graph-of, pairs-of, onto}
 use Rattle.matching.specs.Model.{Call, Answer, done, denied, Allowed}
-use Rattle.matching.specs.Causes.{session-ruling}
+use Rattle.matching.specs.Causes.{too-large, too-short, lent-weights, session-ruling}
 use Rattle.matching.specs.Opening.{Opening, opened, singular, not-opened, Buffers, ruling, Opens}
 use Rattle.matching.specs.Calls.{Handles, ShowsRow}
+use Rattle.matching.specs.Records.{Read, graph-read, not-read, Fills}
+use Rattle.matching.specs.Listing.{input-limit}
 
 -- the words of a byte slice, low byte first; an odd last byte is none
 unfoldable pub words : List ℕ → List ℕ
@@ -132,3 +136,40 @@ module _ {p : ℕ} (P : OddPrime p) (S : Subset) where
     pub outcome : ShowsRow P S (unpacked-state s) a row verdict (unpacked-state s) row′
     pub numbered : answer ≡ row-number verdict (s .session)
     pub same : after ≡ s
+
+-- kind 6: a sheet read, the number of its edges as the value and its size in place of the pairs
+abbrev pub read-number : Read → ℕ
+read-number (graph-read n m) = number 0 6 m n
+read-number (not-read r) = refusal-number r
+
+-- the weights' bytes afterwards: on a refusal as they came
+abbrev pub weights-stored : Read → (left weights : List ℕ) → List ℕ
+weights-stored (graph-read n m) left weights = onto (bytes-of left) weights
+weights-stored (not-read r) left weights = weights
+
+-- reading a sheet through the host: the number, and every byte of the adjacency table and the weights afterwards. As many bytes of the
+-- sheet are read as the program reads, so a place has 16 bits
+pub record HostReads (sheet adjacency weights : List ℕ) (answer : ℕ) (adjacency′ weights′ : List ℕ) : Type 0 where
+  pub given : Read
+  pub left : List ℕ
+  pub outcome : Fills (take input-limit sheet) adjacency (words weights) given adjacency′ left
+  pub numbered : answer ≡ read-number given
+  pub stored : weights′ ≡ weights-stored given left weights
+
+-- causes 1 and 2 of drawing the weights of n vertices
+abbrev pub draws-ruling : ℕ → List ℕ → Ruling
+draws-ruling n weights = judge (too-large n ∷ too-short (lent-weights n (length (words weights)) ∷ []) ∷ [])
+
+-- kind 7: weights drawn, with how many
+abbrev pub draws-number : Ruling → ℕ → ℕ
+draws-number accepted n = number 0 7 (pair-count n) 0
+draws-number (refused r) n = refusal-number r
+
+abbrev pub draws-stored : Ruling → (n seed : ℕ) (weights : List ℕ) → List ℕ
+draws-stored accepted n seed weights = onto (bytes-of (draws seed (pair-count n))) weights
+draws-stored (refused r) n seed weights = weights
+
+-- the draws of a seed as the weights of n vertices, through the host: the number, and every byte of the weights afterwards
+pub record HostDraws (n seed : ℕ) (weights : List ℕ) (answer : ℕ) (weights′ : List ℕ) : Type 0 where
+  pub numbered : answer ≡ draws-number (draws-ruling n weights) n
+  pub stored : weights′ ≡ draws-stored (draws-ruling n weights) n seed weights

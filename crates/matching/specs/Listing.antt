@@ -1,13 +1,14 @@
 -- The listing program's text, byte for byte (document 01, "Listing"). Assumes nothing.
 use mathlib.Core.Path.{_≡_}
 use mathlib.Core.List.{List, [], _∷_, _++_}
-use Prim.Native.Nat.{ℕ, zero, suc, _+_, _/_, _%_}
+use Prim.Native.Nat.{ℕ, zero, suc, _+_, _/_, _%_, _≤_, _<_}
 use native.Mathlib.Decide.{ℕ-discrete, decLt}
 use lib.ListN.{length, take, replicate}
 use Rattle.residue.specs.Modulus.{modulus, modulus-prime}
 use Rattle.skew.specs.Choose.{choose}
 use Rattle.matching.specs.Decision.{Refusal}
 use Rattle.matching.specs.Pairs.{Pair, Pairs, everything}
+use Rattle.matching.specs.Session.{onto}
 use Rattle.matching.specs.Model.{automatic, Nonsingular, pairs-after, PicksToCome}
 use Rattle.matching.specs.Opening.{Singular}
 use Rattle.matching.specs.Records.{sheet, unread, ReadsAs, graph}
@@ -103,3 +104,17 @@ pub data Lists (input : List ℕ) : List ℕ → Type 0 where
   shows-witness : {n f : ℕ} {weights words : List ℕ} {edges : List Pair} → ReadsAs (take input-limit input) (sheet n weights edges)
       → length words ≡ n → Singular modulus (graph n weights edges) everything f words
       → Lists input (first-line n (length edges) ++ witness-lines 0 words ++ line-none)
+
+-- how long a buffer for the text is to be: the longest text has 1,654 bytes
+abbrev pub text-room : ℕ
+text-room = 2048
+
+-- the text's length, or that the buffer is too short for every text
+pub data Listed : Type 0 where
+  text-of : ℕ → Listed
+  no-room : Listed
+
+-- the listing written to a lent buffer: the answer, and the buffer afterwards
+pub data ListsInto (input buffer : List ℕ) : Listed → List ℕ → Type 0 where
+  lists-into : {text : List ℕ} → text-room ≤ length buffer → Lists input text → ListsInto input buffer (text-of (length text)) (onto text buffer)
+  lacks-text-room : length buffer < text-room → ListsInto input buffer no-room buffer

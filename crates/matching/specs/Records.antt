@@ -4,7 +4,7 @@ use mathlib.Core.Path.{_≡_}
 use mathlib.Core.List.{List, [], _∷_}
 use Prim.Native.Nat.{ℕ, _+_, _*_, _/_, _%_, _≤_, _<_}
 use native.Mathlib.Decide.{ℕ-discrete}
-use lib.ListN.{length}
+use lib.ListN.{length, drop}
 use Rattle.lists.specs.Values.{list-of}
 use Rattle.draws.specs.Draws.{draws}
 use Rattle.skew.specs.Choose.{choose}
@@ -108,8 +108,13 @@ pub data Reads (len : ℕ) : Progress → (at : ℕ) (bytes : List ℕ) → Read
   goes-on : {q next : Progress} {at : ℕ} {bytes rest : List ℕ} {r : Record} {result : Reading} → Begins r bytes rest → Takes q r next
       → Reads len next (at + width r) rest result → Reads len q at bytes result
 
+-- the bytes from an offset to their end are read as a sheet so, with offsets counted from the first of all bytes
+abbrev pub ReadsFrom : List ℕ → ℕ → Reading → Type 0
+ReadsFrom bytes at r = Reads (length bytes) start at (drop at bytes) r
+
+-- all of them
 abbrev pub ReadsAs : List ℕ → Reading → Type 0
-ReadsAs bytes r = Reads (length bytes) start 0 bytes r
+ReadsAs bytes r = ReadsFrom bytes 0 r
 
 -- the adjacency table of these edges: 1 in both cells of each edge, 0 elsewhere
 unfoldable pub cells : ℕ → List Pair → List ℕ
@@ -132,10 +137,14 @@ room n adjacency weights =
     let g : Graph = over n adjacency weights in
     judge (too-short (lent-graph g) ∷ [])
 
--- the answer, and the adjacency table and the weights afterwards
-pub data Fills (bytes adjacency weights : List ℕ) : Read → List ℕ → List ℕ → Type 0 where
-  refuses-records : {why : Refusal} → ReadsAs bytes (unread why) → Fills bytes adjacency weights (not-read why) adjacency weights
-  lacks-room : {n : ℕ} {drawn : List ℕ} {edges : List Pair} {why : Refusal} → ReadsAs bytes (sheet n drawn edges) → room n adjacency weights ≡ refused why
-      → Fills bytes adjacency weights (not-read why) adjacency weights
-  fills : {n : ℕ} {drawn : List ℕ} {edges : List Pair} → ReadsAs bytes (sheet n drawn edges) → room n adjacency weights ≡ accepted
-      → Fills bytes adjacency weights (graph-read n (length edges)) (onto (cells n edges) adjacency) (onto drawn weights)
+-- reading from an offset: the answer, and the adjacency table and the weights afterwards
+pub data FillsFrom (bytes : List ℕ) (at : ℕ) (adjacency weights : List ℕ) : Read → List ℕ → List ℕ → Type 0 where
+  refuses-records : {why : Refusal} → ReadsFrom bytes at (unread why) → FillsFrom bytes at adjacency weights (not-read why) adjacency weights
+  lacks-room : {n : ℕ} {drawn : List ℕ} {edges : List Pair} {why : Refusal} → ReadsFrom bytes at (sheet n drawn edges) → room n adjacency weights ≡ refused why
+      → FillsFrom bytes at adjacency weights (not-read why) adjacency weights
+  fills : {n : ℕ} {drawn : List ℕ} {edges : List Pair} → ReadsFrom bytes at (sheet n drawn edges) → room n adjacency weights ≡ accepted
+      → FillsFrom bytes at adjacency weights (graph-read n (length edges)) (onto (cells n edges) adjacency) (onto drawn weights)
+
+-- reading all bytes
+abbrev pub Fills : (bytes adjacency weights : List ℕ) → Read → List ℕ → List ℕ → Type 0
+Fills bytes adjacency weights given adjacency′ weights′ = FillsFrom bytes 0 adjacency weights given adjacency′ weights′
