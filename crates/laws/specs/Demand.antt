@@ -285,6 +285,13 @@ module _ {p : ℕ} (P : OddPrime p) (S : Subset) (s : State) (ok : session-rulin
       n : ℕ
       n = s .session .size
 
+  -- a call goes as the plain model goes from the pairs made
+  pub handles-model : {c : Call} {a : Answer} {t : State} → Handles P S s c a t
+      → (a ≡ step P (graph-of s) S (pairs-of s) c .answer) × (pairs-of t ≡ step P (graph-of s) S (pairs-of s) c .pairs)
+  handles-model {c} {a} {t} h =
+      let M = stands-step P (graph-of s) S s long (sound .1 .in-order) (pairs-of s) s t c a sound-stands h in
+      (M .0, rw (M .1 .state .is) (pairs-on-sequence P (graph-of s) S _ _))
+
   -- a call leaves it sound
   pub handles-sound : {c : Call} {a : Answer} {t : State} → Handles P S s c a t → session-ruling p S t ≡ accepted
   handles-sound {c} {a} {t} h =

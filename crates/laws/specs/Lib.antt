@@ -17,6 +17,7 @@ pub mod Demand
 pub mod Fresh
 -- The reader, and one outcome for open row, replay, the reader and the listing.
 pub mod Reading
+pub mod Bounds
 pub mod Outcomes
 -- The host.
 pub mod Numbers

@@ -1,4 +1,4 @@
--- `host::open_over` meets its contract: the words that opening leaves are within the lent ones and are stored as bytes.
+-- `opening_bytes::open_over` meets its contract: the words that opening leaves are within the lent ones and are stored as bytes.
 -- Assumes nothing.
 use mathlib.Core.Path.{_≡_, refl, sym, ap, _∙_}
 use mathlib.Core.List.{List, _++_}
@@ -9,11 +9,11 @@ use lib.Seq.{length-take-le}
 use Rattle.lists.specs.Table.{square-small}
 use Rattle.opening.specs.Answers.{opening-of, buffers}
 use Rattle.opening.specs.Begun.{Within, opens-within}
-use Rattle.host.specs.Lent.{lent}
-use Rattle.host.specs.Opened.{opens-small, same-buffers, zeros-stored}
+use Rattle.opening_bytes.specs.Lent.{lent}
+use Rattle.opening_bytes.specs.Opened.{opens-small, same-buffers, zeros-stored}
 use borrow.Author.Needs.{needs}
-use Rattle.host.proofs.open_over.Statement.{statement}
-use Rattle.host.proofs.open_over.Tie as tie
+use Rattle.opening_bytes.proofs.open_over.Statement.{statement}
+use Rattle.opening_bytes.proofs.open_over.Tie as tie
 
 abbrev begun : tie.After-extent → tie.After-begin-apart
 begun at = at .before .before .before .before .before .before .before

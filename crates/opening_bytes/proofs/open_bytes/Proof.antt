@@ -1,4 +1,4 @@
--- `host::open_bytes` meets its contract: the weights that it unpacks are those that the graph needs. Assumes nothing.
+-- `opening_bytes::open_bytes` meets its contract: the weights that it unpacks are those that the graph needs. Assumes nothing.
 use mathlib.Core.Path.{_≡_, sym, ap, _∙_}
 use Prim.Native.Nat.{ℕ, _≤_}
 use native.Mathlib.Omega.{arith}
@@ -7,8 +7,8 @@ use borrow.Author.Needs.{needs}
 use Rattle.lists.specs.Part.{length-part, part-filled}
 use Rattle.matching.specs.Host.{words}
 use Rattle.crossing.specs.Needed.{needed-small}
-use Rattle.host.proofs.open_bytes.Statement.{statement}
-use Rattle.host.proofs.open_bytes.Tie as tie
+use Rattle.opening_bytes.proofs.open_bytes.Statement.{statement}
+use Rattle.opening_bytes.proofs.open_bytes.Tie as tie
 
 -- the array has room for those that are counted
 counted : (at : tie.After-weights-needed) → at .weights-needed .result ≤ 4560

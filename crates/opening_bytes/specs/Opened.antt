@@ -19,7 +19,7 @@ use Rattle.opening.specs.Answers.{buffers, extent}
 use Rattle.packing.specs.Words.{Bytes, stored-front}
 use Rattle.crossing.specs.Same.{table-same, singular-same}
 use Rattle.crossing.specs.Needed.{needed-weights, needed-agree}
-use Rattle.host.specs.Lent.{Fits, lent, ruling-same}
+use Rattle.opening_bytes.specs.Lent.{Fits, lent, ruling-same}
 
 -- the parts of an answer fit their bits
 abbrev pub Small : Opening → Type 0

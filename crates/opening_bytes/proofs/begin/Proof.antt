@@ -1,4 +1,4 @@
--- `host::saszvigom_open` meets its contract: a refusal for the size or the lengths writes nothing, and else words are lent.
+-- `opening_bytes::begin` meets its contract: a refusal for the size or the lengths writes nothing, and else words are lent.
 -- Assumes nothing.
 use mathlib.Core.Path.{_≡_}
 use Rattle.residue.specs.Modulus.{modulus, modulus-prime}
@@ -11,11 +11,11 @@ use Rattle.laws.specs.Determined.{host-opened-exactly}
 use Rattle.checks.specs.declared.Refusal.{Refusal}
 use Rattle.checks.specs.declared.Ruling.the-variants.{Refused}
 use Rattle.opening.specs.Answers.{buffers}
-use Rattle.host.specs.Lent.{room-refused, room-accepted}
-use Rattle.host.specs.Opened.{opens-small, host-refuses}
+use Rattle.opening_bytes.specs.Lent.{room-refused, room-accepted}
+use Rattle.opening_bytes.specs.Opened.{opens-small, host-refuses}
 use borrow.Author.Needs.{needs}
-use Rattle.host.proofs.saszvigom_open.Statement.{statement}
-use Rattle.host.proofs.saszvigom_open.Tie as tie
+use Rattle.opening_bytes.proofs.begin.Statement.{statement}
+use Rattle.opening_bytes.proofs.begin.Tie as tie
 
 abbrev host : tie.After-judge-room → Buffers
 host at = let a = at .before .before .before .before .before .before .before .args in buffers (a .inverse .now) (a .sequence .now) (a .witness .now) (a .work .now)
@@ -69,8 +69,8 @@ returns-2 : tie.Need-returns-2
 returns-2 c =
     (c .before .before .before .before .before .before .before .before .open-words .ensures, host-opened-exactly modulus-prime _ (c .before .before .before .before .before .before .before .before .open-words .ensures))
 
-pub saszvigom-open-spec : {M : Type 1} → statement M
-saszvigom-open-spec =
+pub begin-spec : {M : Type 1} → statement M
+begin-spec =
     tie.close
     (tie.spec
     judge-room-requires

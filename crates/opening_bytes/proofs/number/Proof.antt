@@ -1,8 +1,8 @@
--- `host::number` meets its contract: each case is one of the definition. Assumes nothing.
+-- `opening_bytes::number` meets its contract: each case is one of the definition. Assumes nothing.
 use native.Mathlib.Omega.{arith}
 use borrow.Author.Needs.{needs}
-use Rattle.host.proofs.number.Statement.{statement}
-use Rattle.host.proofs.number.Tie as tie
+use Rattle.opening_bytes.proofs.number.Statement.{statement}
+use Rattle.opening_bytes.proofs.number.Tie as tie
 
 enum-known-o : tie.Need-enum-known-o
 enum-known-o c = search needs

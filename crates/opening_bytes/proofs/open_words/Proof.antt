@@ -1,4 +1,4 @@
--- `host::open_words` meets its contract: of each array it lends as many words as the graph needs.
+-- `opening_bytes::open_words` meets its contract: of each array it lends as many words as the graph needs.
 -- Assumes nothing.
 use mathlib.Core.Path.{sym}
 use mathlib.Core.List.{List}
@@ -15,11 +15,11 @@ use Rattle.matching.specs.Host.{HostOpens}
 use Rattle.checks.specs.Weights.{needed}
 use Rattle.opening.specs.Answers.{buffers}
 use Rattle.crossing.specs.Needed.{needed-weights}
-use Rattle.host.specs.Lent.{Stores, lent, weights-fit, stores}
-use Rattle.host.specs.Opened.{OpensOver, host-opens}
+use Rattle.opening_bytes.specs.Lent.{Stores, lent, weights-fit, stores}
+use Rattle.opening_bytes.specs.Opened.{OpensOver, host-opens}
 use borrow.Author.Needs.{needs}
-use Rattle.host.proofs.open_words.Statement.{statement}
-use Rattle.host.proofs.open_words.Tie as tie
+use Rattle.opening_bytes.proofs.open_words.Statement.{statement}
+use Rattle.opening_bytes.proofs.open_words.Tie as tie
 
 abbrev start : tie.After-slice-known4 → tie.Start
 start at = at .before .before .before .before .before .before

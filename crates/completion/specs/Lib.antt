@@ -1,0 +1,2 @@
+-- What the contract cites, with its laws.
+pub mod Completed

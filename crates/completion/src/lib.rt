@@ -1,0 +1,29 @@
+// Automatic picks to the end, on a session fresh from opening.
+use calls::Answer;
+ghost use mathlib.Core.List.{List};
+ghost use Prim.Native.Nat.{ℕ};
+ghost use Rattle.matching.specs.Graph.{over};
+ghost use Rattle.calls.specs.Known.{Known, KnownFor};
+ghost use Rattle.completion.specs.Completed.{Completed};
+
+// Makes automatic picks until one is refused, and says how many were accepted. For proved callers.
+pub fn complete(
+    n: usize,
+    adjacency: &[u8],
+    inverse: &mut [u16],
+    sequence: &mut [u8],
+    marks: &mut [u8],
+) -> usize
+    requires { ⌜ KnownFor n 0 (now adjacency) (now inverse) (now sequence) (now marks) ⌝ }
+    ensures { λ made. ⌜ ((weights : List ℕ) → Known n 0 (now (adjacency .entry)) weights (now (inverse .entry)) (now (sequence .entry)) (now (marks .entry)) → Completed (over n (now (adjacency .entry)) weights) made (now (sequence .exit))) ⌝ }
+{
+    let mut made = 0;
+    loop {
+        let reply = calls::automatic(n, made, adjacency, inverse, sequence, marks);
+        let answer = reply.answer;
+        if let Answer::Denied(_) = answer {
+            return made;
+        }
+        made = reply.made;
+    }
+}
