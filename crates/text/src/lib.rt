@@ -1,0 +1,138 @@
+// The lines of the listing, written into a lent buffer at a position. Each function returns the position behind what it wrote.
+ghost use mathlib.Core.List.{[], _∷_};
+ghost use Prim.Native.Nat.{_+_, _*_, _≤_, _<_};
+ghost use lib.ListN.{length};
+ghost use Rattle.matching.specs.Pairs.{pairs-on};
+ghost use Rattle.matching.specs.Listing.{decimal, first-line, pair-line, pair-lines, witness-lines, line-full, line-none, refused-line};
+ghost use Rattle.text.specs.Puts.{Puts};
+ghost use Rattle.text.specs.Lines.{line-of};
+
+// The bytes. For proved callers.
+pub fn put(text: &mut [u8], at: usize, bytes: &[u8]) -> usize
+    requires { ⌜ at + length (now bytes) ≤ length (now text) ⌝ }
+    ensures { λ r. ⌜ Puts at (now (bytes .entry)) (now (text .entry)) (now (text .exit)) r ⌝ }
+{
+    let mut i = 0;
+    while i < bytes.len() {
+        text[at + i] = bytes[i];
+        i += 1;
+    }
+    at + i
+}
+
+// A digit.
+fn put_digit(text: &mut [u8], at: usize, x: usize) -> usize
+    requires { ⌜ (x < 10) × (at < length (now text)) ⌝ }
+    ensures { λ r. ⌜ Puts at ((48 + x) ∷ []) (now (text .entry)) (now (text .exit)) r ⌝ }
+{
+    text[at] = 48 + x as u8;
+    at + 1
+}
+
+// The digits of a number. For proved callers.
+pub fn put_decimal(text: &mut [u8], at: usize, x: usize) -> usize
+    requires { ⌜ at + length (decimal x) ≤ length (now text) ⌝ }
+    ensures { λ r. ⌜ Puts at (decimal x) (now (text .entry)) (now (text .exit)) r ⌝ }
+{
+    if x < 10 {
+        return put_digit(text, at, x);
+    }
+    let next = put_decimal(text, at, x / 10);
+    put_digit(text, next, x % 10)
+}
+
+// A line of two numbers, each behind a word.
+fn line(text: &mut [u8], at: usize, first: &[u8], x: usize, second: &[u8], y: usize) -> usize
+    requires { ⌜ at + length (line-of (now first) x (now second) y) ≤ length (now text) ⌝ }
+    ensures { λ r. ⌜ Puts at (line-of (now (first .entry)) x (now (second .entry)) y) (now (text .entry)) (now (text .exit)) r ⌝ }
+{
+    let a = put(text, at, first);
+    let b = put_decimal(text, a, x);
+    let c = put(text, b, second);
+    let d = put_decimal(text, c, y);
+    put(text, d, b"\n")
+}
+
+// The line of the size and the number of edges. For proved callers.
+pub fn first_line(text: &mut [u8], at: usize, size: usize, edges: usize) -> usize
+    requires { ⌜ at + length (first-line size edges) ≤ length (now text) ⌝ }
+    ensures { λ r. ⌜ Puts at (first-line size edges) (now (text .entry)) (now (text .exit)) r ⌝ }
+{
+    line(text, at, b"sleeves ", size, b" links ", edges)
+}
+
+// The line of a pair. For proved callers.
+pub fn pair_line(text: &mut [u8], at: usize, smaller: usize, larger: usize) -> usize
+    requires { ⌜ at + length (pair-line (record { smaller = smaller; larger = larger })) ≤ length (now text) ⌝ }
+    ensures { λ r. ⌜ Puts at (pair-line (record { smaller = smaller; larger = larger })) (now (text .entry)) (now (text .exit)) r ⌝ }
+{
+    line(text, at, b"pair ", smaller, b" ", larger)
+}
+
+// The line of a refusal. For proved callers.
+pub fn refused_line(text: &mut [u8], at: usize, cause: usize, place: usize) -> usize
+    requires { ⌜ at + length (refused-line (record { cause = cause; place = place })) ≤ length (now text) ⌝ }
+    ensures { λ r. ⌜ Puts at (refused-line (record { cause = cause; place = place })) (now (text .entry)) (now (text .exit)) r ⌝ }
+{
+    line(text, at, b"refused ", cause, b" at ", place)
+}
+
+// The verdict that all vertices are matched. For proved callers.
+pub fn full_line(text: &mut [u8], at: usize) -> usize
+    requires { ⌜ at + length line-full ≤ length (now text) ⌝ }
+    ensures { λ r. ⌜ Puts at line-full (now (text .entry)) (now (text .exit)) r ⌝ }
+{
+    put(text, at, b"verdict F\n")
+}
+
+// The verdict that there is a witness. For proved callers.
+pub fn none_line(text: &mut [u8], at: usize) -> usize
+    requires { ⌜ at + length line-none ≤ length (now text) ⌝ }
+    ensures { λ r. ⌜ Puts at line-none (now (text .entry)) (now (text .exit)) r ⌝ }
+{
+    put(text, at, b"verdict N\n")
+}
+
+// The line of the word w of a witness at an index; nothing where it is 0. For proved callers.
+pub fn witness_line(text: &mut [u8], at: usize, i: usize, w: usize) -> usize
+    requires { ⌜ at + length (witness-lines i (w ∷ [])) ≤ length (now text) ⌝ }
+    ensures { λ r. ⌜ Puts at (witness-lines i (w ∷ [])) (now (text .entry)) (now (text .exit)) r ⌝ }
+{
+    if w == 0 {
+        return at;
+    }
+    line(text, at, b"witness ", i, b" ", w)
+}
+
+// The lines of the first so many pairs of a sequence, the oldest first. For proved callers.
+pub fn pair_lines(text: &mut [u8], at: usize, sequence: &[u8], made: usize) -> usize
+    requires { ⌜ (2 * made ≤ length (now sequence)) × (at + 13 * made ≤ length (now text)) ⌝ }
+    ensures lines { λ r. ⌜ Puts at (pair-lines (pairs-on (now (sequence .entry)) made)) (now (text .entry)) (now (text .exit)) r ⌝ }
+    ensures bound { λ r. ⌜ r ≤ at + 13 * made ⌝ }
+{
+    let mut next = at;
+    let mut k = 0;
+    while k < made {
+        let smaller = sequence[k + k] as usize;
+        let larger = sequence[k + k + 1] as usize;
+        next = pair_line(text, next, smaller, larger);
+        k += 1;
+    }
+    next
+}
+
+// The lines of a witness of at most 100 words. For proved callers.
+pub fn witness_lines(text: &mut [u8], at: usize, words: &[u16]) -> usize
+    requires { ⌜ (length (now words) ≤ 100) × (at + 17 * length (now words) ≤ length (now text)) ⌝ }
+    ensures lines { λ r. ⌜ Puts at (witness-lines 0 (now (words .entry))) (now (text .entry)) (now (text .exit)) r ⌝ }
+    ensures bound { λ r. ⌜ r ≤ at + 17 * length (now (words .entry)) ⌝ }
+{
+    let mut next = at;
+    let mut i = 0;
+    while i < words.len() {
+        let w = words[i] as usize;
+        next = witness_line(text, next, i, w);
+        i += 1;
+    }
+    next
+}
