@@ -24,8 +24,8 @@ pub line-length : (first : List ℕ) (x : ℕ) (second : List ℕ) (y : ℕ)
 line-length first x second y = simp length-append
 
 -- the first line of a graph
-pub first-length : (n m : ℕ) → n < 100 → m < 10000 → length (first-line n m) ≤ 22
-first-length n m h l = omega (arith, line-length text-sleeves n text-links m, decimal-length 1 n h, decimal-length 3 m l)
+pub first-length : (n m : ℕ) → n < 100 → m < 100000 → length (first-line n m) ≤ 23
+first-length n m h l = omega (arith, line-length text-sleeves n text-links m, decimal-length 1 n h, decimal-length 4 m l)
 
 -- a pair of bytes
 pub pair-length : (e : Pair) → e .smaller < 256 → e .larger < 256 → length (pair-line e) ≤ 13

@@ -1,0 +1,128 @@
+-- The lines of a graph, and how an opening leads to them. Assumes nothing.
+use mathlib.Core.Path.{_≡_, refl, sym, ap, _∙_}
+use mathlib.Core.List.{List, [], _∷_, _++_}
+use Prim.Native.Nat.{ℕ, zero, suc, _*_, _≤_}
+use native.Mathlib.Omega.{arith}
+use lib.ListN.{length, take, replicate, length-replicate}
+use Rattle.lists.specs.Table.{square-small}
+use Rattle.residue.specs.Modulus.{modulus, modulus-prime}
+use Rattle.matching.specs.Decision.{Refusal, accepted}
+use Rattle.matching.specs.Graph.{Graph, over, InOrder}
+use Rattle.matching.specs.Pairs.{everything, unmatched, pairs-on}
+use Rattle.matching.specs.Session.{Session}
+use Rattle.matching.specs.Causes.{lent-graph, LongEnough, opening-ruling}
+use Rattle.matching.specs.Opening.{Opening, opened, singular, not-opened, Buffers, Singular, ruling, Opens, opens, finds-singular, refuses-opening}
+use Rattle.matching.specs.Model.{automatic, Nonsingular, pairs-after, PicksToCome}
+use Rattle.matching.specs.Listing.{first-line, pair-lines, witness-lines, line-full, line-none}
+use Rattle.laws.specs.Onto.{onto-front}
+use Rattle.laws.specs.Sound.{opening-accepted}
+use Rattle.laws.specs.Fresh.{opened-sound}
+use Rattle.sequence.specs.Formed.{left-start}
+use Rattle.calls.specs.Known.{Known}
+use Rattle.opening.specs.Answers.{buffers}
+use Rattle.opening.specs.Begun.{BegunApart}
+use Rattle.completion.specs.Completed.{Completed}
+use Rattle.text.specs.Puts.{Puts, puts-then}
+
+-- a text with this property is written from a position on
+pub record Writes (P : List ℕ → Type 0) (at : ℕ) (before after : List ℕ) (next : ℕ) : Type 0 where
+  pub text : List ℕ
+  pub lines : P text
+  pub puts : Puts at text before after next
+
+-- the pairs of automatic picks to the end, or the witness; and the verdict
+pub data Verdict (g : Graph) : List ℕ → Type 0 where
+  full : {m : ℕ} → Nonsingular modulus-prime g everything [] → PicksToCome modulus-prime g everything [] m
+      → Verdict g (pair-lines (pairs-after modulus-prime g everything [] (replicate m automatic) m) ++ line-full)
+  none : {f : ℕ} {words : List ℕ} → length words ≡ g .n → Singular modulus g everything f words → Verdict g (witness-lines 0 words ++ line-none)
+
+-- all lines of a graph with so many edges
+pub record GraphLines (g : Graph) (m : ℕ) (text : List ℕ) : Type 0 where
+  pub rest : List ℕ
+  pub verdict : Verdict g rest
+  pub all : text ≡ first-line (g .n) m ++ rest
+
+-- a session fresh from opening that is known to be sound
+pub record Fresh (n : ℕ) (adjacency weights inverse sequence marks : List ℕ) : Type 0 where
+  pub known : Known n 0 adjacency weights inverse sequence marks
+  pub nonsingular : Nonsingular modulus-prime (over n adjacency weights) everything []
+
+-- for some weights
+abbrev pub FreshFor : (n : ℕ) (adjacency inverse sequence marks : List ℕ) → Type 0
+FreshFor n adjacency inverse sequence marks = (weights : List ℕ) × Fresh n adjacency weights inverse sequence marks
+
+-- an opening, but for its work buffer, of as many words as the inverse
+abbrev Begun : (n : ℕ) (adjacency weights : List ℕ) → Opening → (inverse sequence witness inverse′ sequence′ witness′ : List ℕ) → Type 0
+Begun n adjacency weights o inverse sequence witness inverse′ sequence′ witness′ =
+    BegunApart (over n adjacency weights) (n * n) o inverse sequence witness inverse′ sequence′ witness′
+
+-- beside a work buffer of zeros
+beside : {n : ℕ} {adjacency weights inverse sequence witness inverse′ sequence′ witness′ : List ℕ} {o : Opening}
+    → Begun n adjacency weights o inverse sequence witness inverse′ sequence′ witness′
+    → (after : List ℕ) × Opens modulus (over n adjacency weights) everything (buffers inverse sequence witness (replicate (n * n) 0)) o (buffers inverse′ sequence′ witness′ after)
+beside {n} B = (_, B (replicate (n * n) 0) (length-replicate (n * n) 0))
+
+-- a session that is opened is known to be sound, and has an inverse
+pub fresh : {n : ℕ} {adjacency weights inverse sequence witness inverse′ sequence′ witness′ marks : List ℕ} {s : Session}
+    → Begun n adjacency weights (opened s) inverse sequence witness inverse′ sequence′ witness′ → marks ≡ replicate n 1
+    → Fresh n adjacency weights inverse′ sequence′ marks
+unfolding unmatched
+fresh {n} {adjacency} {weights} {sequence′ = sequence′} B e = record {
+  known =
+      let k = opened-sound modulus-prime (over n adjacency weights) everything (beside B .1) in
+      record { sound = rw (k .1) at (k .0); left = rw e (left-start n sequence′) };
+  nonsingular = go (beside B .1);
+}
+  where
+    go : {s : Session} {b a : Buffers} → Opens modulus (over n adjacency weights) everything b (opened s) a → Nonsingular modulus-prime (over n adjacency weights) everything []
+    go (opens words e l I) = (_, I .is-inverse)
+
+-- the first words of the witness are the kernel vector
+pub kernel : {n : ℕ} {adjacency weights inverse sequence witness inverse′ sequence′ witness′ : List ℕ} {f : ℕ}
+    → Begun n adjacency weights (singular f) inverse sequence witness inverse′ sequence′ witness′
+    → (length (take n witness′) ≡ n) × Singular modulus (over n adjacency weights) everything f (take n witness′)
+kernel {n} {adjacency} {weights} {f = f} B = go (beside B .1)
+  where
+    go : {b a : Buffers} → Opens modulus (over n adjacency weights) everything b (singular f) a
+        → (length (take n (a .witness)) ≡ n) × Singular modulus (over n adjacency weights) everything f (take n (a .witness))
+    go {b} (finds-singular _ words e l S) = rw (onto-front words (b .witness) n l) (l, S)
+
+-- an accepted graph is not refused
+pub not-refused : {n : ℕ} {adjacency weights inverse sequence witness inverse′ sequence′ witness′ : List ℕ} {r : Refusal}
+    → opening-ruling modulus (over n adjacency weights) (length inverse) (length sequence) (length witness) (n * n) ≡ accepted
+    → ¬ Begun n adjacency weights (not-opened r) inverse sequence witness inverse′ sequence′ witness′
+not-refused {n} {adjacency} {weights} {inverse} {sequence} {witness} {r = r} ok B = go (rw (length-replicate {A = ℕ} (n * n) 0) ok) (beside B .1)
+  where
+    go : {a : Buffers} → ruling modulus (over n adjacency weights) (buffers inverse sequence witness (replicate (n * n) 0)) ≡ accepted
+        → ¬ Opens modulus (over n adjacency weights) everything (buffers inverse sequence witness (replicate (n * n) 0)) (not-opened r) a
+    go ok (refuses-opening _ e) = let z : _≡_ {A = ℕ} 0 1 = cc in omega arith
+
+-- the lines of a completed matching
+pub full-lines : {g : Graph} {made : ℕ} {sequence : List ℕ} → Nonsingular modulus-prime g everything [] → Completed g made sequence
+    → Verdict g (pair-lines (pairs-on sequence made) ++ line-full)
+full-lines I C = rw (C .pairs-are) (full I (C .come))
+
+-- a graph in order, over tables that are long enough
+pub record Lent (g : Graph) : Type 0 where
+  pub in-order : InOrder modulus g
+  pub long : LongEnough (lent-graph g)
+
+-- opening accepts it, over buffers for the largest graph
+pub accepts : {g : Graph} → Lent g → opening-ruling modulus g 9216 96 96 (g .n * g .n) ≡ accepted
+accepts {g} L =
+    let small = L .in-order .size in
+    opening-accepted modulus g 9216 96 96 (g .n * g .n) .1 (
+      (L .long .0, (L .long .1 .0, (square-small (g .n) small, (small, (small, (omega arith, tt)))))),
+      L .in-order,
+    )
+
+-- the first marks are all 1
+pub marked-all : (n m : ℕ) → n ≤ m → take n (replicate m 1) ≡ replicate {A = ℕ} n 1
+marked-all zero m h = refl
+marked-all (suc n) zero h = absurd (omega arith)
+marked-all (suc n) (suc m) h = ap (λ l. 1 ∷ l) (marked-all n m (omega arith))
+
+-- the first line, and then the others
+pub graph-lines : {g : Graph} {m mid end : ℕ} {before between after : List ℕ} → Puts 0 (first-line (g .n) m) before between mid
+    → Writes (Verdict g) mid between after end → Writes (GraphLines g m) 0 before after end
+graph-lines P W = record { text = _; lines = record { rest = W .text; verdict = W .lines; all = refl }; puts = puts-then P (W .puts) }
