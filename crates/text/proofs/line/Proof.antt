@@ -40,11 +40,11 @@ same-length c = search needs
 returns : tie.Need-returns
 returns c =
     let feed = c .before .before in
-    let larger = feed .before .before .before .before .before in
-    let between = larger .before .before .before .before in
-    let smaller = between .before .before .before .before in
-    let word = smaller .before .before .before .before in
-    puts-then (puts-then (puts-then (puts-then (word .put .ensures) (smaller .put-decimal .ensures)) (between .put2 .ensures)) (larger .put-decimal2 .ensures)) (feed .put3 .ensures)
+    let y = feed .before .before .before .before .before in
+    let second = y .before .before .before .before in
+    let x = second .before .before .before .before in
+    let first = x .before .before .before .before in
+    puts-then (puts-then (puts-then (puts-then (first .put .ensures) (x .put-decimal .ensures)) (second .put2 .ensures)) (y .put-decimal2 .ensures)) (feed .put3 .ensures)
 
 pub line-spec : {M : Type 1} → statement M
 line-spec =
