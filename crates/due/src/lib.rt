@@ -14,34 +14,27 @@ pub enum Found {
 pub fn found_at(bytes: &[u8], at: usize, first: u8, second: u8) -> Found
     ensures { λ r. ⌜ FoundAt (now (bytes .entry)) at first second r ⌝ }
 {
+    let undue = Refusal {
+        cause: 12,
+        place: at,
+    };
+    let stopped = Refusal {
+        cause: 13,
+        place: bytes.len(),
+    };
     let next = records::next_at(bytes, at);
     match next {
         Next::Whole(record) => Found::Whole(record),
         Next::Cut(kind) => {
             if kind == first {
-                return Found::Refused(Refusal {
-                    cause: 13,
-                    place: bytes.len(),
-                });
+                return Found::Refused(stopped);
             }
             if kind == second {
-                return Found::Refused(Refusal {
-                    cause: 13,
-                    place: bytes.len(),
-                });
+                return Found::Refused(stopped);
             }
-            Found::Refused(Refusal {
-                cause: 12,
-                place: at,
-            })
+            Found::Refused(undue)
         }
-        Next::Unknown => Found::Refused(Refusal {
-            cause: 12,
-            place: at,
-        }),
-        Next::Nothing => Found::Refused(Refusal {
-            cause: 13,
-            place: bytes.len(),
-        }),
+        Next::Unknown => Found::Refused(undue),
+        Next::Nothing => Found::Refused(stopped),
     }
 }

@@ -58,14 +58,15 @@ fn take_record(bytes: &[u8], at: usize, n: usize, table: &mut [u8]) -> Step
     requires { ⌜ Square n (now table) ⌝ }
     ensures { λ r. ⌜ Stepped (now (bytes .entry)) at n (now (table .entry)) r (now (table .exit)) ⌝ }
 {
+    let undue = Refusal {
+        cause: 12,
+        place: at,
+    };
     let found = due::found_at(bytes, at, 2, 4);
     match found {
         Found::Refused(why) => Step::Refused(why),
         Found::Whole(record) => match record {
-            Record::Size(_) => Step::Refused(Refusal {
-                cause: 12,
-                place: at,
-            }),
+            Record::Size(_) => Step::Refused(undue),
             Record::Share(ends) => {
                 let marked = mark_edge(n, ends.a, ends.b, table);
                 match marked {
@@ -73,10 +74,7 @@ fn take_record(bytes: &[u8], at: usize, n: usize, table: &mut [u8]) -> Step
                     Mark::Refused(cause) => Step::Refused(Refusal { cause, place: at }),
                 }
             }
-            Record::Seed(_) => Step::Refused(Refusal {
-                cause: 12,
-                place: at,
-            }),
+            Record::Seed(_) => Step::Refused(undue),
             Record::End => {
                 let next = at + 1;
                 if next < bytes.len() {
