@@ -1,4 +1,4 @@
-// Buffers that are filled with one value.
+// Buffers that are filled with one value, and bytes that are copied.
 ghost use mathlib.Core.Path.{_≡_};
 ghost use lib.ListN.{length, replicate};
 
@@ -20,6 +20,18 @@ pub fn fill_bytes(bytes: &mut [u8], v: u8)
     let mut i = 0;
     while i < bytes.len() {
         bytes[i] = v;
+        i += 1;
+    }
+}
+
+// The bytes into as many others. For proved callers.
+pub fn copy_bytes(bytes: &[u8], target: &mut [u8])
+    requires { ⌜ length (now target) ≡ length (now bytes) ⌝ }
+    ensures { λ _. ⌜ now (target .exit) ≡ now (bytes .entry) ⌝ }
+{
+    let mut i = 0;
+    while i < target.len() {
+        target[i] = bytes[i];
         i += 1;
     }
 }

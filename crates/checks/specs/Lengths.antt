@@ -26,10 +26,10 @@ short-append (x ∷ a) b = go (decLt (x .length) (x .needed)) (short-append a b)
     go (no _) e = e
 
 -- a buffer that is too short, and one that is not
-is-short : (length needed number : ℕ) (later : Finding) → length < needed → choose (decLt length needed) (at number) later ≡ at number
+pub is-short : (length needed number : ℕ) (later : Finding) → length < needed → choose (decLt length needed) (at number) later ≡ at number
 is-short length needed number later l = choose-yes (decLt length needed) (at number) later l
 
-is-long : (length needed number : ℕ) (later : Finding) → needed ≤ length → choose (decLt length needed) (at number) later ≡ later
+pub is-long : (length needed number : ℕ) (later : Finding) → needed ≤ length → choose (decLt length needed) (at number) later ≡ later
 is-long length needed number later l = choose-no (decLt length needed) (at number) later (λ h. omega arith)
 
 -- the size, and the buffers that are always lent, case by case
@@ -67,7 +67,7 @@ module _ (n adjacency weights inverse sequence : ℕ) where
   lengths-long h e = rw (small-size h, ← e)
 
 -- cause 2 alone
-abbrev short-ruling : Finding → Ruling
+abbrev pub short-ruling : Finding → Ruling
 short-ruling f = unless f 2 accepted
 
 -- the buffers lent to opening alone, case by case, and what comes after them

@@ -16,6 +16,7 @@ pub mod Carried
 pub mod Demand
 pub mod Fresh
 -- The reader, and one outcome for open row, replay, the reader and the listing.
+pub mod Cells
 pub mod Reading
 pub mod Bounds
 pub mod Outcomes

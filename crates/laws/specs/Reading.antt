@@ -1,13 +1,12 @@
 -- Bytes are read in exactly one way, and a graph that the reader fills is in order. Assumes nothing.
-use mathlib.Core.Path.{_≡_, refl, sym, ap, ap₂, _∙_}
+use mathlib.Core.Path.{_≡_, refl, ap, ap₂, _∙_}
 use mathlib.Core.Logic.{_≢_}
 use mathlib.Core.List.{List, [], _∷_}
 use Prim.Native.Nat.{ℕ, _+_, _*_, _/_, _%_, _≤_, _<_}
 use native.Mathlib.Omega.{arith}
 use native.Mathlib.Decide.{ℕ-discrete, decLt}
 use lib.ListN.{length, getD, List·getD-append}
-use Rattle.lists.specs.Values.{length-list-of, getD-list-of}
-use Rattle.lists.specs.Table.{index-row, index-column, index-below, row-below, column-below}
+use Rattle.lists.specs.Table.{index-below, row-below, column-below}
 use Rattle.draws.specs.Draws.{draws}
 use Rattle.draws.specs.Laws.{draws-length, draws-range}
 use Rattle.skew.specs.Choose.{choose}
@@ -21,6 +20,7 @@ use Rattle.matching.specs.Causes.{lent-graph, opening-ruling, lent-inverse, len
 use Rattle.matching.specs.Records.{Record, size, kind, Begins, begins-size, begins-share, begins-seed, begins-end, Progress, start, sized, weighted, ended, Due, size-due, seed-due, share-due, end-due, Same, same?, among, Takes, takes-size, takes-seed, takes-share, takes-end, Rejects, too-large-size, not-two, stood-already, Reading, sheet, unread, Reads, whole, not-due, stops, cut, rejected, goes-on, cells, graph-read, Fills, fills}
 use Rattle.matching.specs.Computed.{nothing-due, begins-kind}
 use Rattle.laws.specs.Facts.{pair-of-smaller, pair-of-larger}
+use Rattle.laws.specs.Cells.{pair-of-swap, cells-length, cells-at}
 use Rattle.laws.specs.Onto.{onto-long}
 use Rattle.laws.specs.Faults.{fault-kind, kind-diagonal-zero, kind-equal}
 use Rattle.laws.specs.Sound.{opening-accepted}
@@ -167,14 +167,6 @@ among-ordered n e (f ∷ edges) q h = go (same? e f) (among-ordered n e edges q 
     go (yes s) _ = absurd (omega (arith, s .0, s .1, h .0))
     go (no _) k = k
 
-pair-of-swap : (a b : ℕ) → a ≢ b → pair-of a b ≡ pair-of b a
-pair-of-swap a b d = go (decLt a b) (decLt b a)
-  where
-    go : Dec (a < b) → Dec (b < a) → pair-of a b ≡ pair-of b a
-    go (yes l) _ = pair-of-smaller a b l ∙ sym (pair-of-larger b a l)
-    go (no _) (yes l) = pair-of-larger a b l ∙ sym (pair-of-smaller b a l)
-    go (no h) (no k) = absurd (d (omega arith))
-
 pair-of-same : (a : ℕ) → pair-of a a .smaller ≡ pair-of a a .larger
 unfolding pair-of
 pair-of-same a = refl
@@ -184,20 +176,13 @@ module _ {n : ℕ} {drawn : List ℕ} {edges : List Pair} (F : Fit n drawn edges
   abbrev g : Graph
   g = over n (onto (cells n edges) adjacency) (onto drawn weights)
 
-  cells-length : length (cells n edges) ≡ n * n
-  unfolding cells
-  cells-length = length-list-of (n * n) _
-
   drawn-length : length drawn ≡ pair-count n
   drawn-length = rw (F .drawn) (draws-length (F .seeded-by) (pair-count n))
 
   cell-is : (i j : ℕ) → i < n → j < n → cell g i j ≡ among (pair-of i j) edges
-  unfolding cells
   cell-is i j hi hj =
-      let l = index-below n i j hi hj in
-      List·getD-append (cells n edges) _ 0 (i * n + j) (omega (arith, cells-length))
-      ∙ getD-list-of (n * n) _ (i * n + j) l
-      ∙ ap₂ (λ a b. among (pair-of a b) edges) (index-row n i j hj) (index-column n i j hj)
+      List·getD-append (cells n edges) _ 0 (i * n + j) (omega (arith, cells-length n edges, index-below n i j hi hj))
+      ∙ cells-at n edges i j hi hj
 
   faultless : (i j : ℕ) → i < n → j < n → fault g i j ≡ 0
   faultless i j hi hj =
@@ -220,7 +205,7 @@ module _ {n : ℕ} {drawn : List ℕ} {edges : List Pair} (F : Fit n drawn edges
 
   pub sheet-in-order : LongEnough (lent-graph g) × InOrder modulus g
   sheet-in-order = (
-    (onto-long (cells n edges) adjacency (n * n) cells-length, (onto-long drawn weights (pair-count n) drawn-length, tt)),
+    (onto-long (cells n edges) adjacency (n * n) (cells-length n edges), (onto-long drawn weights (pair-count n) drawn-length, tt)),
     record {
       size = F .small;
       cells = λ x l. faultless (x / n) (x % n) (row-below n x l) (column-below n x l);

@@ -13,17 +13,6 @@ ghost use Rattle.tutte.specs.Table.{Complete};
 ghost use Rattle.exchange.specs.Run.{word, witness-word};
 ghost use Rattle.solve.specs.Solved.{Copied, Blank, Solved};
 
-fn copy(bytes: &[u8], target: &mut [u8])
-    requires { ⌜ length (now target) ≡ length (now bytes) ⌝ }
-    ensures { λ _. ⌜ now (target .exit) ≡ now (bytes .entry) ⌝ }
-{
-    let mut i = 0;
-    while i < target.len() {
-        target[i] = bytes[i];
-        i += 1;
-    }
-}
-
 // Entry (i, j) of the skew matrix that a table holds above its diagonal, where it stands there.
 fn above(t: &[u64], n: usize, i: usize, j: usize) -> u16
     requires { ⌜ Square n (now t) × (i < j) × (j < n) ⌝ }
@@ -115,7 +104,7 @@ fn solve_over(
     requires { ⌜ (length (now inverse) ≡ n * n) × (length (now witness) ≡ n) ⌝ }
     ensures { λ o. ⌜ ((S : Subset) → ((i : ℕ) → i < n → S i ≡ marked (now (set .entry)) i) → Solved (over n (now (adjacency .entry)) (now (weights .entry))) S o (now (inverse .exit)) (now (witness .exit))) ⌝ }
 {
-    copy(set, waiting);
+    buffers::copy_bytes(set, waiting);
     tutte::fill(n, adjacency, weights, set, t);
     let outcome = exchange::run(t, n, waiting);
     match outcome {

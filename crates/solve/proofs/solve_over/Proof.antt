@@ -29,10 +29,10 @@ ends at e =
     let w = filling at in
     let s = start w in
     subst (λ (o : Outcome). Ended (s .args .n) (tutte (graph w) modulus) (marked (s .args .set .now)) (at .run .last .0) (at .run .last .1 .1 .0) o) e
-    (rw (w .before .before .before .before .copy .ensures) at (at .run .ensures) (tutte (graph w) modulus) (filled-holds (graph w) (marked (s .args .set .now)) (s .pre .0 .2) (w .fill .ensures)))
+    (rw (w .before .before .before .before .copy-bytes .ensures) at (at .run .ensures) (tutte (graph w) modulus) (filled-holds (graph w) (marked (s .args .set .now)) (s .pre .0 .2) (w .fill .ensures)))
 
-copy-requires : tie.Need-copy-requires
-copy-requires c κs = search needs
+copy-bytes-requires : tie.Need-copy-bytes-requires
+copy-bytes-requires c κs = search needs
 
 fill-requires : tie.Need-fill-requires
 fill-requires c κs = search needs
@@ -45,7 +45,7 @@ run-requires c κs =
     let B = w .fill .ensures in (
       record { small = b .table-square .small; size = B .size ∙ b .table-square .size },
       filled-small (graph w) (marked (s .args .set .now)) b B (λ i j _ _. upper-word (graph w) (λ x. let h = c .before .before .before .before .before .before .before .before .before .before .before .before .before .before .before .shared-slice-known2 .given x in omega arith) i j),
-      w .before .before .before .before .copy .kept .1 .0 ∙ s .pre .0 .3,
+      w .before .before .before .before .copy-bytes .kept .1 .0 ∙ s .pre .0 .3,
     )
 
 enum-told : tie.Need-enum-told
@@ -67,7 +67,7 @@ write-witness-requires c κs =
     let s = start w in
     let b = s .pre .0 .2 in
     let E = ends at (c .before .before .before .before .outcome .given .1) in
-    (record { small = b .table-square .small; size = at .run .kept .0 ∙ w .fill .ensures .size ∙ b .table-square .size }, E .1 .below, at .run .kept .1 .1 .0 ∙ w .before .before .before .before .copy .kept .1 .0 ∙ s .pre .0 .3, s .pre .1 .1)
+    (record { small = b .table-square .small; size = at .run .kept .0 ∙ w .fill .ensures .size ∙ b .table-square .size }, E .1 .below, at .run .kept .1 .1 .0 ∙ w .before .before .before .before .copy-bytes .kept .1 .0 ∙ s .pre .0 .3, s .pre .1 .1)
 
 fill-words-requires-2 : tie.Need-fill-words-requires-2
 fill-words-requires-2 c κs = search needs
@@ -114,7 +114,7 @@ pub solve-over-spec : {M : Type 1} → statement M
 solve-over-spec =
     tie.close
     (tie.spec
-    copy-requires
+    copy-bytes-requires
     fill-requires
     run-requires
     enum-told

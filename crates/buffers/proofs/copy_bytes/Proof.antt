@@ -1,4 +1,4 @@
--- `solve::copy` meets its contract: the bytes before i are copied.
+-- `buffers::copy_bytes` meets its contract: the bytes before i are copied.
 -- Assumes nothing.
 use mathlib.Core.Path.{refl, _∙_}
 use Prim.Native.Nat.{_-_}
@@ -8,8 +8,8 @@ use Rattle.lists.specs.Values.{list-of-values}
 use Rattle.lists.specs.Written.{Written, written-start, written-more, written-all}
 use Rattle.lists.specs.Table.{vector}
 use borrow.Author.Needs.{needs}
-use Rattle.solve.proofs.copy.Statement.{statement}
-use Rattle.solve.proofs.copy.Tie as tie
+use Rattle.buffers.proofs.copy_bytes.Statement.{statement}
+use Rattle.buffers.proofs.copy_bytes.Tie as tie
 
 abbrev Inv-loop : tie.InvT-loop
 Inv-loop bytes target₀ i₀ target i = Written (vector bytes) target₀ target i
@@ -42,8 +42,8 @@ returns : tie.Need-returns Inv-loop μ-loop
 returns c =
     written-all (c .before .loop .inv) (omega arith) ∙ rw (c .before .before .pre) (list-of-values _)
 
-pub copy-spec : {M : Type 1} → statement M
-copy-spec =
+pub copy-bytes-spec : {M : Type 1} → statement M
+copy-bytes-spec =
     tie.close
     (tie.spec
     Inv-loop

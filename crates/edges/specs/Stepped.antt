@@ -1,0 +1,105 @@
+-- One record among the edges, and all of them to the end. Assumes nothing.
+use mathlib.Core.Path.{_≡_, refl, ap, _∙_}
+use mathlib.Core.Logic.{_≢_}
+use mathlib.Core.List.{List, [], _∷_}
+use Prim.Native.Nat.{ℕ, _+_, _≤_, _<_}
+use native.Mathlib.Numerals.{add-one}
+use native.Mathlib.Omega.{arith}
+use lib.ListN.{length}
+use Rattle.matching.specs.Decision.{because}
+use Rattle.matching.specs.Pairs.{Pair, pair-of}
+use Rattle.matching.specs.Records.{kind, weighted, takes-end, sheet, unread, cells}
+use Rattle.matching.specs.Computed.{only-edges}
+use Rattle.records.specs.Stands.{record-of, Stands}
+use Rattle.records.specs.declared.Ends.{Ends}
+use Rattle.records.specs.declared.Record.{Record}
+use Rattle.records.specs.declared.Record.the-variants.{Share, End}
+use Rattle.records.specs.declared.Next.the-variants.{Whole}
+use Rattle.due.specs.Follows.{ReadsOn, Follows, stands-within, taken-here, rejected-here, undue-here, ends-here, excess-here}
+use Rattle.edges.specs.Marked.{Marked}
+use Rattle.edges.specs.declared.Mark.the-variants as mark
+use Rattle.edges.specs.declared.Step.{Step}
+use Rattle.edges.specs.declared.Step.the-variants as step
+use Rattle.edges.specs.declared.Edges.{Edges}
+use Rattle.edges.specs.declared.Edges.the-variants as edges
+
+-- an edge more
+pub record OneMore (bytes : List ℕ) (at n : ℕ) (weights : List ℕ) (edges : List Pair) (next : ℕ) (table : List ℕ) : Type 0 where
+  pub edge : Pair
+  pub marks : table ≡ cells n (edge ∷ edges)
+  pub follows : Follows bytes (weighted n weights edges) at (weighted n weights (edge ∷ edges)) next
+
+abbrev pub Stepped : List ℕ → (at n : ℕ) → List ℕ → Step → List ℕ → Type 0
+Stepped bytes at n table (step.On next) table′ =
+    (at < next) × (next ≤ length bytes) × ((weights : List ℕ) (edges : List Pair) → table ≡ cells n edges → OneMore bytes at n weights edges next table′)
+Stepped bytes at n table step.Done table′ =
+    (table′ ≡ table) × ((weights : List ℕ) (edges : List Pair) → ReadsOn bytes (weighted n weights edges) at (sheet n weights edges))
+Stepped bytes at n table (step.Refused why) table′ =
+    (weights : List ℕ) (edges : List Pair) → table ≡ cells n edges → ReadsOn bytes (weighted n weights edges) at (unread (because (why .cause) (why .place)))
+
+module _ {bytes : List ℕ} {at n : ℕ} where
+  -- another kind than share and end
+  pub step-undue : {r : Record} → Stands bytes at (Whole r) → kind (record-of r) ≢ 2 → kind (record-of r) ≢ 4 → (weights : List ℕ) (edges : List Pair)
+      → ReadsOn bytes (weighted n weights edges) at (unread (because 12 at))
+  step-undue S c d weights edges = undue-here S (only-edges c d)
+
+  pub step-share : {table table′ : List ℕ} (e : Ends) → Stands bytes at (Whole (Share e)) → Marked n (e .a) (e .b) table mark.Made table′
+      → Stepped bytes at n table (step.On (at + 3)) table′
+  step-share e S M = (
+    omega arith,
+    stands-within S,
+    λ weights edges t. record {
+      edge = pair-of (e .a) (e .b);
+      marks = M weights edges t .marks;
+      follows = taken-here S (M weights edges t .takes);
+    },
+  )
+
+  pub step-rejected : {table : List ℕ} {cause : ℕ} (e : Ends) → Stands bytes at (Whole (Share e)) → Marked n (e .a) (e .b) table (mark.Refused cause) table
+      → (weights : List ℕ) (edges : List Pair) → table ≡ cells n edges → ReadsOn bytes (weighted n weights edges) at (unread (because cause at))
+  step-rejected e S M weights edges t = rejected-here S (M weights edges t)
+
+  pub step-end : Stands bytes at (Whole End) → length bytes ≤ at + 1 → (weights : List ℕ) (edges : List Pair)
+      → ReadsOn bytes (weighted n weights edges) at (sheet n weights edges)
+  step-end S l weights edges = taken-here S takes-end _ (ends-here bytes (at + 1) n weights edges l)
+
+  pub step-excess : Stands bytes at (Whole End) → at + 1 < length bytes → (weights : List ℕ) (edges : List Pair)
+      → ReadsOn bytes (weighted n weights edges) at (unread (because 12 (at + 1)))
+  step-excess S l weights edges = taken-here S takes-end _ (excess-here bytes (at + 1) n weights edges l)
+
+-- so many edges are read from one offset to another, and marked in the table
+pub record Reached (bytes : List ℕ) (from n : ℕ) (weights : List ℕ) (at count : ℕ) (table : List ℕ) : Type 0 where
+  pub edges : List Pair
+  pub counted : count ≡ length edges
+  pub marks : table ≡ cells n edges
+  pub follows : Follows bytes (weighted n weights []) from (weighted n weights edges) at
+
+-- so many are read to the end
+pub record AllRead (bytes : List ℕ) (from n : ℕ) (weights : List ℕ) (count : ℕ) (table : List ℕ) : Type 0 where
+  pub edges : List Pair
+  pub counted : count ≡ length edges
+  pub marks : table ≡ cells n edges
+  pub reads : ReadsOn bytes (weighted n weights []) from (sheet n weights edges)
+
+abbrev pub Listed : List ℕ → (from n : ℕ) → List ℕ → Edges → List ℕ → Type 0
+Listed bytes from n weights (edges.Counted count) table = AllRead bytes from n weights count table
+Listed bytes from n weights (edges.Refused why) table = ReadsOn bytes (weighted n weights []) from (unread (because (why .cause) (why .place)))
+
+module _ {bytes : List ℕ} {from n : ℕ} {weights : List ℕ} where
+  pub reached-start : {table : List ℕ} → table ≡ cells n [] → Reached bytes from n weights from 0 table
+  reached-start e = record { edges = []; counted = refl; marks = e; follows = λ r R. R }
+
+  module _ {at count : ℕ} {table : List ℕ} (R : Reached bytes from n weights at count table) where
+    pub reached-more : {next : ℕ} {table′ : List ℕ} → Stepped bytes at n table (step.On next) table′ → Reached bytes from n weights next (count + 1) table′
+    reached-more S =
+        let more = S .2 weights (R .edges) (R .marks) in
+        record {
+          edges = more .edge ∷ R .edges;
+          counted = ap (λ k. k + 1) (R .counted) ∙ simp add-one;
+          marks = more .marks;
+          follows = λ r later. R .follows r (more .follows r later);
+        }
+
+    pub reached-end : {table′ : List ℕ} → Stepped bytes at n table step.Done table′ → AllRead bytes from n weights count table′
+    reached-end S =
+        record { edges = R .edges; counted = R .counted; marks = S .0 ∙ R .marks; reads = R .follows _ (S .1 weights (R .edges)) }

@@ -1,0 +1,47 @@
+-- `sheet::read_rest` meets its contract: it lends a table of n * n bytes, all 0. Assumes nothing.
+use mathlib.Core.Path.{sym, _∙_}
+use Prim.Native.Nat.{_*_}
+use native.Mathlib.Omega.{arith}
+use Rattle.lists.specs.Part.{length-part}
+use Rattle.lists.specs.Table.{square-small}
+use Rattle.laws.specs.Cells.{cells-none}
+use Rattle.sheet.specs.Filled.{first-zeros}
+use borrow.Author.Needs.{needs}
+use Rattle.sheet.proofs.read_rest.Statement.{statement}
+use Rattle.sheet.proofs.read_rest.Tie as tie
+
+mul-size : tie.Need-mul-size
+mul-size c = let s = c .before .before .before in omega (arith, square-small (s .args .n) (s .pre))
+
+array-borrow-prefix-table : tie.Need-array-borrow-prefix-table
+array-borrow-prefix-table c = square-small _ (c .before .before .before .pre)
+
+slice-aggregate-read-over : tie.Need-slice-aggregate-read-over
+slice-aggregate-read-over c = let s = c .before .before .before .before in sym (length-part _ 9216 0 (square-small (s .args .n) (s .pre)))
+
+read-over-requires : tie.Need-read-over-requires
+read-over-requires c κs =
+    let s = c .before .before .before .before .before .before in
+    let fits = square-small (s .args .n) (s .pre) in
+    (record { small = s .pre; size = length-part (s .args .n * s .args .n) 9216 0 fits }, first-zeros (s .args .n * s .args .n) 9216 fits ∙ sym (cells-none (s .args .n)))
+
+same-length : tie.Need-same-length
+same-length c = search needs
+
+same-length-2 : tie.Need-same-length-2
+same-length-2 c = search needs
+
+returns : tie.Need-returns
+returns c = search needs
+
+pub read-rest-spec : {M : Type 1} → statement M
+read-rest-spec =
+    tie.close
+    (tie.spec
+    mul-size
+    array-borrow-prefix-table
+    slice-aggregate-read-over
+    read-over-requires
+    same-length
+    same-length-2
+    returns)

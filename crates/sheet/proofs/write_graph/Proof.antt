@@ -1,0 +1,82 @@
+-- `sheet::write_graph` meets its contract: cause 2 case by case, and the first part of each buffer is written. Assumes nothing.
+use mathlib.Core.Path.{refl, sym, ap, _∙_}
+use lib.Seq.{length-take-le}
+use Rattle.draws.specs.Draws.{draws}
+use Rattle.checks.specs.Weights.{needed-all}
+use Rattle.sheet.specs.Filled.{lacks-adjacency, lacks-weights, written}
+use borrow.Author.Needs.{needs}
+use Rattle.sheet.proofs.write_graph.Statement.{statement}
+use Rattle.sheet.proofs.write_graph.Tie as tie
+
+mul-size : tie.Need-mul-size
+mul-size c = search needs
+
+returns : tie.Need-returns
+returns c = lacks-adjacency _ _ (c .if1 .taken)
+
+weights-needed-requires : tie.Need-weights-needed-requires
+weights-needed-requires c κs = search needs
+
+returns-2 : tie.Need-returns-2
+returns-2 c =
+    let s = c .before .before .before .before .before .before in
+    lacks-weights _ _ (c .before .before .if1 .left) (rw (c .before .weights-needed .ensures ∙ needed-all (s .args .n) (s .pre .small)) at (c .if2 .taken))
+
+slice-relend-prefix-copy-bytes : tie.Need-slice-relend-prefix-copy-bytes
+slice-relend-prefix-copy-bytes c = search needs
+
+slice-aggregate-copy-bytes : tie.Need-slice-aggregate-copy-bytes
+slice-aggregate-copy-bytes c =
+    let s = c .before .before .before .before .before .before .before in
+    sym (length-take-le _ (s .args .adjacency .now) (c .before .before .before .if1 .left))
+
+copy-bytes-requires : tie.Need-copy-bytes-requires
+copy-bytes-requires c κs =
+    let s = c .before .before .before .before .before .before .before in
+    length-take-le _ (s .args .adjacency .now) (c .before .before .before .if1 .left) ∙ sym (s .pre .size)
+
+slice-relend-prefix-fill : tie.Need-slice-relend-prefix-fill
+slice-relend-prefix-fill c = search needs
+
+slice-aggregate-fill : tie.Need-slice-aggregate-fill
+slice-aggregate-fill c =
+    let known = c .before .before .before .before .before in
+    let s = known .before .before .before .before .before .before in
+    sym (length-take-le _ (s .args .weights .now) (known .if2 .left))
+
+fill-requires : tie.Need-fill-requires
+fill-requires c κs = search needs
+
+same-length : tie.Need-same-length
+same-length c = search needs
+
+same-length-2 : tie.Need-same-length-2
+same-length-2 c = search needs
+
+returns-3 : tie.Need-returns-3
+returns-3 c =
+    let filled = c .before .before in
+    let copied = filled .before .before .before .before in
+    let known = copied .before .before in
+    let s = known .before .before .before .before .before .before in
+    let e = known .before .weights-needed .ensures ∙ needed-all (s .args .n) (s .pre .small) in
+    written _ _ _ _ refl e (known .before .before .if1 .left) (rw e at (known .if2 .left)) (copied .copy-bytes .ensures)
+    (filled .fill .ensures ∙ ap (draws (s .args .seed)) (length-take-le _ (s .args .weights .now) (known .if2 .left) ∙ e))
+
+pub write-graph-spec : {M : Type 1} → statement M
+write-graph-spec =
+    tie.close
+    (tie.spec
+    mul-size
+    returns
+    weights-needed-requires
+    returns-2
+    slice-relend-prefix-copy-bytes
+    slice-aggregate-copy-bytes
+    copy-bytes-requires
+    slice-relend-prefix-fill
+    slice-aggregate-fill
+    fill-requires
+    same-length
+    same-length-2
+    returns-3)

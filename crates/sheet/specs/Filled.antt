@@ -1,0 +1,61 @@
+-- What reading comes to after the first two records. Assumes nothing.
+use mathlib.Core.Path.{_≡_, refl, sym, ap, _∙_}
+use mathlib.Core.List.{List, _∷_, _++_}
+use Prim.Native.Nat.{ℕ, zero, suc, _*_, _≤_, _<_}
+use native.Mathlib.Omega.{arith}
+use lib.ListN.{length, take, drop, replicate}
+use Rattle.draws.specs.Draws.{draws}
+use Rattle.draws.specs.Laws.{draws-length}
+use Rattle.matching.specs.Decision.{because, accepted, refused}
+use Rattle.matching.specs.Graph.{pair-count}
+use Rattle.matching.specs.Pairs.{Pair}
+use Rattle.matching.specs.Session.{onto}
+use Rattle.matching.specs.Records.{start, sheet, unread, ReadsFrom, cells, Read, graph-read, not-read, room, FillsFrom, refuses-records, lacks-room, fills}
+use Rattle.laws.specs.Cells.{cells-length}
+use Rattle.checks.specs.Lengths.{is-short, is-long, short-ruling}
+use Rattle.due.specs.Follows.{ReadsOn}
+use Rattle.sheet.specs.Headed.{Behind}
+
+-- cause 2, case by case
+module _ (n : ℕ) (adjacency weights : List ℕ) where
+  room-adjacency : length adjacency < n * n → room n adjacency weights ≡ refused (because 2 1)
+  room-adjacency h = ap short-ruling (is-short (length adjacency) (n * n) 1 _ h)
+
+  room-weights : n * n ≤ length adjacency → length weights < pair-count n → room n adjacency weights ≡ refused (because 2 2)
+  room-weights g h = ap short-ruling (is-long (length adjacency) (n * n) 1 _ g ∙ is-short (length weights) (pair-count n) 2 _ h)
+
+  room-enough : n * n ≤ length adjacency → pair-count n ≤ length weights → room n adjacency weights ≡ accepted
+  room-enough g h = ap short-ruling (is-long (length adjacency) (n * n) 1 _ g ∙ is-long (length weights) (pair-count n) 2 _ h)
+
+-- for whatever bytes were read as a sheet with the edges of the table
+abbrev pub Finishes : (n seed count : ℕ) → List ℕ → (adjacency weights : List ℕ) → Read → (adjacency′ weights′ : List ℕ) → Type 0
+Finishes n seed count table adjacency weights r adjacency′ weights′ =
+    (bytes : List ℕ) (at : ℕ) (edges : List Pair) → ReadsFrom bytes at (sheet n (draws seed (pair-count n)) edges) → count ≡ length edges → table ≡ cells n edges
+    → FillsFrom bytes at adjacency weights r adjacency′ weights′
+
+-- for whatever offset the bytes are read from, where reading has come behind the first two records
+abbrev pub Continues : List ℕ → (next n seed : ℕ) → (adjacency weights : List ℕ) → Read → (adjacency′ weights′ : List ℕ) → Type 0
+Continues bytes next n seed adjacency weights r adjacency′ weights′ =
+    (at : ℕ) → Behind bytes start at n seed next → FillsFrom bytes at adjacency weights r adjacency′ weights′
+
+module _ (n seed : ℕ) {count : ℕ} {table adjacency weights : List ℕ} where
+  pub lacks-adjacency : length adjacency < n * n → Finishes n seed count table adjacency weights (not-read (because 2 1)) adjacency weights
+  lacks-adjacency h bytes at edges R _ _ = lacks-room R (room-adjacency n adjacency weights h)
+
+  pub lacks-weights : n * n ≤ length adjacency → length weights < pair-count n
+      → Finishes n seed count table adjacency weights (not-read (because 2 2)) adjacency weights
+  lacks-weights g h bytes at edges R _ _ = lacks-room R (room-weights n adjacency weights g h)
+
+  pub written : {cells′ drawn : List ℕ} (size pairs : ℕ) → size ≡ n * n → pairs ≡ pair-count n → n * n ≤ length adjacency → pair-count n ≤ length weights
+      → cells′ ≡ table → drawn ≡ draws seed (pair-count n)
+      → Finishes n seed count table adjacency weights (graph-read n count) (cells′ ++ drop size adjacency) (drawn ++ drop pairs weights)
+  written {cells′} {drawn} size pairs es ep g h ec ed bytes at edges R k t =
+      let a : onto (cells n edges) adjacency ≡ cells′ ++ drop size adjacency = rw (ec, t, es, cells-length n edges) in
+      let w : onto (draws seed (pair-count n)) weights ≡ drawn ++ drop pairs weights = rw (ed, ep, draws-length seed (pair-count n)) in
+      rw (k, ← a, ← w) (fills R (room-enough n adjacency weights g h))
+
+-- the first of as many 0s
+pub first-zeros : (k m : ℕ) → k ≤ m → take {A = ℕ} k (replicate m 0) ≡ replicate k 0
+first-zeros zero m h = refl
+first-zeros (suc k) zero h = absurd (omega arith)
+first-zeros (suc k) (suc m) h = ap (λ l. 0 ∷ l) (first-zeros k m (omega arith))

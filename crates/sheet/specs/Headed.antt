@@ -1,0 +1,45 @@
+-- The first two records of a sheet. Assumes nothing.
+use mathlib.Core.Path.{_≡_}
+use mathlib.Core.Logic.{_≢_}
+use mathlib.Core.List.{List, []}
+use Prim.Native.Nat.{ℕ, _+_, _≤_, _<_}
+use Rattle.draws.specs.Draws.{draws}
+use Rattle.matching.specs.Decision.{because}
+use Rattle.matching.specs.Graph.{largest, pair-count}
+use Rattle.matching.specs.Records.{kind, Progress, start, sized, weighted, takes-size, takes-seed, too-large-size, unread}
+use Rattle.matching.specs.Computed.{only-size, only-seed}
+use Rattle.records.specs.Stands.{record-of, Stands}
+use Rattle.records.specs.declared.Record.{Record}
+use Rattle.records.specs.declared.Record.the-variants.{Size, Seed}
+use Rattle.records.specs.declared.Next.the-variants.{Whole}
+use Rattle.due.specs.Follows.{ReadsOn, Follows, taken-here, rejected-here, undue-here}
+use Rattle.sheet.specs.declared.Head.{Head}
+use Rattle.sheet.specs.declared.Start.{Start}
+use Rattle.sheet.specs.declared.Start.the-variants as variants
+
+-- reading has come behind them: no edges yet
+abbrev pub Behind : List ℕ → Progress → (at n seed next : ℕ) → Type 0
+Behind bytes q at n seed next = Follows bytes q at (weighted n (draws seed (pair-count n)) []) next
+
+abbrev pub Heads : List ℕ → Progress → ℕ → Start → Type 0
+Heads bytes q at (variants.Headed h) = (h .size ≤ largest) × Behind bytes q at (h .size) (h .seed) (h .next)
+Heads bytes q at (variants.Refused why) = ReadsOn bytes q at (unread (because (why .cause) (why .place)))
+
+module _ {bytes : List ℕ} {at : ℕ} where
+  -- another kind than the one due
+  pub not-size : {r : Record} → Stands bytes at (Whole r) → kind (record-of r) ≢ 1 → ReadsOn bytes start at (unread (because 12 at))
+  not-size S d = undue-here S (only-size d)
+
+  pub not-seed : {r : Record} {n : ℕ} → Stands bytes at (Whole r) → kind (record-of r) ≢ 3 → ReadsOn bytes (sized n) at (unread (because 12 at))
+  not-seed S d = undue-here S (only-seed d)
+
+  pub seed-behind : {n s : ℕ} → Stands bytes at (Whole (Seed s)) → Behind bytes (sized n) at n s (at + 5)
+  seed-behind S = taken-here S takes-seed
+
+  pub size-rejected : {n : ℕ} → Stands bytes at (Whole (Size n)) → largest < n → ReadsOn bytes start at (unread (because 1 at))
+  size-rejected S l = rejected-here S (too-large-size l)
+
+  -- what comes after a size that is taken
+  pub size-heads : {n : ℕ} (h : Start) → Stands bytes at (Whole (Size n)) → n ≤ largest → Heads bytes (sized n) (at + 2) h → Heads bytes start at h
+  size-heads (variants.Headed h) S l H = (H .0, λ r R. taken-here S (takes-size l) r (H .1 r R))
+  size-heads (variants.Refused why) S l H = taken-here S (takes-size l) _ H
