@@ -1,6 +1,7 @@
 -- How many weights a graph needs, and laws of the first one out of range. Assumes nothing.
 use mathlib.Core.Path.{_≡_}
-use Prim.Native.Nat.{ℕ, _≤_, _<_}
+use Prim.Native.Nat.{ℕ, _*_, _-_, _≤_, _<_}
+use native.Mathlib.Nat.{mul-le-mul}
 use native.Mathlib.Omega.{arith}
 use native.Mathlib.Decide.{decLt}
 use Rattle.skew.specs.Choose.{choose, choose-yes, choose-no}
@@ -27,3 +28,13 @@ needed-none n h = choose-yes (decLt largest n) 0 (pair-count n) h
 
 pub needed-all : (n : ℕ) → n ≤ largest → needed n ≡ pair-count n
 needed-all n h = choose-no (decLt largest n) 0 (pair-count n) (λ l. omega arith)
+
+-- no more than those of 96 vertices
+pub needed-small : (n : ℕ) → needed n ≤ 4560
+needed-small n = go (decLt largest n)
+  where
+    go : Dec (largest < n) → needed n ≤ 4560
+    go (yes l) = omega (arith, needed-none n l)
+    go (no l) =
+        let k : n * (n - 1) ≤ 9120 = mul-le-mul {n₁ = n} {m₁ = n - 1} {n₂ = 96} {m₂ = 95} (omega arith) (omega arith) in
+        omega (arith, needed-all n (omega arith))

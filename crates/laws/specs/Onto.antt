@@ -1,7 +1,7 @@
 -- A buffer whose first words are new. Assumes nothing.
-use mathlib.Core.Path.{_≡_}
-use mathlib.Core.List.{List}
-use Prim.Native.Nat.{ℕ, _≤_}
+use mathlib.Core.Path.{_≡_, refl}
+use mathlib.Core.List.{List, [], append-nil}
+use Prim.Native.Nat.{ℕ, zero, suc, _≤_}
 use native.Mathlib.Omega.{arith}
 use lib.ListN.{length, take, drop, length-append}
 use lib.Seq.{take-at}
@@ -13,3 +13,11 @@ module _ (new old : List ℕ) (k : ℕ) (e : length new ≡ k) where
 
   pub onto-front : take k (onto new old) ≡ new
   onto-front = take-at new (drop (length new) old) k e
+
+-- over nothing there is no excess
+nothing-left : (k : ℕ) → drop {A = ℕ} k [] ≡ []
+nothing-left zero = refl
+nothing-left (suc k) = refl
+
+pub onto-nothing : (new : List ℕ) → onto new [] ≡ new
+onto-nothing new = rw (nothing-left (length new), append-nil new)

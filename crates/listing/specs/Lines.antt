@@ -1,7 +1,7 @@
 -- The lines of a graph, and how an opening leads to them. Assumes nothing.
 use mathlib.Core.Path.{_≡_, refl, sym, ap, _∙_}
 use mathlib.Core.List.{List, [], _∷_, _++_}
-use Prim.Native.Nat.{ℕ, zero, suc, _*_, _≤_}
+use Prim.Native.Nat.{ℕ, _*_}
 use native.Mathlib.Omega.{arith}
 use lib.ListN.{length, take, replicate, length-replicate}
 use Rattle.lists.specs.Table.{square-small}
@@ -115,12 +115,6 @@ accepts {g} L =
       (L .long .0, (L .long .1 .0, (square-small (g .n) small, (small, (small, (omega arith, tt)))))),
       L .in-order,
     )
-
--- the first marks are all 1
-pub marked-all : (n m : ℕ) → n ≤ m → take n (replicate m 1) ≡ replicate {A = ℕ} n 1
-marked-all zero m h = refl
-marked-all (suc n) zero h = absurd (omega arith)
-marked-all (suc n) (suc m) h = ap (λ l. 1 ∷ l) (marked-all n m (omega arith))
 
 -- the first line, and then the others
 pub graph-lines : {g : Graph} {m mid end : ℕ} {before between after : List ℕ} → Puts 0 (first-line (g .n) m) before between mid

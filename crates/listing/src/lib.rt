@@ -1,5 +1,6 @@
 // The listing of a sheet as text in a lent buffer.
 use opening::Opening;
+use sheet::Read;
 ghost use mathlib.Core.Path.{_≡_};
 ghost use mathlib.Core.List.{List};
 ghost use Prim.Native.Nat.{ℕ, _+_, _*_, _≤_, _<_};
@@ -8,7 +9,15 @@ ghost use Rattle.residue.specs.Modulus.{modulus};
 ghost use Rattle.matching.specs.Decision.{accepted};
 ghost use Rattle.matching.specs.Graph.{over};
 ghost use Rattle.matching.specs.Causes.{opening-ruling};
+ghost use Rattle.matching.specs.Listing.{input-limit, text-room, ListsInto};
 ghost use Rattle.listing.specs.Lines.{Writes, Verdict, GraphLines, Fresh, FreshFor, Lent};
+ghost use Rattle.listing.specs.Sheets.{listed-of, ListsBytes, Tables};
+
+// What the listing answers: how long the text is, or that the buffer has no room for every text.
+pub enum Listed {
+    Text(usize),
+    NoRoom,
+}
 
 // The lines of a session fresh from opening: its pairs, and the verdict that all vertices are matched.
 fn full_lines(
@@ -77,4 +86,45 @@ fn graph_lines(n: usize, edges: usize, adjacency: &[u8], weights: &[u16], text: 
         text,
         next,
     )
+}
+
+// All lines of a sheet, with tables for the largest graph.
+fn sheet_lines(bytes: &[u8], adjacency: &mut [u8], weights: &mut [u16], text: &mut [u8]) -> usize
+    requires { ⌜ Tables (now bytes) (now adjacency) (now weights) (now text) ⌝ }
+    ensures { λ r. ⌜ Writes (ListsBytes (now (bytes .entry))) 0 (now (text .entry)) (now (text .exit)) r ⌝ }
+{
+    let read = reader::read(bytes, adjacency, weights);
+    match read {
+        Read::Refused(why) => text::refused_line(text, 0, why.cause as usize, why.place),
+        Read::Graph(extent) => {
+            let n = extent.size;
+            let size = n * n;
+            let count = checks::weights_needed(n);
+            graph_lines(n, extent.edges, &adjacency[..size], &weights[..count], text)
+        }
+    }
+}
+
+// The same, with tables of its own.
+fn write_lines(bytes: &[u8], text: &mut [u8]) -> usize
+    requires { ⌜ (length (now bytes) ≤ input-limit) × (text-room ≤ length (now text)) ⌝ }
+    ensures { λ r. ⌜ Writes (ListsBytes (now (bytes .entry))) 0 (now (text .entry)) (now (text .exit)) r ⌝ }
+{
+    // 96 * 96 cells, and 96 * 95 / 2 weights.
+    let mut adjacency = [0u8; 9216];
+    let mut weights = [0u16; 4560];
+    sheet_lines(bytes, &mut adjacency, &mut weights, text)
+}
+
+// Lists an input, of which at most 16,384 bytes are read, into a buffer of 2,048 bytes or more.
+pub fn list(input: &[u8], text: &mut [u8]) -> Listed
+    ensures { λ r. ⌜ ListsInto (now (input .entry)) (now (text .entry)) (listed-of r) (now (text .exit)) ⌝ }
+{
+    if text.len() < 2048 {
+        return Listed::NoRoom;
+    }
+    if input.len() < 16384 {
+        return Listed::Text(write_lines(input, text));
+    }
+    Listed::Text(write_lines(&input[..16384], text))
 }

@@ -1,9 +1,8 @@
 -- What reading comes to after the first two records. Assumes nothing.
 use mathlib.Core.Path.{_≡_, refl, sym, ap, _∙_}
-use mathlib.Core.List.{List, _∷_, _++_}
-use Prim.Native.Nat.{ℕ, zero, suc, _*_, _≤_, _<_}
-use native.Mathlib.Omega.{arith}
-use lib.ListN.{length, take, drop, replicate}
+use mathlib.Core.List.{List, _++_}
+use Prim.Native.Nat.{ℕ, _*_, _≤_, _<_}
+use lib.ListN.{length, drop}
 use Rattle.draws.specs.Draws.{draws}
 use Rattle.draws.specs.Laws.{draws-length}
 use Rattle.matching.specs.Decision.{because, accepted, refused}
@@ -24,7 +23,7 @@ module _ (n : ℕ) (adjacency weights : List ℕ) where
   room-weights : n * n ≤ length adjacency → length weights < pair-count n → room n adjacency weights ≡ refused (because 2 2)
   room-weights g h = ap short-ruling (is-long (length adjacency) (n * n) 1 _ g ∙ is-short (length weights) (pair-count n) 2 _ h)
 
-  room-enough : n * n ≤ length adjacency → pair-count n ≤ length weights → room n adjacency weights ≡ accepted
+  pub room-enough : n * n ≤ length adjacency → pair-count n ≤ length weights → room n adjacency weights ≡ accepted
   room-enough g h = ap short-ruling (is-long (length adjacency) (n * n) 1 _ g ∙ is-long (length weights) (pair-count n) 2 _ h)
 
 -- for whatever bytes were read as a sheet with the edges of the table
@@ -53,9 +52,3 @@ module _ (n seed : ℕ) {count : ℕ} {table adjacency weights : List ℕ} where
       let a : onto (cells n edges) adjacency ≡ cells′ ++ drop size adjacency = rw (ec, t, es, cells-length n edges) in
       let w : onto (draws seed (pair-count n)) weights ≡ drawn ++ drop pairs weights = rw (ed, ep, draws-length seed (pair-count n)) in
       rw (k, ← a, ← w) (fills R (room-enough n adjacency weights g h))
-
--- the first of as many 0s
-pub first-zeros : (k m : ℕ) → k ≤ m → take {A = ℕ} k (replicate m 0) ≡ replicate k 0
-first-zeros zero m h = refl
-first-zeros (suc k) zero h = absurd (omega arith)
-first-zeros (suc k) (suc m) h = ap (λ l. 0 ∷ l) (first-zeros k m (omega arith))

@@ -9,7 +9,7 @@ use borrow.Author.Needs.{needs}
 use Rattle.lists.specs.Part.{part-filled}
 use Rattle.lists.specs.Table.{square-small}
 use Rattle.matching.specs.Host.{words}
-use Rattle.crossing.specs.Needed.{needed-small}
+use Rattle.checks.specs.Weights.{needed-small}
 use Rattle.crossing.proofs.unpack.Statement.{statement}
 use Rattle.crossing.proofs.unpack.Tie as tie
 

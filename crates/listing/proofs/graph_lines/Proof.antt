@@ -4,10 +4,10 @@ use Prim.Native.Nat.{ℕ}
 use native.Mathlib.Omega.{arith}
 use borrow.Author.Needs.{needs}
 use lib.ListN.{length-replicate}
-use Rattle.lists.specs.Part.{length-part}
+use Rattle.lists.specs.Part.{length-part, first-part}
 use Rattle.text.specs.Puts.{puts-length}
 use Rattle.text.specs.Lines.{first-length}
-use Rattle.listing.specs.Lines.{accepts, marked-all, graph-lines}
+use Rattle.listing.specs.Lines.{accepts, graph-lines}
 use Rattle.listing.proofs.graph_lines.Statement.{statement}
 use Rattle.listing.proofs.graph_lines.Tie as tie
 
@@ -41,7 +41,7 @@ verdict-lines-requires c κs =
       rw (length-replicate {A = ℕ} 9216 0, length-replicate {A = ℕ} 96 0) (accepts (start .pre .0)),
       (
         small,
-        marked-all (start .args .n) 96 small,
+        first-part (start .args .n) 96 1 small,
         omega (arith, start .pre .2, puts-length (written .first-line .ensures), written .first-line .ensures .behind, first-length (start .args .n) (start .args .edges) (omega (arith, small)) (start .pre .1)),
       ),
     )

@@ -6,7 +6,7 @@ use lib.ListN.{length, take, drop, replicate}
 use borrow.Author.Needs.{needs}
 use Rattle.lists.specs.Part.{length-part, part-filled}
 use Rattle.matching.specs.Host.{words}
-use Rattle.crossing.specs.Needed.{needed-small}
+use Rattle.checks.specs.Weights.{needed-small}
 use Rattle.opening_bytes.proofs.open_bytes.Statement.{statement}
 use Rattle.opening_bytes.proofs.open_bytes.Tie as tie
 

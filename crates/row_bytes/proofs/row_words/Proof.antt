@@ -6,7 +6,8 @@ use lib.ListN.{length, take, length-replicate}
 use lib.Seq.{length-take-le}
 use borrow.Author.Needs.{needs}
 use Rattle.lists.specs.Table.{square-small}
-use Rattle.crossing.specs.Needed.{needed-small, needed-weights}
+use Rattle.checks.specs.Weights.{needed-small}
+use Rattle.crossing.specs.Needed.{needed-weights}
 use Rattle.crossing.specs.Fit.{needed-words, table-stores}
 use Rattle.row_bytes.specs.Through.{needed-fits, host-shows}
 use Rattle.row_bytes.proofs.row_words.Statement.{statement}

@@ -2,10 +2,9 @@
 use mathlib.Core.Path.{sym, _∙_}
 use Prim.Native.Nat.{_*_}
 use native.Mathlib.Omega.{arith}
-use Rattle.lists.specs.Part.{length-part}
+use Rattle.lists.specs.Part.{length-part, first-part}
 use Rattle.lists.specs.Table.{square-small}
 use Rattle.laws.specs.Cells.{cells-none}
-use Rattle.sheet.specs.Filled.{first-zeros}
 use borrow.Author.Needs.{needs}
 use Rattle.sheet.proofs.read_rest.Statement.{statement}
 use Rattle.sheet.proofs.read_rest.Tie as tie
@@ -23,7 +22,7 @@ read-over-requires : tie.Need-read-over-requires
 read-over-requires c κs =
     let s = c .before .before .before .before .before .before in
     let fits = square-small (s .args .n) (s .pre) in
-    (record { small = s .pre; size = length-part (s .args .n * s .args .n) 9216 0 fits }, first-zeros (s .args .n * s .args .n) 9216 fits ∙ sym (cells-none (s .args .n)))
+    (record { small = s .pre; size = length-part (s .args .n * s .args .n) 9216 0 fits }, first-part (s .args .n * s .args .n) 9216 0 fits ∙ sym (cells-none (s .args .n)))
 
 same-length : tie.Need-same-length
 same-length c = search needs

@@ -1,0 +1,88 @@
+-- From the lines of a graph to the listing of a sheet. Assumes nothing.
+use mathlib.Core.Path.{_≡_, refl, sym, ap, _∙_}
+use mathlib.Core.List.{List, [], _++_, append-assoc}
+use Prim.Native.Nat.{ℕ, _*_, _≤_}
+use native.Mathlib.Omega.{arith}
+use lib.ListN.{length, take}
+use Rattle.lists.specs.Table.{square-small}
+use Rattle.draws.specs.Laws.{draws-length}
+use Rattle.matching.specs.Decision.{Refusal, accepted, refused}
+use Rattle.matching.specs.Graph.{Graph, over, largest, pair-count}
+use Rattle.matching.specs.Pairs.{Pair}
+use Rattle.matching.specs.Session.{onto}
+use Rattle.matching.specs.Records.{sheet, ReadsAs, cells, graph, graph-read, not-read, room, Fills, refuses-records, lacks-room, fills}
+use Rattle.matching.specs.Listing as definition
+use Rattle.matching.specs.Listing.{input-limit, text-room, first-line, pair-lines, refused-line, Lists, refuses-sheet, pairs-up, shows-witness, ListsInto, lists-into}
+use Rattle.laws.specs.Onto.{onto-front, onto-nothing}
+use Rattle.laws.specs.Cells.{cells-length}
+use Rattle.laws.specs.Reading.{Fit, reads-fit, sheet-in-order}
+use Rattle.laws.specs.Bounds.{reads-edges}
+use Rattle.checks.specs.Weights.{needed, needed-all, needed-small}
+use Rattle.sheet.specs.Filled.{room-enough}
+use Rattle.text.specs.Puts.{Puts, puts-first}
+use Rattle.listing.specs.declared.Listed.{Listed}
+use Rattle.listing.specs.declared.Listed.the-variants.{Text, NoRoom}
+use Rattle.listing.specs.Lines.{Writes, Verdict, full, none, GraphLines, Lent}
+
+-- the definition's answer of the code's
+abbrev pub listed-of : Listed → definition.Listed
+listed-of (Text n) = definition.text-of n
+listed-of NoRoom = definition.no-room
+
+-- the listing of each input whose first bytes, as many as are read, are these
+abbrev pub ListsBytes : List ℕ → List ℕ → Type 0
+ListsBytes bytes text = (input : List ℕ) → take input-limit input ≡ bytes → Lists input text
+
+-- tables for the largest graph, no more bytes than are read, and room for the text
+pub record Tables (bytes adjacency weights text : List ℕ) : Type 0 where
+  pub few : length bytes ≤ input-limit
+  pub cells-room : length adjacency ≡ 9216
+  pub weights-room : length weights ≡ 4560
+  pub text-fits : text-room ≤ length text
+
+-- a sheet that is read: its graph, over just the cells and the weights that it needs, and the listing of its lines
+pub record Sheet (bytes : List ℕ) (n m : ℕ) (adjacency weights : List ℕ) : Type 0 where
+  pub small : n ≤ largest
+  pub few-edges : m ≤ length bytes
+  pub lent : Lent (over n (take (n * n) adjacency) (take (needed n) weights))
+  pub lists : {text : List ℕ} → GraphLines (over n (take (n * n) adjacency) (take (needed n) weights)) m text → ListsBytes bytes text
+
+-- the lines of the graph of a sheet are its listing
+sheet-lists : {bytes drawn text : List ℕ} {n : ℕ} {edges : List Pair} → ReadsAs bytes (sheet n drawn edges)
+    → GraphLines (over n (cells n edges) drawn) (length edges) text → ListsBytes bytes text
+unfolding graph
+sheet-lists {bytes} {drawn} {text} {n} {edges} R G input e = rw (G .all) (go (G .verdict))
+  where
+    go : {rest : List ℕ} → Verdict (over n (cells n edges) drawn) rest → Lists input (first-line n (length edges) ++ rest)
+    go (full I C) = rw (← append-assoc) (pairs-up {n = n} {weights = drawn} {edges = edges} (rw e R) I C)
+    go (none l S) = rw (← append-assoc) (shows-witness {n = n} {weights = drawn} {edges = edges} (rw e R) l S)
+
+pub sheet-read : {bytes adjacency weights adjacency′ weights′ : List ℕ} {n m : ℕ} → Fills bytes adjacency weights (graph-read n m) adjacency′ weights′
+    → Sheet bytes n m adjacency′ weights′
+sheet-read {bytes} {adjacency} {weights} {n = n} {m = m} (fills {drawn = drawn} {edges = edges} R e) =
+    let F = reads-fit R refl tt in
+    let a : take (n * n) (onto (cells n edges) adjacency) ≡ cells n edges = onto-front (cells n edges) adjacency (n * n) (cells-length n edges) in
+    let counted : length drawn ≡ needed n = rw (F .drawn) (draws-length (F .seeded-by) (pair-count n)) ∙ sym (needed-all n (F .small)) in
+    let w : take (needed n) (onto drawn weights) ≡ drawn = onto-front drawn weights (needed n) counted in
+    let k = rw (onto-nothing (cells n edges), onto-nothing drawn) at (sheet-in-order F [] []) in
+    record {
+      small = F .small;
+      few-edges = omega (arith, reads-edges R refl);
+      lent = rw (a, w) (record { in-order = k .1; long = k .0 });
+      lists = λ G. sheet-lists R (rw (a, w) at G);
+    }
+
+-- with tables for the largest graph a sheet is refused for its records only
+pub sheet-refused : {bytes adjacency weights adjacency′ weights′ : List ℕ} {why : Refusal} → length adjacency ≡ 9216 → length weights ≡ 4560
+    → Fills bytes adjacency weights (not-read why) adjacency′ weights′ → ListsBytes bytes (refused-line why)
+sheet-refused {why = why} la lw (refuses-records R) input e = refuses-sheet {r = why} (rw e R)
+sheet-refused {adjacency = adjacency} {weights = weights} la lw (lacks-room {n = n} R e) input _ =
+    let F = reads-fit R refl tt in
+    let enough = room-enough n adjacency weights (omega (arith, square-small n (F .small))) (omega (arith, needed-small n, needed-all n (F .small))) in
+    absurd (let z : _≡_ {A = ℕ} 0 1 = cc in omega arith)
+
+-- a text from the start of the buffer is the listing written into it
+pub writes-into : {input before after : List ℕ} {end : ℕ} → text-room ≤ length before → Writes (ListsBytes (take input-limit input)) 0 before after end
+    → ListsInto input before (definition.text-of end) after
+writes-into {input} fits W =
+    let p = puts-first (W .puts) in rw (p .0, p .1) (lists-into fits (W .lines input refl))
