@@ -1,6 +1,5 @@
 -- Reading a sheet from an offset on: what the record that stands there comes to. Assumes nothing.
-use mathlib.Core.Path.{_≡_, refl, sym, _∙_}
-use mathlib.Core.Logic.{_≢_}
+use mathlib.Core.Path.{_≡_, refl}
 use mathlib.Core.List.{List, [], _∷_}
 use Prim.Native.Nat.{ℕ, _+_, _≤_, _<_}
 use native.Mathlib.Omega.{arith}
@@ -33,11 +32,11 @@ begins-first begins-share = record { body = _; begin = refl }
 begins-first begins-seed = record { body = _; begin = refl }
 begins-first begins-end = record { body = _; begin = refl }
 
-pub wide : (r : paper.Record) → (1 ≤ paper.width r) × (paper.width r ≤ 5)
-wide (paper.size _) = (omega arith, omega arith)
-wide (paper.share _ _) = (omega arith, omega arith)
-wide (paper.seed _) = (omega arith, omega arith)
-wide paper.end = (omega arith, omega arith)
+wide : (r : paper.Record) → 1 ≤ paper.width r
+wide (paper.size _) = omega arith
+wide (paper.share _ _) = omega arith
+wide (paper.seed _) = omega arith
+wide paper.end = omega arith
 
 -- what is due is a kind of record
 record Kind (k : ℕ) : Type 0 where
@@ -53,7 +52,7 @@ due-kind end-due = record { of = paper.end; same = refl }
 module _ {bytes : List ℕ} {at : ℕ} where
   -- a whole record ends within the bytes
   pub stands-within : {r : Record} → Stands bytes at (Whole r) → at + width-of r ≤ length bytes
-  stands-within {r} (stands-whole b) = omega (arith, begins-width b, wide (record-of r) .0, length-drop at bytes, length-drop (at + width-of r) bytes)
+  stands-within {r} (stands-whole b) = omega (arith, begins-width b, wide (record-of r), length-drop at bytes, length-drop (at + width-of r) bytes)
 
   pub taken-here : {r : Record} {q next : Progress} → Stands bytes at (Whole r) → Takes q (record-of r) next → Follows bytes q at next (at + width-of r)
   taken-here (stands-whole b) t result R = goes-on b t R

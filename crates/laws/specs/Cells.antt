@@ -1,5 +1,5 @@
 -- The adjacency table of a list of edges, and of one edge more. Assumes nothing.
-use mathlib.Core.Path.{_≡_, refl, sym, ap, ap₂, _∙_}
+use mathlib.Core.Path.{_≡_, refl, sym, ap₂, _∙_}
 use mathlib.Core.Logic.{_≢_}
 use mathlib.Core.List.{List, [], _∷_}
 use Prim.Native.Nat.{ℕ, _+_, _*_, _/_, _%_, _<_}
@@ -29,7 +29,7 @@ pair-of-equal i j e =
     let h : ¬ (i < j) = λ l. omega arith in rw (choose-no (decLt i j) i j h, choose-no (decLt i j) j i h, e)
 
 -- the same two, in one order or the other
-pub data Either (i j a b : ℕ) : Type 0 where
+data Either (i j a b : ℕ) : Type 0 where
   straight : i ≡ a → j ≡ b → Either i j a b
   crossed : i ≡ b → j ≡ a → Either i j a b
 

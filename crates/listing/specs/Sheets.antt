@@ -3,7 +3,7 @@ use mathlib.Core.Path.{_≡_, refl, sym, ap, _∙_}
 use mathlib.Core.List.{List, [], _++_, append-assoc}
 use Prim.Native.Nat.{ℕ, _*_, _≤_}
 use native.Mathlib.Omega.{arith}
-use lib.ListN.{length, take}
+use lib.ListN.{length, take, drop, length-append, length-drop}
 use Rattle.lists.specs.Table.{square-small}
 use Rattle.draws.specs.Laws.{draws-length}
 use Rattle.matching.specs.Decision.{Refusal, accepted, refused}
@@ -86,3 +86,8 @@ pub writes-into : {input before after : List ℕ} {end : ℕ} → text-room ≤ 
     → ListsInto input before (definition.text-of end) after
 writes-into {input} fits W =
     let p = puts-first (W .puts) in rw (p .0, p .1) (lists-into fits (W .lines input refl))
+
+-- the text is no longer than the buffer, which stays as long as it was
+pub text-within : {input before after : List ℕ} {end : ℕ} → ListsInto input before (definition.text-of end) after → length after ≡ length before → end ≤ length before
+text-within {before = before} (lists-into {text = text} _ _) e =
+    omega (arith, length-append text (drop (length text) before), length-drop (length text) before)

@@ -1,5 +1,5 @@
 -- What reading comes to after the first two records. Assumes nothing.
-use mathlib.Core.Path.{_≡_, refl, sym, ap, _∙_}
+use mathlib.Core.Path.{_≡_, refl, ap, _∙_}
 use mathlib.Core.List.{List, _++_}
 use Prim.Native.Nat.{ℕ, _*_, _≤_, _<_}
 use lib.ListN.{length, drop}
@@ -9,10 +9,9 @@ use Rattle.matching.specs.Decision.{because, accepted, refused}
 use Rattle.matching.specs.Graph.{pair-count}
 use Rattle.matching.specs.Pairs.{Pair}
 use Rattle.matching.specs.Session.{onto}
-use Rattle.matching.specs.Records.{start, sheet, unread, ReadsFrom, cells, Read, graph-read, not-read, room, FillsFrom, refuses-records, lacks-room, fills}
+use Rattle.matching.specs.Records.{start, sheet, ReadsFrom, cells, Read, graph-read, not-read, room, FillsFrom, lacks-room, fills}
 use Rattle.laws.specs.Cells.{cells-length}
 use Rattle.checks.specs.Lengths.{is-short, is-long, short-ruling}
-use Rattle.due.specs.Follows.{ReadsOn}
 use Rattle.sheet.specs.Headed.{Behind}
 
 -- cause 2, case by case

@@ -1,5 +1,4 @@
 -- The first two records of a sheet. Assumes nothing.
-use mathlib.Core.Path.{_≡_}
 use mathlib.Core.Logic.{_≢_}
 use mathlib.Core.List.{List, []}
 use Prim.Native.Nat.{ℕ, _+_, _≤_, _<_}
@@ -13,7 +12,6 @@ use Rattle.records.specs.declared.Record.{Record}
 use Rattle.records.specs.declared.Record.the-variants.{Size, Seed}
 use Rattle.records.specs.declared.Next.the-variants.{Whole}
 use Rattle.due.specs.Follows.{ReadsOn, Follows, taken-here, rejected-here, undue-here}
-use Rattle.sheet.specs.declared.Head.{Head}
 use Rattle.sheet.specs.declared.Start.{Start}
 use Rattle.sheet.specs.declared.Start.the-variants as variants
 

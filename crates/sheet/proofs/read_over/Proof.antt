@@ -1,7 +1,7 @@
 -- `sheet::read_over` meets its contract: a refused record refuses the sheet, and the edges that are read are written. Assumes nothing.
 use Rattle.draws.specs.Draws.{draws}
 use Rattle.matching.specs.Graph.{pair-count}
-use Rattle.matching.specs.Records.{refuses-records}
+use Rattle.matching.specs.Records.{sheet, refuses-records}
 use borrow.Author.Needs.{needs}
 use Rattle.sheet.proofs.read_over.Statement.{statement}
 use Rattle.sheet.proofs.read_over.Tie as tie
@@ -42,8 +42,9 @@ returns-2 c at B =
     let known = wrote .before .before .before .before .before in
     let read = known .before .before .before .before in
     let s = read .before .before .before .before .before .before in
-    let R = rw (known .edges2 .given .1) at (read .read-edges .ensures (draws (s .args .seed) (pair-count (s .args .n)))) in
-    wrote .write-graph .ensures (s .args .bytes .now) at (R .edges) (B _ (R .reads)) (R .counted) (R .marks)
+    let drawn = draws (s .args .seed) (pair-count (s .args .n)) in
+    let R = rw (known .edges2 .given .1) at (read .read-edges .ensures drawn) in
+    wrote .write-graph .ensures (s .args .bytes .now) at (R .edges) (B (sheet (s .args .n) drawn (R .edges)) (R .reads)) (R .counted) (R .marks)
 
 pub read-over-spec : {M : Type 1} → statement M
 read-over-spec =
