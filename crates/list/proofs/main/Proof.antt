@@ -1,18 +1,18 @@
 -- `list::main` meets its contract: the text is no longer than its buffer. Assumes nothing.
-use mathlib.Core.Path.{sym, ap, _∙_}
-use Prim.Native.Nat.{ℕ, _≤_}
+use mathlib.Core.Path.{sym}
+use Prim.Native.Nat.{_≤_}
 use native.Mathlib.Omega.{arith}
 use borrow.Author.Needs.{needs}
-use lib.ListN.{length-replicate}
+use lib.ListN.{length}
 use lib.Seq.{length-take-le}
-use Rattle.listing.specs.Sheets.{listed-of, text-within}
+use Rattle.listing.specs.Sheets.{text-within}
 use Rattle.list.proofs.main.Statement.{statement}
 use Rattle.list.proofs.main.Tie as tie
 
-fits : (c : tie.After-known-told) → c .before .listed .given .0 .0 ≤ 2048
+fits : (c : tie.After-known-told) → c .before .listed .given .0 .0 ≤ length (c .before .before .before .before .list .last .1 .0)
 fits c =
     let at = c .before .before .before .before in
-    rw (length-replicate {A = ℕ} 2048 0) at (text-within (rw (c .before .listed .given .1) at (at .list .ensures)) (at .list .kept .1 .0))
+    omega (arith, text-within (rw (c .before .listed .given .1) at (at .list .ensures)) (at .list .kept .1 .0), at .list .kept .1 .0)
 
 slice-aggregate-read-full : tie.Need-slice-aggregate-read-full
 slice-aggregate-read-full c = search needs
@@ -39,9 +39,7 @@ array-share-prefix-text : tie.Need-array-share-prefix-text
 array-share-prefix-text c = fits c
 
 slice-aggregate-write-all : tie.Need-slice-aggregate-write-all
-slice-aggregate-write-all c =
-    let at = c .before .before .before .before .before in
-    sym (length-take-le (c .before .before .listed .given .0 .0) (at .list .last .1 .0) (omega (arith, fits (c .before), at .list .kept .1 .0, length-replicate {A = ℕ} 2048 0)))
+slice-aggregate-write-all c = sym (length-take-le (c .before .before .listed .given .0 .0) (c .before .before .before .before .before .list .last .1 .0) (fits (c .before)))
 
 write-all-requires : tie.Need-write-all-requires
 write-all-requires c κs = search needs

@@ -1,0 +1,2 @@
+-- Reading a sheet over words, and through the host.
+pub mod Reads

@@ -1,0 +1,114 @@
+-- Reading a sheet over words of which no more are lent than the largest graph needs, and through the host. Assumes nothing.
+use mathlib.Core.Path.{_≡_, refl, sym, ap, _∙_}
+use mathlib.Core.List.{List}
+use Prim.Native.Nat.{ℕ, _*_, _≤_, _<_}
+use native.Mathlib.Omega.{arith}
+use native.Mathlib.Decide.{decLt}
+use lib.ListN.{length, take, drop, length-append}
+use Rattle.draws.specs.Laws.{draws-length}
+use Rattle.skew.specs.Choose.{choose}
+use Rattle.matching.specs.Decision.{Refusal, absent, at, unless, accepted, refused}
+use Rattle.matching.specs.Graph.{largest, pair-count}
+use Rattle.matching.specs.Session.{onto}
+use Rattle.matching.specs.Records.{Read, graph-read, not-read, room, Fills, refuses-records, lacks-room, fills}
+use Rattle.matching.specs.Listing.{input-limit}
+use Rattle.matching.specs.Host.{words, bytes-of, read-number, weights-stored, HostReads}
+use Rattle.laws.specs.Reading.{reads-fit}
+use Rattle.laws.specs.Bounds.{Answers, fills-answer}
+use Rattle.checks.specs.Weights.{needed, needed-all, needed-small}
+use Rattle.packing.specs.Words.{Bytes, words-length, stored-front}
+
+-- how many weights are stored: none where the sheet is refused
+abbrev pub stored-of : Read → ℕ
+stored-of (graph-read n m) = needed n
+stored-of (not-read why) = 0
+
+-- as many words as the weights have, or as the largest graph needs; no more bytes of a sheet than are read
+pub record Room (sheet values weights : List ℕ) : Type 0 where
+  pub few : length sheet ≤ input-limit
+  pub within : length values ≤ length (words weights)
+  pub enough : (k : ℕ) → k ≤ 4560 → k ≤ length (words weights) → k ≤ length values
+
+-- reading through the host, for each sheet whose first bytes, as many as are read, are these
+abbrev pub ReadsFront : List ℕ → (adjacency weights : List ℕ) → ℕ → (adjacency′ weights′ : List ℕ) → Type 0
+ReadsFront front adjacency weights answer adjacency′ weights′ =
+    (sheet : List ℕ) → take input-limit sheet ≡ front → HostReads sheet adjacency weights answer adjacency′ weights′
+
+-- there is room in some words where there is room in others
+room-same : (n : ℕ) (adjacency values ws : List ℕ) → (pair-count n ≤ length values → pair-count n ≤ length ws) → (pair-count n ≤ length ws → pair-count n ≤ length values)
+    → room n adjacency values ≡ room n adjacency ws
+room-same n adjacency values ws f g = go (decLt (length values) (pair-count n)) (decLt (length ws) (pair-count n))
+  where
+    go : (c : Dec (length values < pair-count n)) (d : Dec (length ws < pair-count n))
+        → unless (choose (decLt (length adjacency) (n * n)) (at 1) (choose c (at 2) absent)) 2 accepted
+        ≡ unless (choose (decLt (length adjacency) (n * n)) (at 1) (choose d (at 2) absent)) 2 accepted
+    go (yes _) (yes _) = refl
+    go (no _) (no _) = refl
+    go (yes c) (no d) = absurd (omega (arith, g (omega arith)))
+    go (no c) (yes d) = absurd (omega (arith, f (omega arith)))
+
+-- where there is room, the weights have room
+room-weights : (n : ℕ) (adjacency ws : List ℕ) → room n adjacency ws ≡ accepted → pair-count n ≤ length ws
+room-weights n adjacency ws = go (decLt (length adjacency) (n * n)) (decLt (length ws) (pair-count n))
+  where
+    go : (c : Dec (length adjacency < n * n)) (d : Dec (length ws < pair-count n)) → unless (choose c (at 1) (choose d (at 2) absent)) 2 accepted ≡ accepted
+        → pair-count n ≤ length ws
+    go _ (no d) e = omega arith
+    go (yes c) (yes d) e = absurd (let z : _≡_ {A = ℕ} 0 1 = cc in omega arith)
+    go (no c) (yes d) e = absurd (let z : _≡_ {A = ℕ} 0 1 = cc in omega arith)
+
+module _ {sheet values weights : List ℕ} (R : Room sheet values weights) where
+  -- for a graph within the size
+  same : (n : ℕ) (adjacency : List ℕ) → n ≤ largest → room n adjacency values ≡ room n adjacency (words weights)
+  same n adjacency h =
+      room-same n adjacency values (words weights) (λ l. omega (arith, R .within)) (λ l. R .enough (pair-count n) (omega (arith, needed-small n, needed-all n h)) l)
+
+  -- what is read over them
+  module _ {adjacency adjacency′ left : List ℕ} {given : Read} where
+    -- there is room for what is stored
+    pub stores : Fills sheet adjacency values given adjacency′ left → (stored-of given ≤ length left) × (2 * stored-of given ≤ length weights)
+    stores (refuses-records _) = (omega arith, omega arith)
+    stores (lacks-room _ _) = (omega arith, omega arith)
+    stores (fills {n = n} {drawn = drawn} {edges = edges} S e) =
+        let F = reads-fit S refl tt in
+        let counted : length drawn ≡ needed n = rw (F .drawn) (draws-length (F .seeded-by) (pair-count n)) ∙ sym (needed-all n (F .small)) in
+        let room : pair-count n ≤ length values = room-weights n adjacency values e in (
+          omega (arith, length-append drawn (drop (length drawn) values)),
+          omega (arith, needed-all n (F .small), R .within, words-length weights .0),
+        )
+
+    pub answers : Fills sheet adjacency values given adjacency′ left → Answers given input-limit
+    answers F = go given (fills-answer F)
+      where
+        go : (o : Read) → Answers o (length sheet) → Answers o input-limit
+        go (graph-read n m) h = (h .0, omega (arith, h .1, R .few))
+        go (not-read why) h = omega (arith, h, R .few)
+
+    pub host-reads : {weights′ : List ℕ} {answer : ℕ} → Bytes weights → Fills sheet adjacency values given adjacency′ left → answer ≡ read-number given
+        → weights′ ≡ onto (bytes-of (take (stored-of given) left)) weights → ReadsFront sheet adjacency weights answer adjacency′ weights′
+    unfolding bytes-of
+    host-reads B (refuses-records {why = why} S) a w whole e = record {
+      given = not-read why;
+      left = words weights;
+      outcome = refuses-records (rw e S);
+      numbered = a;
+      stored = w;
+    }
+    host-reads B (lacks-room {n = n} {why = why} S r) a w whole e = record {
+      given = not-read why;
+      left = words weights;
+      outcome = lacks-room (rw e S) (sym (same n adjacency (reads-fit S refl tt .small)) ∙ r);
+      numbered = a;
+      stored = w;
+    }
+    host-reads B (fills {n = n} {drawn = drawn} {edges = edges} S r) a w whole e =
+        let F = reads-fit S refl tt in
+        let counted : length drawn ≡ needed n = rw (F .drawn) (draws-length (F .seeded-by) (pair-count n)) ∙ sym (needed-all n (F .small)) in
+        let room : pair-count n ≤ length values = room-weights n adjacency values r in
+        record {
+          given = graph-read n (length edges);
+          left = onto drawn (words weights);
+          outcome = fills (rw e S) (sym (same n adjacency (F .small)) ∙ r);
+          numbered = a;
+          stored = w ∙ stored-front drawn values weights (needed n) B counted (omega (arith, needed-all n (F .small), R .within));
+        }

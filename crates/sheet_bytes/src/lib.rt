@@ -1,0 +1,68 @@
+// Sheets and draws with numbers and byte slices: what the host's entries call. Words cross as two bytes, low first (docs/HOST.md).
+use sheet::Read;
+ghost use mathlib.Core.Path.{_≡_};
+ghost use Prim.Native.Nat.{_≤_};
+ghost use lib.ListN.{length};
+ghost use Rattle.matching.specs.Listing.{input-limit};
+ghost use Rattle.matching.specs.Host.{read-number, HostReads};
+ghost use Rattle.laws.specs.Bounds.{Answers};
+ghost use Rattle.sheet.specs.Answers.{read-of};
+ghost use Rattle.sheet_bytes.specs.Reads.{stored-of, Room, ReadsFront};
+
+// The number of what was read.
+fn number(read: Read) -> u64
+    requires { ⌜ Answers (read-of read) input-limit ⌝ }
+    ensures { λ r. ⌜ r ≡ read-number (read-of read) ⌝ }
+{
+    match read {
+        Read::Graph(extent) => {
+            1536 + 65536 * (extent.edges as u64) + 4294967296 * (extent.size as u64)
+        }
+        Read::Refused(why) => crossing::refusal_number(why),
+    }
+}
+
+// How many weights are stored: none where the sheet is refused.
+fn stored(read: Read) -> usize
+    ensures { λ r. ⌜ r ≡ stored-of (read-of read) ⌝ }
+{
+    match read {
+        Read::Graph(extent) => checks::weights_needed(extent.size),
+        Read::Refused(_) => 0,
+    }
+}
+
+// Reads a sheet into an adjacency table and words; the weights that it needs are stored as bytes.
+fn read_over(sheet: &[u8], adjacency: &mut [u8], values: &mut [u16], weights: &mut [u8]) -> u64
+    requires { ⌜ Room (now sheet) (now values) (now weights) ⌝ }
+    ensures { λ r. ⌜ ReadsFront (now (sheet .entry)) (now (adjacency .entry)) (now (weights .entry)) r (now (adjacency .exit)) (now (weights .exit)) ⌝ }
+{
+    let read = reader::read(sheet, adjacency, values);
+    let count = stored(read);
+    packing::store(values, count, weights);
+    number(read)
+}
+
+// The same, with words of its own: as many as the weights have, and no more than the largest graph needs.
+fn read_words(sheet: &[u8], adjacency: &mut [u8], weights: &mut [u8]) -> u64
+    requires { ⌜ length (now sheet) ≤ input-limit ⌝ }
+    ensures { λ r. ⌜ ReadsFront (now (sheet .entry)) (now (adjacency .entry)) (now (weights .entry)) r (now (adjacency .exit)) (now (weights .exit)) ⌝ }
+{
+    // 96 * 95 / 2 weights.
+    let mut values = [0u16; 4560];
+    let room = weights.len() / 2;
+    if room < 4560 {
+        return read_over(sheet, adjacency, &mut values[..room], weights);
+    }
+    read_over(sheet, adjacency, &mut values, weights)
+}
+
+// Reads a sheet, of which at most 16,384 bytes are read.
+pub fn read(sheet: &[u8], adjacency: &mut [u8], weights: &mut [u8]) -> u64
+    ensures { λ r. ⌜ HostReads (now (sheet .entry)) (now (adjacency .entry)) (now (weights .entry)) r (now (adjacency .exit)) (now (weights .exit)) ⌝ }
+{
+    if sheet.len() < 16384 {
+        return read_words(sheet, adjacency, weights);
+    }
+    read_words(&sheet[..16384], adjacency, weights)
+}
