@@ -53,7 +53,7 @@ module _ (n seed : ℕ) {count : ℕ} {table adjacency weights : List ℕ} where
       let w : onto (draws seed (pair-count n)) weights ≡ drawn ++ drop pairs weights = rw (ed, ep, draws-length seed (pair-count n)) in
       rw (k, ← a, ← w) (fills R (room-enough n adjacency weights g h))
 
--- the first of as many 0s
+-- the first k of m 0s
 pub first-zeros : (k m : ℕ) → k ≤ m → take {A = ℕ} k (replicate m 0) ≡ replicate k 0
 first-zeros zero m h = refl
 first-zeros (suc k) zero h = absurd (omega arith)
