@@ -63,52 +63,51 @@ module _ {sheet values weights : List ℕ} (R : Room sheet values weights) where
   same n adjacency h =
       room-same n adjacency values (words weights) (λ l. omega (arith, R .within)) (λ l. R .enough (pair-count n) (omega (arith, needed-small n, needed-all n h)) l)
 
-  -- what is read over them
-  module _ {adjacency adjacency′ left : List ℕ} {given : Read} where
-    -- there is room for what is stored
-    pub stores : Fills sheet adjacency values given adjacency′ left → (stored-of given ≤ length left) × (2 * stored-of given ≤ length weights)
-    stores (refuses-records _) = (omega arith, omega arith)
-    stores (lacks-room _ _) = (omega arith, omega arith)
-    stores (fills {n = n} {drawn = drawn} {edges = edges} S e) =
-        let F = reads-fit S refl tt in
-        let counted : length drawn ≡ needed n = rw (F .drawn) (draws-length (F .seeded-by) (pair-count n)) ∙ sym (needed-all n (F .small)) in
-        let room : pair-count n ≤ length values = room-weights n adjacency values e in (
-          omega (arith, length-append drawn (drop (length drawn) values)),
-          omega (arith, needed-all n (F .small), R .within, words-length weights .0),
-        )
+  -- what is stored of what was read has room
+  pub stores : {adjacency adjacency′ left : List ℕ} {given : Read} → Fills sheet adjacency values given adjacency′ left → (stored-of given ≤ length left) × (2 * stored-of given ≤ length weights)
+  stores (refuses-records _) = (omega arith, omega arith)
+  stores (lacks-room _ _) = (omega arith, omega arith)
+  stores {adjacency = adjacency} (fills {n = n} {drawn = drawn} S e) =
+      let F = reads-fit S refl tt in
+      let counted : length drawn ≡ needed n = rw (F .drawn) (draws-length (F .seeded-by) (pair-count n)) ∙ sym (needed-all n (F .small)) in
+      let room : pair-count n ≤ length values = room-weights n adjacency values e in (
+        omega (arith, length-append drawn (drop (length drawn) values)),
+        omega (arith, needed-all n (F .small), R .within, words-length weights .0),
+      )
 
-    pub answers : Fills sheet adjacency values given adjacency′ left → Answers given input-limit
-    answers F = go given (fills-answer F)
-      where
-        go : (o : Read) → Answers o (length sheet) → Answers o input-limit
-        go (graph-read n m) h = (h .0, omega (arith, h .1, R .few))
-        go (not-read why) h = omega (arith, h, R .few)
+  pub answers : {adjacency adjacency′ left : List ℕ} {given : Read} → Fills sheet adjacency values given adjacency′ left → Answers given input-limit
+  answers {given = given} F = go given (fills-answer F)
+    where
+      go : (o : Read) → Answers o (length sheet) → Answers o input-limit
+      go (graph-read n m) h = (h .0, omega (arith, h .1, R .few))
+      go (not-read why) h = omega (arith, h, R .few)
 
-    pub host-reads : {weights′ : List ℕ} {answer : ℕ} → Bytes weights → Fills sheet adjacency values given adjacency′ left → answer ≡ read-number given
-        → weights′ ≡ onto (bytes-of (take (stored-of given) left)) weights → ReadsFront sheet adjacency weights answer adjacency′ weights′
-    unfolding bytes-of
-    host-reads B (refuses-records {why = why} S) a w whole e = record {
-      given = not-read why;
-      left = words weights;
-      outcome = refuses-records (rw e S);
-      numbered = a;
-      stored = w;
-    }
-    host-reads B (lacks-room {n = n} {why = why} S r) a w whole e = record {
-      given = not-read why;
-      left = words weights;
-      outcome = lacks-room (rw e S) (sym (same n adjacency (reads-fit S refl tt .small)) ∙ r);
-      numbered = a;
-      stored = w;
-    }
-    host-reads B (fills {n = n} {drawn = drawn} {edges = edges} S r) a w whole e =
-        let F = reads-fit S refl tt in
-        let counted : length drawn ≡ needed n = rw (F .drawn) (draws-length (F .seeded-by) (pair-count n)) ∙ sym (needed-all n (F .small)) in
-        let room : pair-count n ≤ length values = room-weights n adjacency values r in
-        record {
-          given = graph-read n (length edges);
-          left = onto drawn (words weights);
-          outcome = fills (rw e S) (sym (same n adjacency (F .small)) ∙ r);
-          numbered = a;
-          stored = w ∙ stored-front drawn values weights (needed n) B counted (omega (arith, needed-all n (F .small), R .within));
-        }
+  -- through the host
+  pub host-reads : {adjacency adjacency′ left weights′ : List ℕ} {given : Read} {answer : ℕ} → Bytes weights → Fills sheet adjacency values given adjacency′ left → answer ≡ read-number given
+      → weights′ ≡ onto (bytes-of (take (stored-of given) left)) weights → ReadsFront sheet adjacency weights answer adjacency′ weights′
+  unfolding bytes-of
+  host-reads B (refuses-records {why = why} S) a w whole e = record {
+    given = not-read why;
+    left = words weights;
+    outcome = refuses-records (rw e S);
+    numbered = a;
+    stored = w;
+  }
+  host-reads {adjacency = adjacency} B (lacks-room {n = n} {why = why} S r) a w whole e = record {
+    given = not-read why;
+    left = words weights;
+    outcome = lacks-room (rw e S) (sym (same n adjacency (reads-fit S refl tt .small)) ∙ r);
+    numbered = a;
+    stored = w;
+  }
+  host-reads {adjacency = adjacency} B (fills {n = n} {drawn = drawn} {edges = edges} S r) a w whole e =
+      let F = reads-fit S refl tt in
+      let counted : length drawn ≡ needed n = rw (F .drawn) (draws-length (F .seeded-by) (pair-count n)) ∙ sym (needed-all n (F .small)) in
+      let room : pair-count n ≤ length values = room-weights n adjacency values r in
+      record {
+        given = graph-read n (length edges);
+        left = onto drawn (words weights);
+        outcome = fills (rw e S) (sym (same n adjacency (F .small)) ∙ r);
+        numbered = a;
+        stored = w ∙ stored-front drawn values weights (needed n) B counted (omega (arith, needed-all n (F .small), R .within));
+      }
