@@ -1,7 +1,7 @@
 // The entries that a host calls with numbers and byte slices. Words cross as two bytes, low first (docs/HOST.md).
 ghost use Rattle.residue.specs.Modulus.{modulus, modulus-prime};
 ghost use Rattle.matching.specs.Pairs.{everything};
-ghost use Rattle.matching.specs.Host.{HostOpens, HostOpenedExactly, HostHandles, HostPickedExactly, HostShowsRow};
+ghost use Rattle.matching.specs.Host.{HostOpens, HostOpenedExactly, HostHandles, HostPickedExactly, HostShowsRow, HostReads, HostDraws};
 ghost use Rattle.matching.specs.Model.{pick, automatic, undo};
 ghost use Rattle.matching.specs.Replay.{HostReplays, HostDemandThree};
 ghost use Rattle.soundness.specs.Sound.{state};
@@ -155,4 +155,20 @@ pub extern "C" fn saszvigom_replay(
         calls,
         answers,
     )
+}
+
+// Reads a sheet into an adjacency table and weights: document 01, "Sheet records", through the host.
+#[no_mangle]
+pub extern "C" fn saszvigom_read(sheet: &[u8], adjacency: &mut [u8], weights: &mut [u8]) -> u64
+    ensures { λ r. ⌜ HostReads (now (sheet .entry)) (now (adjacency .entry)) (now (weights .entry)) r (now (adjacency .exit)) (now (weights .exit)) ⌝ }
+{
+    sheet_bytes::read(sheet, adjacency, weights)
+}
+
+// Draws the weights of n vertices from a seed: document 01, "Draw roll", through the host.
+#[no_mangle]
+pub extern "C" fn saszvigom_draws(n: u64, seed: u32, weights: &mut [u8]) -> u64
+    ensures { λ r. ⌜ HostDraws n seed (now (weights .entry)) r (now (weights .exit)) ⌝ }
+{
+    sheet_bytes::draw(n as usize, seed, weights)
 }

@@ -1,10 +1,10 @@
 -- A buffer whose first words are new. Assumes nothing.
-use mathlib.Core.Path.{_≡_, refl}
+use mathlib.Core.Path.{_≡_}
 use mathlib.Core.List.{List, [], append-nil}
-use Prim.Native.Nat.{ℕ, zero, suc, _≤_}
+use Prim.Native.Nat.{ℕ, _≤_}
 use native.Mathlib.Omega.{arith}
 use lib.ListN.{length, take, drop, length-append}
-use lib.Seq.{take-at}
+use lib.Seq.{take-at, drop-nil}
 use Rattle.matching.specs.Session.{onto}
 
 module _ (new old : List ℕ) (k : ℕ) (e : length new ≡ k) where
@@ -15,9 +15,5 @@ module _ (new old : List ℕ) (k : ℕ) (e : length new ≡ k) where
   onto-front = take-at new (drop (length new) old) k e
 
 -- over nothing there is no excess
-nothing-left : (k : ℕ) → drop {A = ℕ} k [] ≡ []
-nothing-left zero = refl
-nothing-left (suc k) = refl
-
 pub onto-nothing : (new : List ℕ) → onto new [] ≡ new
-onto-nothing new = rw (nothing-left (length new), append-nil new)
+onto-nothing new = rw (drop-nil (length new), append-nil new)

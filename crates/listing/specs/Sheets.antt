@@ -5,7 +5,6 @@ use Prim.Native.Nat.{ℕ, _*_, _≤_}
 use native.Mathlib.Omega.{arith}
 use lib.ListN.{length, take, drop, length-append, length-drop}
 use Rattle.lists.specs.Table.{square-small}
-use Rattle.draws.specs.Laws.{draws-length}
 use Rattle.matching.specs.Decision.{Refusal, accepted, refused}
 use Rattle.matching.specs.Graph.{Graph, over, largest, pair-count}
 use Rattle.matching.specs.Pairs.{Pair}
@@ -18,7 +17,7 @@ use Rattle.laws.specs.Cells.{cells-length}
 use Rattle.laws.specs.Reading.{Fit, reads-fit, sheet-in-order}
 use Rattle.laws.specs.Bounds.{reads-edges}
 use Rattle.checks.specs.Weights.{needed, needed-all, needed-small}
-use Rattle.sheet.specs.Filled.{room-enough}
+use Rattle.sheet.specs.Filled.{room-enough, drawn-needed}
 use Rattle.text.specs.Puts.{Puts, puts-first}
 use Rattle.listing.specs.declared.Listed.{Listed}
 use Rattle.listing.specs.declared.Listed.the-variants.{Text, NoRoom}
@@ -62,8 +61,7 @@ pub sheet-read : {bytes adjacency weights adjacency′ weights′ : List ℕ} {n
 sheet-read {bytes} {adjacency} {weights} {n = n} {m = m} (fills {drawn = drawn} {edges = edges} R e) =
     let F = reads-fit R refl tt in
     let a : take (n * n) (onto (cells n edges) adjacency) ≡ cells n edges = onto-front (cells n edges) adjacency (n * n) (cells-length n edges) in
-    let counted : length drawn ≡ needed n = rw (F .drawn) (draws-length (F .seeded-by) (pair-count n)) ∙ sym (needed-all n (F .small)) in
-    let w : take (needed n) (onto drawn weights) ≡ drawn = onto-front drawn weights (needed n) counted in
+    let w : take (needed n) (onto drawn weights) ≡ drawn = onto-front drawn weights (needed n) (drawn-needed F) in
     let k = rw (onto-nothing (cells n edges), onto-nothing drawn) at (sheet-in-order F [] []) in
     record {
       small = F .small;

@@ -1,5 +1,5 @@
 -- What reading comes to after the first two records. Assumes nothing.
-use mathlib.Core.Path.{_≡_, refl, ap, _∙_}
+use mathlib.Core.Path.{_≡_, refl, sym, ap, _∙_}
 use mathlib.Core.List.{List, _++_}
 use Prim.Native.Nat.{ℕ, _*_, _≤_, _<_}
 use lib.ListN.{length, drop}
@@ -10,7 +10,9 @@ use Rattle.matching.specs.Graph.{pair-count}
 use Rattle.matching.specs.Pairs.{Pair}
 use Rattle.matching.specs.Session.{onto}
 use Rattle.matching.specs.Records.{start, sheet, ReadsFrom, cells, Read, graph-read, not-read, room, FillsFrom, lacks-room, fills}
+use Rattle.laws.specs.Reading.{Fit}
 use Rattle.laws.specs.Cells.{cells-length}
+use Rattle.checks.specs.Weights.{needed, needed-all}
 use Rattle.checks.specs.Lengths.{is-short, is-long, short-ruling}
 use Rattle.sheet.specs.Headed.{Behind}
 
@@ -51,3 +53,7 @@ module _ (n seed : ℕ) {count : ℕ} {table adjacency weights : List ℕ} where
       let a : onto (cells n edges) adjacency ≡ cells′ ++ drop size adjacency = rw (ec, t, es, cells-length n edges) in
       let w : onto (draws seed (pair-count n)) weights ≡ drawn ++ drop pairs weights = rw (ed, ep, draws-length seed (pair-count n)) in
       rw (k, ← a, ← w) (fills R (room-enough n adjacency weights g h))
+
+-- a sheet that is read has as many weights as its graph needs
+pub drawn-needed : {n : ℕ} {drawn : List ℕ} {edges : List Pair} → Fit n drawn edges → length drawn ≡ needed n
+drawn-needed {n} F = rw (F .drawn) (draws-length (F .seeded-by) (pair-count n)) ∙ sym (needed-all n (F .small))

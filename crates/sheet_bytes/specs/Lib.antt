@@ -1,2 +1,3 @@
--- Reading a sheet over words, and through the host.
+-- Reading a sheet over words, and drawing weights, through the host.
 pub mod Reads
+pub mod Drawn

@@ -5,7 +5,6 @@ use Prim.Native.Nat.{ℕ, _*_, _≤_, _<_}
 use native.Mathlib.Omega.{arith}
 use native.Mathlib.Decide.{decLt}
 use lib.ListN.{length, take, drop, length-append}
-use Rattle.draws.specs.Laws.{draws-length}
 use Rattle.skew.specs.Choose.{choose}
 use Rattle.matching.specs.Decision.{Refusal, absent, at, unless, accepted, refused}
 use Rattle.matching.specs.Graph.{largest, pair-count}
@@ -16,6 +15,7 @@ use Rattle.matching.specs.Host.{words, bytes-of, read-number, weights-stored, H
 use Rattle.laws.specs.Reading.{reads-fit}
 use Rattle.laws.specs.Bounds.{Answers, fills-answer}
 use Rattle.checks.specs.Weights.{needed, needed-all, needed-small}
+use Rattle.sheet.specs.Filled.{drawn-needed}
 use Rattle.packing.specs.Words.{Bytes, words-length, stored-front}
 
 -- how many weights are stored: none where the sheet is refused
@@ -69,9 +69,8 @@ module _ {sheet values weights : List ℕ} (R : Room sheet values weights) where
   stores (lacks-room _ _) = (omega arith, omega arith)
   stores {adjacency = adjacency} (fills {n = n} {drawn = drawn} S e) =
       let F = reads-fit S refl tt in
-      let counted : length drawn ≡ needed n = rw (F .drawn) (draws-length (F .seeded-by) (pair-count n)) ∙ sym (needed-all n (F .small)) in
       let room : pair-count n ≤ length values = room-weights n adjacency values e in (
-        omega (arith, length-append drawn (drop (length drawn) values)),
+        omega (arith, drawn-needed F, length-append drawn (drop (length drawn) values)),
         omega (arith, needed-all n (F .small), R .within, words-length weights .0),
       )
 
@@ -89,25 +88,24 @@ module _ {sheet values weights : List ℕ} (R : Room sheet values weights) where
   host-reads B (refuses-records {why = why} S) a w whole e = record {
     given = not-read why;
     left = words weights;
-    outcome = refuses-records (rw e S);
+    outcome = refuses-records {why = why} (rw e S);
     numbered = a;
     stored = w;
   }
-  host-reads {adjacency = adjacency} B (lacks-room {n = n} {why = why} S r) a w whole e = record {
+  host-reads {adjacency = adjacency} B (lacks-room {n = n} {drawn = drawn} {edges = edges} {why = why} S r) a w whole e = record {
     given = not-read why;
     left = words weights;
-    outcome = lacks-room (rw e S) (sym (same n adjacency (reads-fit S refl tt .small)) ∙ r);
+    outcome = lacks-room {n = n} {drawn = drawn} {edges = edges} {why = why} (rw e S) (sym (same n adjacency (reads-fit S refl tt .small)) ∙ r);
     numbered = a;
     stored = w;
   }
   host-reads {adjacency = adjacency} B (fills {n = n} {drawn = drawn} {edges = edges} S r) a w whole e =
       let F = reads-fit S refl tt in
-      let counted : length drawn ≡ needed n = rw (F .drawn) (draws-length (F .seeded-by) (pair-count n)) ∙ sym (needed-all n (F .small)) in
       let room : pair-count n ≤ length values = room-weights n adjacency values r in
       record {
         given = graph-read n (length edges);
         left = onto drawn (words weights);
-        outcome = fills (rw e S) (sym (same n adjacency (F .small)) ∙ r);
+        outcome = fills {n = n} {drawn = drawn} {edges = edges} (rw e S) (sym (same n adjacency (F .small)) ∙ r);
         numbered = a;
-        stored = w ∙ stored-front drawn values weights (needed n) B counted (omega (arith, needed-all n (F .small), R .within));
+        stored = w ∙ stored-front drawn values weights (needed n) B (drawn-needed F) (omega (arith, needed-all n (F .small), R .within));
       }

@@ -1,10 +1,13 @@
 // Sheets and draws with numbers and byte slices: what the host's entries call. Words cross as two bytes, low first (docs/HOST.md).
+use checks::Refusal;
 use sheet::Read;
 ghost use mathlib.Core.Path.{_≡_};
-ghost use Prim.Native.Nat.{_≤_};
+ghost use Prim.Native.Nat.{_*_, _≤_};
 ghost use lib.ListN.{length};
+ghost use Rattle.draws.specs.Draws.{draws};
+ghost use Rattle.matching.specs.Session.{onto};
 ghost use Rattle.matching.specs.Listing.{input-limit};
-ghost use Rattle.matching.specs.Host.{read-number, HostReads};
+ghost use Rattle.matching.specs.Host.{bytes-of, read-number, HostReads, HostDraws};
 ghost use Rattle.laws.specs.Bounds.{Answers};
 ghost use Rattle.sheet.specs.Answers.{read-of};
 ghost use Rattle.sheet_bytes.specs.Reads.{stored-of, Room, ReadsFront};
@@ -65,4 +68,30 @@ pub fn read(sheet: &[u8], adjacency: &mut [u8], weights: &mut [u8]) -> u64
         return read_words(sheet, adjacency, weights);
     }
     read_words(&sheet[..16384], adjacency, weights)
+}
+
+// Writes the first draws of a seed, so many of them, as bytes.
+fn draw_words(count: usize, seed: u32, weights: &mut [u8])
+    requires { ⌜ (count ≤ 4560) × (2 * count ≤ length (now weights)) ⌝ }
+    ensures { λ _. ⌜ now (weights .exit) ≡ onto (bytes-of (draws seed count)) (now (weights .entry)) ⌝ }
+{
+    // 96 * 95 / 2 weights.
+    let mut values = [0u16; 4560];
+    draws::fill(&mut values[..count], seed);
+    packing::store(&values, count, weights);
+}
+
+// The draws of a seed, as the weights of n vertices.
+pub fn draw(n: usize, seed: u32, weights: &mut [u8]) -> u64
+    ensures { λ r. ⌜ HostDraws n seed (now (weights .entry)) r (now (weights .exit)) ⌝ }
+{
+    if checks::LARGEST < n {
+        return crossing::refusal_number(Refusal { cause: 1, place: 0 });
+    }
+    let count = checks::weights_needed(n);
+    if weights.len() / 2 < count {
+        return crossing::refusal_number(Refusal { cause: 2, place: 2 });
+    }
+    draw_words(count, seed, weights);
+    1792 + 65536 * (count as u64)
 }

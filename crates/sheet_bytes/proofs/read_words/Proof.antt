@@ -1,0 +1,69 @@
+-- `sheet_bytes::read_words` meets its contract: it lends as many words as the weights have, or as the largest graph needs. Assumes nothing.
+use mathlib.Core.Path.{sym}
+use Prim.Native.Nat.{ℕ, _/_}
+use native.Mathlib.Omega.{arith}
+use borrow.Author.Needs.{needs}
+use lib.ListN.{length, length-replicate}
+use Rattle.lists.specs.Part.{length-part}
+use Rattle.packing.specs.Words.{words-half}
+use Rattle.sheet_bytes.proofs.read_words.Statement.{statement}
+use Rattle.sheet_bytes.proofs.read_words.Tie as tie
+
+array-borrow-prefix-values : tie.Need-array-borrow-prefix-values
+array-borrow-prefix-values c = search needs
+
+slice-aggregate-read-over : tie.Need-slice-aggregate-read-over
+slice-aggregate-read-over c = sym (length-part _ 4560 0 (omega (arith, c .before .before .if1 .taken)))
+
+read-over-requires : tie.Need-read-over-requires
+read-over-requires c κs =
+    let then = c .before .before .before in
+    let start = then .before .before .before .before in
+    let size = length-part (length (start .args .weights .now) / 2) 4560 0 (omega (arith, then .if1 .taken)) in
+    let half = words-half (start .args .weights .now) in
+    record { few = start .pre; within = omega (arith, size, half); enough = λ k l h. omega (arith, size, half) }
+
+same-length : tie.Need-same-length
+same-length c = search needs
+
+same-length-2 : tie.Need-same-length-2
+same-length-2 c = search needs
+
+returns : tie.Need-returns
+returns c = search needs
+
+slice-aggregate-read-over-2 : tie.Need-slice-aggregate-read-over-2
+slice-aggregate-read-over-2 c = search needs
+
+read-over-requires-2 : tie.Need-read-over-requires-2
+read-over-requires-2 c κs =
+    let else = c .before .before .before in
+    let start = else .before .before .before .before in
+    let size = length-replicate {A = ℕ} 4560 0 in
+    let half = words-half (start .args .weights .now) in
+    record { few = start .pre; within = omega (arith, size, half, else .if1 .left); enough = λ k l h. omega (arith, size) }
+
+same-length-3 : tie.Need-same-length-3
+same-length-3 c = search needs
+
+same-length-4 : tie.Need-same-length-4
+same-length-4 c = search needs
+
+returns-2 : tie.Need-returns-2
+returns-2 c = search needs
+
+pub read-words-spec : {M : Type 1} → statement M
+read-words-spec =
+    tie.close
+    (tie.spec
+    array-borrow-prefix-values
+    slice-aggregate-read-over
+    read-over-requires
+    same-length
+    same-length-2
+    returns
+    slice-aggregate-read-over-2
+    read-over-requires-2
+    same-length-3
+    same-length-4
+    returns-2)
