@@ -8,7 +8,7 @@ use std::io::Write;
 use std::process::{Command, Output, Stdio};
 
 const TEXT: &str = "\
-# Four sleeves in a row.
+# A path of four vertices.
 size 4
 seed 0
 

@@ -12,7 +12,6 @@ pub mod graphs;
 pub mod guards;
 pub mod lists;
 pub mod matrices;
-pub mod random;
 pub mod requests;
 pub mod runs;
 pub mod seeds;
@@ -21,3 +20,5 @@ pub mod session_cases;
 pub mod states;
 pub mod stream;
 pub mod tally;
+
+pub use sheet_tests::random;
