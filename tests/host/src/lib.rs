@@ -8,6 +8,8 @@ pub mod cases;
 pub mod damage;
 pub mod entry;
 pub mod faults;
+pub mod filling;
+pub mod filling_cases;
 pub mod graphs;
 pub mod guards;
 pub mod lists;

@@ -175,9 +175,9 @@ pub fn every_edge() -> impl Iterator<Item = Case> {
         })
 }
 
-pub fn damaged_sheets() -> impl Iterator<Item = Case> {
+pub fn damaged_sheets(count: usize) -> impl Iterator<Item = Case> {
     let mut random = Random::new(8);
-    (0..1500).map(move |round| {
+    (0..count).map(move |round| {
         let n = random.between(0, 9);
         let sheet = any_sheet(&mut random, n);
         let kind = round % KINDS;
@@ -187,9 +187,9 @@ pub fn damaged_sheets() -> impl Iterator<Item = Case> {
 }
 
 /// Any bytes, or small ones, or small ones behind a good beginning.
-pub fn random_bytes() -> impl Iterator<Item = Case> {
+pub fn random_bytes(count: usize) -> impl Iterator<Item = Case> {
     let mut random = Random::new(9);
-    (0..300).map(move |round| {
+    (0..count).map(move |round| {
         let length = random.between(0, 40);
         let bound = random.choose(&[5, 5, 256]);
         let rest: Vec<u8> = (0..length).map(|_| random.below(bound) as u8).collect();

@@ -81,8 +81,8 @@ fn every_cause() {
     assert_eq!(tally.total(), 7 * 256 * 2);
     tally.add(check(families::every_prefix()));
     tally.add(check(families::every_edge()));
-    tally.add(check(families::damaged_sheets()));
-    tally.add(check(families::random_bytes()));
+    tally.add(check(families::damaged_sheets(1500)));
+    tally.add(check(families::random_bytes(300)));
     tally.add(check(families::every_size()));
     assert!(tally.total() > 5500, "{}", tally.total());
     assert!(tally.below(3).is_empty(), "{:?}", tally.below(3));
