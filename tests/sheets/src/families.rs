@@ -131,6 +131,10 @@ pub fn every_prefix() -> impl Iterator<Item = Case> {
         Sheet::complete(0, 7),
         Sheet::complete(1, 7),
         Sheet::complete(2, 0x0403_0201),
+        Sheet {
+            size: 97,
+            ..Sheet::complete(0, 7)
+        },
         any_sheet(&mut random, 7),
         any_sheet(&mut random, 12),
     ];
