@@ -84,8 +84,10 @@ fn due(place: usize) -> &'static str {
         0 => "for the size",
         2 => "for the seed",
         FIRST_EDGE => "for the first edge",
-        _ if (place - FIRST_EDGE) % EDGE_LENGTH == 0 => "for a later edge",
-        _ => "after the end",
+        _ => match (place - FIRST_EDGE) % EDGE_LENGTH {
+            0 => "for a later edge",
+            _ => "after the end",
+        },
     }
 }
 
