@@ -18,8 +18,8 @@
  * A weight is the value put for a variable of that matrix: it is no preference,
  * and finds no matching of largest or smallest weight. Weights should be drawn,
  * independent and uniform, as saszvigom_draws does from a seed, and not made up:
- * those that follow a pattern cancel often. With all weights 1, a quarter of the
- * random graphs of 8 to 10 vertices that have a perfect matching are found
+ * those that follow a pattern cancel often. With all weights 1, about a quarter
+ * of the random graphs of 8 to 10 vertices that have a perfect matching are found
  * singular, and an eighth of those of 32 vertices with four neighbours on
  * average; with independent uniform weights at most n in 131040 graphs are.
  *

@@ -1,8 +1,11 @@
 //! Sheets and draws through the C entries beside the plain reading, on all
 //! cases: the number and every byte of every buffer.
 
+use host_tests::call::Call;
+use host_tests::entry::{self, Written};
 use host_tests::filling::{FillingCase, Source};
 use host_tests::filling_cases as cases;
+use host_tests::graphs::{self, Graph};
 use host_tests::random::Random;
 use std::collections::BTreeMap;
 
@@ -103,9 +106,56 @@ fn a_seed_gives_a_sheet_and_a_call_the_same_weights() {
         };
         let seed = u32::from_le_bytes([sheet[3], sheet[4], sheet[5], sheet[6]]);
         let mut weights = case.call.weights.clone();
-        host_tests::entry::draw(sheet[1].into(), seed, &mut weights);
+        entry::draw(sheet[1].into(), seed, &mut weights);
         assert_eq!(weights, case.after.weights, "{}", case.name);
         found += 1;
     }
     assert!(found > 1500, "{found}");
+}
+
+/// Whether the vertices of a set of bits can be matched with none left over.
+fn has_perfect_matching(graph: &Graph, left: usize) -> bool {
+    let first = left.trailing_zeros() as usize;
+    let rest = left & left.wrapping_sub(1);
+    let partner = |&j: &usize| rest >> j & 1 == 1 && graph.adjacent(first, j);
+    left == 0
+        || (0..graph.n)
+            .filter(partner)
+            .any(|j| has_perfect_matching(graph, rest & !(1 << j)))
+}
+
+/// Whether a graph opens with these weights.
+fn opens(random: &mut Random, graph: &Graph, weights: &[u8]) -> bool {
+    let mut call = Call::new(random, graph, 0);
+    let written = Written {
+        inverse: &mut call.inverse,
+        sequence: &mut call.sequence,
+        witness: &mut call.witness,
+        work: &mut call.work,
+    };
+    entry::open(call.n, &call.adjacency, weights, written) == 0x100
+}
+
+/// Of the graphs that have a perfect matching all open with weights that are
+/// drawn, but for a few, and far fewer with weights that are all 1.
+#[test]
+fn weights_are_best_drawn() {
+    let mut random = Random::new(27);
+    let (mut matched, mut drawn, mut ones) = (0, 0, 0);
+    for round in 0..2000 {
+        let n = random.choose(&[8, 10]);
+        let graph = graphs::with_density(&mut random, n, 50);
+        if !has_perfect_matching(&graph, (1 << n) - 1) {
+            continue;
+        }
+        let mut weights = vec![0; n * (n - 1)];
+        entry::draw(n as u64, round, &mut weights);
+        matched += 1;
+        drawn += usize::from(opens(&mut random, &graph, &weights));
+        ones += usize::from(opens(&mut random, &graph, &[1, 0].repeat(n * (n - 1) / 2)));
+    }
+    println!("{matched} with a perfect matching: {drawn} opened, with weights 1 {ones}");
+    assert!(matched > 1500);
+    assert!(drawn + 3 > matched, "{drawn} of {matched}");
+    assert!(100 * ones < 80 * matched, "{ones} of {matched}");
 }
