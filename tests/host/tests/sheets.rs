@@ -73,7 +73,7 @@ fn every_length() {
         } else if weights.len() / 2 < n * n.saturating_sub(1) / 2 {
             0x0002_0002
         } else {
-            0x600 | (n * n.saturating_sub(1) / 2 << 16) as u64 | (n as u64) << 32
+            0x600 | ((n * n.saturating_sub(1) / 2) as u64) << 16 | (n as u64) << 32
         };
         assert_eq!(case.number, expected, "{}", case.name);
     });
