@@ -9,21 +9,28 @@
  *
  *     A(i,j) = d  and  A(j,i) = 65521 - d,
  *
- * and every other entry is 0. A weight is the value put for a variable of that
- * matrix, best drawn at random: it is no preference, and finds no matching of
- * largest or smallest weight. If A has an inverse, as it always has for n = 0,
+ * and every other entry is 0. If A has an inverse, as it always has for n = 0,
  * the vertices can be matched in pairs of adjacent vertices, with none left
- * over. If it has none, as always for odd n, there is a vector w other than 0
- * with A w = 0, the witness. A witness alone does not show that no such matching
- * exists: the weights may cancel.
+ * over: a perfect matching. If it has none, as always for odd n, there is a
+ * vector w other than 0 with A w = 0, the witness. A witness alone does not show
+ * that there is no perfect matching: the weights may cancel.
  *
- * saszvigom_open finds the inverse or a witness. With an inverse it begins a
- * session, in which vertices are matched: saszvigom_pick matches two vertices,
- * saszvigom_automatic the lowest one that is left, saszvigom_undo undoes the
- * last of these, saszvigom_row says who may be matched with a vertex, and
- * saszvigom_replay makes a whole list of calls. A match is accepted only if the
- * vertices that it leaves have an inverse too, so a session never runs into a
- * dead end: automatic picks match every vertex that is left.
+ * A weight is the value put for a variable of that matrix: it is no preference,
+ * and finds no matching of largest or smallest weight. Weights should be drawn,
+ * independent and uniform, as saszvigom_draws does from a seed, and not made up:
+ * those that follow a pattern cancel often. With all weights 1, about a quarter
+ * of the random graphs of 8 to 10 vertices that have a perfect matching are found
+ * singular, and an eighth of those of 32 vertices with four neighbours on
+ * average; with independent uniform weights at most n in 131040 graphs are.
+ *
+ * saszvigom_read reads a graph from the bytes of a sheet, and saszvigom_draws
+ * draws weights. saszvigom_open finds the inverse or a witness. With an inverse
+ * it begins a session, in which vertices are matched: saszvigom_pick matches two
+ * vertices, saszvigom_automatic the lowest one that is left, saszvigom_undo
+ * undoes the last of these, saszvigom_row says who may be matched with a vertex,
+ * and saszvigom_replay makes a whole list of calls. A match is accepted only if
+ * the vertices that it leaves have an inverse too, so a session never runs into
+ * a dead end: automatic picks match every vertex that is left.
  *
  * For C99 or C++11 and later. Link with libhost.a, which is for 64-bit x86 and
  * the System V ABI. It keeps no state, allocates nothing, and calls only memcpy,
@@ -60,15 +67,23 @@ extern "C" {
 #define SASZVIGOM_WORK_BYTES(n) (2u * (size_t)(n) * (size_t)(n))
 #define SASZVIGOM_ROW_BYTES(n) ((size_t)(n))
 
+/* The most bytes of a sheet that saszvigom_read looks at, and those of the
+   largest sheet that is in order: 96 vertices, all adjacent. */
+#define SASZVIGOM_SHEET_BYTES_MAX 16384u
+#define SASZVIGOM_GOOD_SHEET_BYTES_MAX 13688u
+
 /* How many numbers a call has in the list of saszvigom_replay. */
 #define SASZVIGOM_NUMBERS_A_CALL 3u
 
 /* Why a call was refused: bits 0 to 7 of the number returned. The place, in bits
-   16 to 31, says where. */
+   16 to 31, says where. 12 and 13 have two names each: one for the list of
+   saszvigom_replay and one for the sheet of saszvigom_read, the only calls that
+   return them. */
 enum saszvigom_cause {
     /* The call was carried out. */
     SASZVIGOM_NO_CAUSE = 0,
-    /* n is above 96. The place is 0. */
+    /* n is above 96. The place is 0, which is also the offset of a sheet's size
+       record. */
     SASZVIGOM_SIZE_TOO_LARGE = 1,
     /* A buffer is too short. The place is the number of the first such buffer,
        one of enum saszvigom_buffer. */
@@ -101,13 +116,25 @@ enum saszvigom_cause {
     /* An automatic pick with no vertex unmatched, or an undo without a pair. */
     SASZVIGOM_NOTHING_LEFT = 11,
     /* A whole call of a list has a kind other than those of enum saszvigom_call.
-       The
-       place is the index of the first such call, 0 for the first call of the
+       The place is the index of the first such call, 0 for the first call of the
        list; 65535 if it is larger. */
     SASZVIGOM_CALL_UNKNOWN = 12,
+    /* A byte of a sheet is no kind of record that may stand there, or it stands
+       after the end record. The place is its offset, 0 for the first byte of the
+       sheet. */
+    SASZVIGOM_RECORD_NOT_DUE = 12,
     /* A list ends within a call: its length is no multiple of 3. The place is
        the number of its whole calls; 65535 if it is larger. */
-    SASZVIGOM_LIST_CUT = 13
+    SASZVIGOM_LIST_CUT = 13,
+    /* A sheet ends within a record, or before its end record. The place is its
+       length. */
+    SASZVIGOM_SHEET_CUT = 13,
+    /* A record of an edge has a vertex of n or more, or the same vertex twice.
+       The place is the offset of the record. */
+    SASZVIGOM_RECORD_VERTEX_INVALID = 14,
+    /* A record names the same two vertices as an earlier one, in either order.
+       The place is the offset of the later record. */
+    SASZVIGOM_EDGE_REPEATED = 15
 };
 
 /* The buffers, as the place of SASZVIGOM_BUFFER_TOO_SHORT names them. */
@@ -136,7 +163,23 @@ enum saszvigom_kind {
     /* A row, which was written. */
     SASZVIGOM_ROW = 4,
     /* The calls of a list were made. */
-    SASZVIGOM_REPLAYED = 5
+    SASZVIGOM_REPLAYED = 5,
+    /* A sheet, which was read. */
+    SASZVIGOM_SHEET = 6,
+    /* Weights, which were drawn. */
+    SASZVIGOM_DRAWS = 7
+};
+
+/* The kinds of records in a sheet: the first byte of each. */
+enum saszvigom_record {
+    /* The number of vertices: 1 byte. */
+    SASZVIGOM_RECORD_SIZE = 1,
+    /* An edge: the bytes of two vertices, in either order. */
+    SASZVIGOM_RECORD_EDGE = 2,
+    /* The seed of the weights: 4 bytes, the low one first. */
+    SASZVIGOM_RECORD_SEED = 3,
+    /* The end: no bytes. */
+    SASZVIGOM_RECORD_END = 4
 };
 
 /* The kinds of calls in the list of saszvigom_replay. */
@@ -196,6 +239,72 @@ uint64_t saszvigom_open(uint64_t n,
                         uint8_t *sequence, size_t sequence_len,
                         uint8_t *witness, size_t witness_len,
                         uint8_t *work, size_t work_len);
+
+/*
+ * Reads a graph from the bytes of a sheet. The weights are the draws of the
+ * sheet's seed.
+ *
+ *   sheet      read; records one after the other, each a byte of enum
+ *              saszvigom_record and its body: the size, the seed, any number of
+ *              edges, the end, and nothing after it
+ *   adjacency  written; n * n bytes, as for saszvigom_open
+ *   weights    written; n * (n - 1) / 2 words, as for saszvigom_open
+ *
+ * The size n is that of the sheet. Buffers for any sheet have
+ * SASZVIGOM_ADJACENCY_BYTES(96) and SASZVIGOM_WEIGHTS_BYTES(96) bytes. Of the
+ * sheet the first SASZVIGOM_SHEET_BYTES_MAX bytes are looked at, which makes no
+ * difference: a sheet of more than SASZVIGOM_GOOD_SHEET_BYTES_MAX has a fault
+ * before that. What is said of lengths, alignment, overlap, null and the bytes
+ * past those needed is as for saszvigom_open, for all three buffers.
+ *
+ * The number returned, and what is written:
+ *
+ *   The sheet is in order and the buffers are long enough: kind SASZVIGOM_SHEET,
+ *       with the number of edges and n. Every byte of the table is 0 or 1, and
+ *       every weight is from 1 to 65520: opening refuses none of it.
+ *   Else the call is refused, and nothing is written. The records are taken in
+ *       order, and the first one that is at fault counts, with the first of
+ *       these that applies: SASZVIGOM_RECORD_NOT_DUE, SASZVIGOM_SHEET_CUT,
+ *       SASZVIGOM_SIZE_TOO_LARGE or SASZVIGOM_RECORD_VERTEX_INVALID,
+ *       SASZVIGOM_EDGE_REPEATED. Only for a sheet that is in order:
+ *       SASZVIGOM_BUFFER_TOO_SHORT, at SASZVIGOM_BUFFER_ADJACENCY or else at
+ *       SASZVIGOM_BUFFER_WEIGHTS.
+ *
+ * The number, by its bits; all others are 0:
+ *
+ *                 0 to 7   8 to 15   16 to 31   32 to 39
+ *     sheet       0        6         edges      n
+ *     refused     cause    0         place      0
+ */
+uint64_t saszvigom_read(const uint8_t *sheet, size_t sheet_len,
+                        uint8_t *adjacency, size_t adjacency_len,
+                        uint8_t *weights, size_t weights_len);
+
+/*
+ * Draws the weights of a graph of n vertices from a seed: those that
+ * saszvigom_read gives a sheet with that size and seed.
+ *
+ *   n          the number of vertices, 0 to 96
+ *   seed       any number; another seed gives other weights
+ *   weights    written; n * (n - 1) / 2 words, each from 1 to 65520
+ *
+ * The draws are those of a generator of 32 bits: enough that weights cancel only
+ * by chance, and no secret. A graph that opens as singular may have a perfect
+ * matching all the same: draw again with a few other seeds, and if it is
+ * singular with all of them it almost surely has none. What is said of lengths,
+ * alignment, null and the bytes past those needed is as for saszvigom_open.
+ *
+ * Kind SASZVIGOM_DRAWS with the number of weights; else refused, with nothing
+ * written: SASZVIGOM_SIZE_TOO_LARGE, or else SASZVIGOM_BUFFER_TOO_SHORT at
+ * SASZVIGOM_BUFFER_WEIGHTS.
+ *
+ * The number, by its bits; all others are 0:
+ *
+ *                 0 to 7   8 to 15   16 to 31
+ *     draws       0        7         weights
+ *     refused     cause    0         place
+ */
+uint64_t saszvigom_draws(uint64_t n, uint32_t seed, uint8_t *weights, size_t weights_len);
 
 /*
  * A session is the size n, the number of pairs made, and four buffers:
@@ -335,8 +444,8 @@ uint64_t saszvigom_row(uint64_t n, uint64_t made, uint64_t a,
  * place, which is written as the answer of every call too; nothing else is
  * written, and the session is the one sent. So the answers are not written
  * exactly if the cause is SASZVIGOM_CALL_UNKNOWN or SASZVIGOM_LIST_CUT, or
- * SASZVIGOM_BUFFER_TOO_SHORT at SASZVIGOM_BUFFER_ANSWERS. An empty list is in order, and tells
- * whether a session is sound.
+ * SASZVIGOM_BUFFER_TOO_SHORT at SASZVIGOM_BUFFER_ANSWERS. An empty list is in
+ * order, and tells whether a session is sound.
  */
 uint64_t saszvigom_replay(uint64_t n, uint64_t made,
                           const uint8_t *adjacency, size_t adjacency_len,
@@ -390,6 +499,27 @@ static inline unsigned saszvigom_larger_of(uint64_t number)
 static inline unsigned saszvigom_made_of(uint64_t number)
 {
     return (unsigned)(number >> 32 & 0xFFu);
+}
+
+/* The number of edges of a sheet. It means nothing for a kind other than
+   SASZVIGOM_SHEET. */
+static inline unsigned saszvigom_edges_of(uint64_t number)
+{
+    return (unsigned)(number >> 16 & 0xFFFFu);
+}
+
+/* The number of vertices of a sheet. It means nothing for a kind other than
+   SASZVIGOM_SHEET. */
+static inline unsigned saszvigom_size_of(uint64_t number)
+{
+    return (unsigned)(number >> 32 & 0xFFu);
+}
+
+/* How many weights were drawn. It means nothing for a kind other than
+   SASZVIGOM_DRAWS. */
+static inline unsigned saszvigom_drawn_of(uint64_t number)
+{
+    return (unsigned)(number >> 16 & 0xFFFFu);
 }
 
 /* The index of the weight of vertices i < j < n. */

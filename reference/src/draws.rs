@@ -1,5 +1,8 @@
 //! The generator of the weights (document 01, "Draw roll").
 
+use crate::causes::Refusal;
+use crate::graph::{check_lengths, checked_size, lent_weights, pair_count};
+
 /// The next state: 1664525 times the state plus 1013904223, modulo 2^32.
 pub fn next_state(state: u32) -> u32 {
     let number = 1_664_525 * u64::from(state) + 1_013_904_223;
@@ -20,4 +23,16 @@ pub fn weights(seed: u32) -> impl Iterator<Item = u16> {
         state = next_state(state);
         weight_of(state)
     })
+}
+
+/// Fills the weights of a graph of this size with the draws of a seed: how many
+/// there are. Cause 1, then cause 2. Words past the draws are not written.
+pub fn fill_weights(size: u64, seed: u32, words: &mut [u16]) -> Result<u64, Refusal> {
+    let n = checked_size(size)?;
+    check_lengths(n, &[lent_weights(words)])?;
+    let count = pair_count(n);
+    for (word, draw) in words[..count].iter_mut().zip(weights(seed)) {
+        *word = draw;
+    }
+    Ok(count as u64)
 }

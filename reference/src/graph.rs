@@ -141,12 +141,16 @@ pub(crate) fn graph_buffers(adjacency: &[u8], weights: &[u16]) -> [Lent; 2] {
             extent: Extent::Square,
             length: adjacency.len(),
         },
-        Lent {
-            number: buffer::WEIGHTS,
-            extent: Extent::Pairs,
-            length: weights.len(),
-        },
+        lent_weights(weights),
     ]
+}
+
+pub(crate) fn lent_weights(weights: &[u16]) -> Lent {
+    Lent {
+        number: buffer::WEIGHTS,
+        extent: Extent::Pairs,
+        length: weights.len(),
+    }
 }
 
 /// Cause 2: the first buffer that is too short for n vertices.

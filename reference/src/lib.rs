@@ -41,10 +41,13 @@ pub mod causes;
 /// "Listing": what the program prints.
 pub mod listing;
 
+/// "Sheet records": any bytes as a readable text, and back.
+pub mod text;
+
 /// "For the host": words as two bytes, low first.
 pub mod words;
 
-/// "For the host": the number that a session call returns.
+/// "For the host": the number that a call returns.
 pub mod numbers;
 
 /// "For the host": a list of session calls, made one after the other.

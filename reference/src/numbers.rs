@@ -1,6 +1,7 @@
-//! The one number that a session call returns through the host (docs/HOST.md).
+//! The one number that a call returns through the host (docs/HOST.md).
 
 use crate::causes::Refusal;
+use crate::records::Counts;
 use crate::session::{Edge, Outcome};
 
 /// A pair appended or removed: kind 3, the smaller vertex in bits 16 to 23 and
@@ -17,6 +18,23 @@ pub fn row_number(outcome: &Outcome<()>) -> u64 {
 /// A list of calls made: kind 5.
 pub fn replay_number(outcome: &Outcome<()>) -> u64 {
     number(outcome, 5, |_| 0)
+}
+
+/// A graph read: kind 6, the number of edges in bits 16 to 31 and the size in
+/// bits 32 to 39.
+pub fn read_number(answer: Result<Counts, Refusal>) -> u64 {
+    match answer {
+        Ok(counts) => 6 << 8 | counts.edges << 16 | counts.size << 32,
+        Err(refusal) => refusal_number(refusal),
+    }
+}
+
+/// Weights drawn: kind 7, how many in bits 16 to 31.
+pub fn draws_number(answer: Result<u64, Refusal>) -> u64 {
+    match answer {
+        Ok(count) => 7 << 8 | count << 16,
+        Err(refusal) => refusal_number(refusal),
+    }
 }
 
 /// Bits 0 to 7: the cause, or 0; 8 to 15: the kind, or 0; 16 to 31: a value, or

@@ -5,6 +5,7 @@ mod common;
 use common::*;
 use reference::causes::Refusal;
 use reference::draws;
+use reference::numbers::read_number;
 use reference::records::{read_graph, Counts, Due, EdgeBody, Reader, Record};
 
 /// Reads into buffers of the given lengths, full of junk.
@@ -161,6 +162,15 @@ fn short_buffers_come_last() {
     let twice = records(4, 0, &[(0, 1), (1, 0)]);
     let refusal = read_into(&twice, 3, 1).expect_err("a refusal");
     assert_eq!(refusal.numbers(), (15, 10));
+}
+
+#[test]
+fn numbers_of_the_host() {
+    let number = |bytes: &[u8], adjacency| read_number(read_into(bytes, adjacency, 4560));
+    assert_eq!(number(&records(4, 0, &[(0, 1), (2, 3)]), 16), 0x4_0002_0600);
+    assert_eq!(number(&records(96, 0, &[]), 9216), 0x60_0000_0600);
+    assert_eq!(number(&records(4, 0, &[]), 15), 0x0001_0002);
+    assert_eq!(number(&records(4, 0, &[(0, 4)]), 16), 0x0007_000e);
 }
 
 #[test]

@@ -1,6 +1,7 @@
 //! Document 01, "Draw roll".
 
-use reference::draws::{next_state, weight_of, weights};
+use reference::draws::{fill_weights, next_state, weight_of, weights};
+use reference::numbers::draws_number;
 
 #[test]
 fn printed_numbers_of_seed_0() {
@@ -47,4 +48,29 @@ fn every_high_half_gives_a_weight_in_range() {
         assert!((1..=65_520).contains(&weight_of(high_half << 16)));
     }
     assert_eq!(weight_of(0), 1);
+}
+
+#[test]
+fn weights_of_a_graph_are_filled() {
+    let mut words = [7; 8];
+    let answer = fill_weights(4, 0, &mut words);
+    assert_eq!(words, [15471, 18257, 53709, 43770, 25171, 40751, 7, 7]);
+    assert_eq!(draws_number(answer), 0x0006_0700);
+    for size in [0, 1] {
+        assert_eq!(draws_number(fill_weights(size, 9, &mut [])), 0x700);
+    }
+    let mut most = vec![0; 4560];
+    assert_eq!(draws_number(fill_weights(96, 1, &mut most)), 0x11d0_0700);
+    assert_eq!(Some(most[4559]), weights(1).nth(4559));
+}
+
+#[test]
+fn a_size_above_96_comes_before_too_few_words() {
+    let mut words = [7; 5];
+    assert_eq!(draws_number(fill_weights(4, 0, &mut words)), 0x0002_0002);
+    for size in [97, 256, 1 << 32, u64::MAX] {
+        assert_eq!(draws_number(fill_weights(size, 0, &mut words)), 1);
+        assert_eq!(draws_number(fill_weights(size, 0, &mut [])), 1);
+    }
+    assert_eq!(words, [7; 5]);
 }

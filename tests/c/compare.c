@@ -9,11 +9,12 @@
 #define BLOCK (BUFFERS * (LONGEST + GUARD + sizeof(uint64_t)) + GUARD)
 
 const char *const entry_names[ENTRIES] = {
-    "open", "pick", "automatic", "undo", "row", "replay",
+    "open", "pick", "automatic", "undo", "row", "replay", "read", "draw",
 };
 
 const char *const buffer_names[BUFFERS] = {
-    "adjacency", "weights", "inverse", "sequence", "witness", "work", "row", "calls", "answers",
+    "adjacency", "weights", "inverse", "sequence", "witness",
+    "work",      "row",     "calls",   "answers",  "sheet",
 };
 
 uint8_t guard_byte(size_t position)
@@ -59,6 +60,12 @@ static uint64_t make_call(const struct call *call, uint8_t *const buffers[BUFFER
                              buffers[PARTNERS], call->length[PARTNERS]);
     case REPLAY:
         return replay_calls(call, buffers);
+    case READ:
+        return saszvigom_read(buffers[SHEET], call->length[SHEET], buffers[ADJACENCY],
+                              call->length[ADJACENCY], buffers[WEIGHTS], call->length[WEIGHTS]);
+    case DRAW:
+        return saszvigom_draws(call->n, (uint32_t)call->a, buffers[WEIGHTS],
+                               call->length[WEIGHTS]);
     default:
         printf("FAIL entry %d\n", (int)call->entry);
         exit(1);

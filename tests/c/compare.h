@@ -7,10 +7,12 @@
 
 #include "saszvigom.h"
 
-enum entry { OPEN, PICK, AUTOMATIC, UNDO, ROW, REPLAY, ENTRIES };
+enum entry { OPEN, PICK, AUTOMATIC, UNDO, ROW, REPLAY, READ, DRAW, ENTRIES };
 
-/* The buffers, in the order of their numbers from 1 on. */
-enum { ADJACENCY, WEIGHTS, INVERSE, SEQUENCE, WITNESS, WORK, PARTNERS, CALLS, ANSWERS, BUFFERS };
+/* The buffers: the first seven in the order of their numbers from 1 on. */
+enum {
+    ADJACENCY, WEIGHTS, INVERSE, SEQUENCE, WITNESS, WORK, PARTNERS, CALLS, ANSWERS, SHEET, BUFFERS
+};
 
 /* The length of the longest buffer: what 96 vertices need, and 64 bytes more. */
 #define LONGEST (SASZVIGOM_INVERSE_BYTES(SASZVIGOM_MAX_VERTICES) + 64)
@@ -19,8 +21,9 @@ extern const char *const entry_names[ENTRIES];
 extern const char *const buffer_names[BUFFERS];
 
 /* A call: the entry, its numbers, and for each buffer its length in bytes and
-   the bytes before. An entry uses some of the numbers and buffers only. Those of
-   calls and answers are 64-bit numbers as they lie in memory. */
+   the bytes before. An entry uses some of the numbers and buffers only: a is
+   also the seed of draws. Calls and answers are 64-bit numbers as they lie in
+   memory. */
 struct call {
     enum entry entry;
     uint64_t n, made, a, b;

@@ -9,11 +9,11 @@
  *
  *     the length of its name, at least 1, and the name
  *     the entry, as enum entry numbers them
- *     n, the pairs made, and two vertices
- *     the lengths of the nine buffers in bytes
- *     the bytes of the nine buffers before the call
+ *     n, the pairs made, and two vertices; a seed in place of the first
+ *     the lengths of the ten buffers in bytes
+ *     the bytes of the ten buffers before the call
  *     the number expected
- *     the bytes of the nine buffers expected after the call
+ *     the bytes of the ten buffers expected after the call
  *
  * and at the end 0, in the place of a name's length, and the number of cases.
  */
@@ -24,6 +24,7 @@
 #include <stdlib.h>
 
 #define LONGEST_NAME 127
+#define LAST_CAUSE SASZVIGOM_EDGE_REPEATED
 
 static struct call call;
 static struct outcome expected;
@@ -32,7 +33,7 @@ static char name[LONGEST_NAME + 1];
 /* How many cases there were, of each entry, and of each outcome; refused by
    cause. */
 static struct {
-    size_t cases, entries[ENTRIES], carried_out, refused[SASZVIGOM_LIST_CUT + 1];
+    size_t cases, entries[ENTRIES], carried_out, refused[LAST_CAUSE + 1];
 } tally;
 
 static _Noreturn void fail(const char *what)
@@ -142,7 +143,7 @@ static void count(void)
 {
     const unsigned cause = saszvigom_cause_of(expected.number);
     const bool refused = saszvigom_kind_of(expected.number) == SASZVIGOM_REFUSED;
-    if (cause > SASZVIGOM_LIST_CUT || refused != (cause > 0))
+    if (cause > LAST_CAUSE || refused != (cause > 0))
         fail("the number expected is none that a call returns");
     if (refused)
         tally.refused[cause]++;
@@ -162,7 +163,7 @@ static void print_tally(void)
             separator = ",";
         }
     printf("; %zu carried out", tally.carried_out);
-    for (size_t cause = 1; cause <= SASZVIGOM_LIST_CUT; cause++)
+    for (size_t cause = 1; cause <= LAST_CAUSE; cause++)
         if (tally.refused[cause] > 0)
             printf(", %zu with %zu", tally.refused[cause], cause);
     printf("\n");

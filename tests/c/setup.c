@@ -53,6 +53,7 @@ void set_graph(size_t n)
         call.length[b] += 2 * b + 1;
     call.length[CALLS] = 0;
     call.length[ANSWERS] = 0;
+    call.length[SHEET] = 0;
     memset(call.bytes[ADJACENCY], 0, SASZVIGOM_ADJACENCY_BYTES(n));
     for (size_t k = 0; k < n * (n - 1) / 2; k++)
         saszvigom_store_word(call.bytes[WEIGHTS], k, 1);

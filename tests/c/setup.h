@@ -16,7 +16,7 @@ void run(const char *name);
 
 /* Sets up the opening of a graph without edges and with weights 1, in buffers
    that are longer than needed by an odd number of bytes. What they hold else is
-   arbitrary. There is no list of calls. */
+   arbitrary. There is no list of calls, and no sheet. */
 void set_graph(size_t n);
 
 /* The same with the edges given as in "01 12". */

@@ -90,6 +90,17 @@ extern "C" {
         answers: *mut u64,
         answers_len: usize,
     ) -> u64;
+
+    fn saszvigom_read(
+        sheet: *const u8,
+        sheet_len: usize,
+        adjacency: *mut u8,
+        adjacency_len: usize,
+        weights: *mut u8,
+        weights_len: usize,
+    ) -> u64;
+
+    fn saszvigom_draws(n: u64, seed: u32, weights: *mut u8, weights_len: usize) -> u64;
 }
 
 /// The buffers that opening writes.
@@ -241,4 +252,25 @@ pub fn replay(lent: Lent, calls: &[u64], answers: &mut [u64]) -> u64 {
             answers.len(),
         )
     }
+}
+
+/// Reads a sheet into an adjacency table and weights.
+pub fn read(sheet: &[u8], adjacency: &mut [u8], weights: &mut [u8]) -> u64 {
+    // SAFETY: as for opening.
+    unsafe {
+        saszvigom_read(
+            sheet.as_ptr(),
+            sheet.len(),
+            adjacency.as_mut_ptr(),
+            adjacency.len(),
+            weights.as_mut_ptr(),
+            weights.len(),
+        )
+    }
+}
+
+/// Draws the weights of n vertices.
+pub fn draw(n: u64, seed: u32, weights: &mut [u8]) -> u64 {
+    // SAFETY: as for opening.
+    unsafe { saszvigom_draws(n, seed, weights.as_mut_ptr(), weights.len()) }
 }

@@ -3,26 +3,30 @@
 //! Every number is eight bytes, the low one first. For each case:
 //!
 //! * the length of its name, at least 1, and the name;
-//! * the entry: 0 open, 1 pick, 2 automatic, 3 undo, 4 row, 5 replay;
-//! * n, the pairs made, and two vertices, 0 where the entry has none;
-//! * the lengths in bytes of the nine buffers: adjacency, weights, inverse,
-//!   sequence, witness, work, row, calls and answers, 0 where the entry has none;
-//! * the bytes of the nine buffers before the call;
+//! * the entry: 0 open, 1 pick, 2 automatic, 3 undo, 4 row, 5 replay, 6 read,
+//!   7 draw;
+//! * n, the pairs made, and two vertices, or a seed in place of the first, 0
+//!   where the entry has none;
+//! * the lengths in bytes of the ten buffers: adjacency, weights, inverse,
+//!   sequence, witness, work, row, calls, answers and sheet, 0 where the entry
+//!   has none;
+//! * the bytes of the ten buffers before the call;
 //! * the number expected;
-//! * the bytes of the nine buffers expected after the call;
+//! * the bytes of the ten buffers expected after the call;
 //!
 //! and at the end 0, in the place of a name's length, and the number of cases.
 
 use crate::cases::Case;
+use crate::filling::{Filling, FillingCase, Source};
 use crate::session::{Request, SessionCall, SessionCase};
 use std::borrow::Cow;
 use std::io::{self, Write};
 
 /// The longest name and the longest buffer that the C side reads.
 const LONGEST_NAME: usize = 127;
-const LONGEST_BUFFER: usize = 2 * 96 * 96 + 64;
+pub const LONGEST_BUFFER: usize = 2 * 96 * 96 + 64;
 
-type Buffers<'a> = [Cow<'a, [u8]>; 9];
+type Buffers<'a> = [Cow<'a, [u8]>; 10];
 
 pub struct Stream<W: Write> {
     out: W,
@@ -36,7 +40,7 @@ impl<W: Write> Stream<W> {
 
     pub fn opening(&mut self, case: &Case) -> io::Result<()> {
         let (outcome, after) = case.call.expected();
-        let nine = |six: [&[u8]; 6]| -> Buffers<'static> {
+        let ten = |six: [&[u8]; 6]| -> Buffers<'static> {
             let mut buffers = Buffers::default();
             for (buffer, bytes) in buffers.iter_mut().zip(six) {
                 *buffer = Cow::Owned(bytes.to_vec());
@@ -44,8 +48,8 @@ impl<W: Write> Stream<W> {
             buffers
         };
         let numbers = [0, case.call.n, 0, 0, 0];
-        let before = nine(case.call.buffers());
-        let after = nine(after.buffers());
+        let before = ten(case.call.buffers());
+        let after = ten(after.buffers());
         self.case(&case.name, numbers, &before, outcome.number(), &after)
     }
 
@@ -59,6 +63,16 @@ impl<W: Write> Stream<W> {
         let numbers = [case.call.request.entry(), state.n, state.made, a, b];
         let before = session_buffers(&case.call);
         let after = session_buffers(&case.after);
+        self.case(&case.name, numbers, &before, case.number, &after)
+    }
+
+    pub fn filling(&mut self, case: &FillingCase) -> io::Result<()> {
+        let numbers = match case.call.source {
+            Source::Sheet(_) => [6, 0, 0, 0, 0],
+            Source::Seed { n, seed } => [7, n, 0, seed.into(), 0],
+        };
+        let before = filling_buffers(&case.call);
+        let after = filling_buffers(&case.after);
         self.case(&case.name, numbers, &before, case.number, &after)
     }
 
@@ -121,5 +135,15 @@ fn session_buffers(call: &SessionCall) -> Buffers<'_> {
         row.into(),
         calls,
         answers,
+        (&[] as &[u8]).into(),
     ]
+}
+
+fn filling_buffers(call: &Filling) -> Buffers<'_> {
+    let mut buffers = Buffers::default();
+    let [sheet, adjacency, weights] = call.buffers().map(|(_, bytes)| Cow::Borrowed(bytes));
+    buffers[0] = adjacency;
+    buffers[1] = weights;
+    buffers[9] = sheet;
+    buffers
 }

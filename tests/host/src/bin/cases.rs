@@ -1,9 +1,10 @@
 //! Writes cases to standard output, for tests/c/replay.c to run them: `opening`
-//! those of opening, `sessions N` every Nth of the session calls. What is
-//! expected is by the plain reading.
+//! those of opening, `sheets` those of reading sheets and drawing weights,
+//! `sessions N` every Nth of the session calls. What is expected is by the plain
+//! reading.
 
 use host_tests::stream::Stream;
-use host_tests::{cases, session_cases};
+use host_tests::{cases, filling_cases, session_cases};
 use std::env;
 use std::io::{self, BufWriter};
 use std::process::ExitCode;
@@ -13,6 +14,7 @@ fn main() -> ExitCode {
     let arguments: Vec<&str> = arguments.iter().map(String::as_str).collect();
     let written = match arguments[..] {
         ["opening"] => write_openings(),
+        ["sheets"] => write_fillings(),
         ["sessions", stride] => match stride.parse() {
             Ok(stride) if stride > 0 => write_sessions(stride),
             _ => return usage(),
@@ -29,7 +31,7 @@ fn main() -> ExitCode {
 }
 
 fn usage() -> ExitCode {
-    eprintln!("usage: cases opening | cases sessions N");
+    eprintln!("usage: cases opening | cases sheets | cases sessions N");
     ExitCode::from(2)
 }
 
@@ -37,6 +39,14 @@ fn write_openings() -> io::Result<()> {
     let mut stream = Stream::new(BufWriter::new(io::stdout().lock()));
     for case in cases::all() {
         stream.opening(&case)?;
+    }
+    stream.end()
+}
+
+fn write_fillings() -> io::Result<()> {
+    let mut stream = Stream::new(BufWriter::new(io::stdout().lock()));
+    for case in filling_cases::all() {
+        stream.filling(&case)?;
     }
     stream.end()
 }

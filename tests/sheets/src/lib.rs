@@ -1,0 +1,10 @@
+//! Seeded good and damaged sheets, and the comparison of the listing program
+//! with the plain reading. tests/host reads the same sheets through the C entry.
+
+pub mod damage;
+pub mod families;
+pub mod outcomes;
+pub mod program;
+pub mod random;
+pub mod shapes;
+pub mod sheet;

@@ -1,0 +1,68 @@
+//! A sheet that is in order.
+
+use crate::random::Random;
+
+/// Size, seed and edges, with the vertices of an edge in the order of the bytes.
+#[derive(Clone, Debug, PartialEq, Eq)]
+pub struct Sheet {
+    pub size: u8,
+    pub seed: u32,
+    pub edges: Vec<(u8, u8)>,
+}
+
+/// Where the first edge record stands, and the length of one.
+pub const FIRST_EDGE: usize = 7;
+pub const EDGE_LENGTH: usize = 3;
+
+impl Sheet {
+    /// The sheet that document 01 lists.
+    pub fn listed() -> Sheet {
+        Sheet {
+            size: 4,
+            seed: 0,
+            edges: vec![(0, 1), (0, 2), (1, 3)],
+        }
+    }
+
+    /// All vertices adjacent.
+    pub fn complete(size: u8, seed: u32) -> Sheet {
+        let edges = (0..size).flat_map(|i| (i + 1..size).map(move |j| (i, j)));
+        Sheet {
+            size,
+            seed,
+            edges: edges.collect(),
+        }
+    }
+
+    /// The edges in random order, each with either vertex first.
+    pub fn shuffled(&self, random: &mut Random) -> Sheet {
+        let turned = |&(i, j): &(u8, u8), turn: bool| if turn { (j, i) } else { (i, j) };
+        let order = random.permutation(self.edges.len());
+        let edges = order
+            .into_iter()
+            .map(|index| turned(&self.edges[index], random.percent(50)));
+        Sheet {
+            edges: edges.collect(),
+            ..*self
+        }
+    }
+
+    pub fn bytes(&self) -> Vec<u8> {
+        let mut bytes = vec![1, self.size, 3];
+        bytes.extend(self.seed.to_le_bytes());
+        for &(i, j) in &self.edges {
+            bytes.extend([2, i, j]);
+        }
+        bytes.push(4);
+        bytes
+    }
+
+    /// The offset of every record, and the length.
+    pub fn offsets(&self) -> Vec<usize> {
+        let edges = (0..=self.edges.len()).map(|index| FIRST_EDGE + EDGE_LENGTH * index);
+        let mut offsets = vec![0, 2];
+        offsets.extend(edges);
+        offsets.push(self.bytes().len());
+        offsets
+    }
+}

@@ -1,0 +1,149 @@
+//! The listing program beside the plain reading: what it prints for every
+//! sheet, byte for byte.
+
+use sheet_tests::families::{self, Case};
+use sheet_tests::outcomes::{outcome, Tally};
+use sheet_tests::program::Program;
+use sheet_tests::sheet::Sheet;
+
+/// The input and the output that document 01 prints.
+const LISTED: [u8; 17] = [
+    0x01, 0x04, 0x03, 0x00, 0x00, 0x00, 0x00, 0x02, 0x00, 0x01, 0x02, 0x00, 0x02, 0x02, 0x01, 0x03,
+    0x04,
+];
+const LISTING: &str = "sleeves 4 links 3\npair 0 2\npair 1 3\nverdict F\n";
+
+const LIMIT: u64 = 16_384;
+
+fn check(family: impl Iterator<Item = Case>) -> Tally {
+    let program = Program::named();
+    let mut tally = Tally::default();
+    for case in family {
+        let listing = program.check(&case.name, &case.bytes);
+        tally.count(outcome(&case.bytes, &listing));
+    }
+    tally
+}
+
+#[test]
+fn the_listed_input() {
+    assert_eq!(Program::named().check("listed", &LISTED), LISTING);
+    let empty = Program::named().check("empty", &[]);
+    assert_eq!(empty, "refused 13 at 0\n");
+}
+
+#[test]
+fn small_sheets() {
+    let tally = check(families::small_sheets());
+    assert_eq!(tally.total(), 1000);
+    for outcome in ["F", "N, odd size", "N, even size"] {
+        assert!(tally.of(outcome) > 150, "{outcome}");
+    }
+    assert!(tally.of("F without a vertex") > 20);
+}
+
+#[test]
+fn middle_and_large_sheets() {
+    let tally = check(families::middle_sheets().chain(families::large_sheets()));
+    assert_eq!(tally.total(), 240);
+    for outcome in ["F", "N, odd size", "N, even size"] {
+        assert!(tally.of(outcome) > 30, "{outcome}");
+    }
+}
+
+#[test]
+fn low_ranks() {
+    let tally = check(families::low_ranks());
+    assert_eq!(tally.total(), 200);
+    for outcome in ["N, odd size", "N, even size"] {
+        assert!(tally.of(outcome) > 80, "{outcome}");
+    }
+}
+
+#[test]
+fn every_size() {
+    let tally = check(families::every_size());
+    assert_eq!(tally.total(), 256);
+    assert_eq!((tally.of("F"), tally.of("N, odd size")), (48, 48));
+    assert_eq!((tally.of("F without a vertex"), tally.of("1")), (1, 159));
+}
+
+#[test]
+fn seeds() {
+    let tally = check(families::seeds());
+    assert_eq!((tally.total(), tally.of("N, odd size")), (104, 104));
+}
+
+/// Every cause at every place of the reader.
+#[test]
+fn every_cause() {
+    let mut tally = check(families::every_kind());
+    assert_eq!(tally.total(), 7 * 256 * 2);
+    tally.add(check(families::every_prefix()));
+    tally.add(check(families::every_edge()));
+    tally.add(check(families::damaged_sheets(1500)));
+    tally.add(check(families::random_bytes(300)));
+    tally.add(check(families::every_size()));
+    assert!(tally.total() > 5500, "{}", tally.total());
+    assert!(tally.below(3).is_empty(), "{:?}", tally.below(3));
+}
+
+#[test]
+fn long_inputs() {
+    let tally = check(families::long_inputs());
+    assert_eq!((tally.total(), tally.of("F")), (33, 1));
+    assert_eq!(tally.of("13 behind an edge"), 1);
+}
+
+#[test]
+fn a_byte_at_a_time() {
+    let program = Program::named();
+    let mut sheets = vec![Sheet::listed().bytes(), vec![1, 4, 3, 0], vec![1, 97, 3]];
+    sheets.extend([0, 1, 2, 5].map(|n| Sheet::complete(n, 9).bytes()));
+    for bytes in &sheets {
+        let pieces: Vec<&[u8]> = bytes.chunks(1).collect();
+        program.check_pieces("a byte at a time", &pieces);
+    }
+}
+
+#[test]
+fn two_pieces() {
+    let program = Program::named();
+    let listed = Sheet::listed().bytes();
+    let largest = Sheet::complete(96, 2).bytes();
+    for cut in 1..listed.len() {
+        let (first, second) = listed.split_at(cut);
+        let listing = program.check_pieces("two pieces", &[first, second]);
+        assert_eq!(listing, LISTING);
+    }
+    for cut in [1, 4096, 8192, 13_687] {
+        let (first, second) = largest.split_at(cut);
+        program.check_pieces("two pieces of the largest sheet", &[first, second]);
+    }
+}
+
+/// Pieces of the largest sheet, and of an input that is longer than what is
+/// read.
+#[test]
+fn many_pieces() {
+    let program = Program::named();
+    let mut bytes = Sheet::complete(96, 3).bytes();
+    for length in [13_688, 16_384, 20_000] {
+        bytes.resize(length, 2);
+        for size in [100, 1000, 4095] {
+            let pieces: Vec<&[u8]> = bytes.chunks(size).collect();
+            program.check_pieces("many pieces", &pieces);
+        }
+    }
+}
+
+/// From a file no more is read than the limit.
+#[test]
+fn files() {
+    let program = Program::named();
+    for case in families::long_inputs() {
+        program.check_file("long", &case.bytes, LIMIT);
+    }
+    assert_eq!(program.check_file("listed", &LISTED, LIMIT), LISTING);
+    program.check_file("empty", &[], LIMIT);
+}
