@@ -24,8 +24,8 @@ fn copy(bytes: &[u8], target: &mut [u8])
     }
 }
 
-// Entry (i, j) of the skew matrix that a table holds above its diagonal, where it stands there.
-fn above(t: &[u64], n: usize, i: usize, j: usize) -> u16
+// Entry (i, j) of the skew matrix that a table holds above its diagonal, where it stands there. For proved callers.
+pub fn above(t: &[u64], n: usize, i: usize, j: usize) -> u16
     requires { ⌜ Square n (now t) × (i < j) × (j < n) ⌝ }
     ensures { λ r. ⌜ r ≡ word n (now (t .entry)) i j ⌝ }
 {
