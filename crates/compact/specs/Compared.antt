@@ -2,14 +2,14 @@
 use mathlib.Core.Path.{_≡_, refl, sym, ap, _∙_, subst}
 use mathlib.Core.Logic.{_≢_}
 use mathlib.Core.Bool.{Bool, true}
-use mathlib.Core.List.{List}
+use mathlib.Core.List.{List, _++_}
 use Prim.Native.Nat.{ℕ, _+_, _*_, _-_, _/_, _%_, _≤_, _<_}
 use native.Mathlib.Nat.{mod-lt}
 use native.Mathlib.Numerals.{add-one}
 use native.Mathlib.Omega.{arith}
 use native.Mathlib.Decide.{ℕ-discrete, decLt}
 use lib.Dec.{lit<}
-use lib.ListN.{length, getD, set, take, drop, replicate}
+use lib.ListN.{length, getD, set, take, drop, replicate, getD-replicate, length-append, List·getD-append}
 use lib.Seq.{getD-set-same, getD-set-other, getD-take, length-take-le}
 use Rattle.lists.specs.Part.{part-at}
 use Rattle.lists.specs.Table.{table, vector, Square, row-below, column-below, index-of, index-below, row-fits}
@@ -67,19 +67,27 @@ module _ {m : ℕ} {marks vertices : List ℕ} {k : ℕ} (X : Listing m marks ve
     elements = written l;
   }
 
--- the part of a list that was written
-pub numbered : {n : ℕ} {marks vertices : List ℕ} {k : ℕ} (whole : List ℕ) → Listing n marks vertices k → k ≤ length whole
-    → ((i : ℕ) → i < n → vector whole i ≡ vector vertices i) → Numbered n marks (take k whole)
-numbered {n} {marks} {vertices} {k} whole X l same = record {
-  size = length-take-le k whole l ∙ X .size;
-  elements = record {
-    at = λ a h s.
-        let c = count-below n (marked marks) a h s in
-        getD-take k whole (count a (marked marks)) 0 (omega (arith, X .size))
-        ∙ same (count a (marked marks)) (omega (arith, count-most n (marked marks)))
-        ∙ X .elements .at a h s;
-  };
-}
+-- the part that is listed of a list with others after it
+module _ {m : ℕ} {marks vertices : List ℕ} {k : ℕ} (rest : List ℕ) (X : Listing m marks vertices k) (full : length vertices ≡ m) where
+  pub part-within : k ≤ length (vertices ++ rest)
+  part-within = omega (arith, listing-most X, length-append vertices rest)
+
+  pub part-size : k ≡ length (take k (vertices ++ rest))
+  part-size = sym (length-take-le k (vertices ++ rest) part-within)
+
+  pub part-numbered : {n : ℕ} → m ≡ n → Numbered n marks (take k (vertices ++ rest))
+  part-numbered e = record {
+    size = sym part-size ∙ X .size ∙ ap (λ x. count x (marked marks)) e;
+    elements = record {
+      at = λ a h s.
+          let l : a < m = omega arith in
+          let i = count a (marked marks) in
+          let c = count-below m (marked marks) a l s in
+          getD-take k (vertices ++ rest) i 0 (omega (arith, X .size))
+          ∙ List·getD-append vertices rest 0 i (omega (arith, X .size, listing-most X))
+          ∙ X .elements .at a l s;
+    };
+  }
 
 module _ {n : ℕ} {marks vertices : List ℕ} (N : Numbered n marks vertices) where
   pub numbered-ascending : Ascending n vertices
@@ -322,3 +330,8 @@ tells-members g {S} {L} inverse r e X = record {
       X .when-false q
       (record { small = I .small; is-inverse = same-members modulus (g .n) (tutte g modulus) (λ i l. sym (e i l)) (I .is-inverse) });
 }
+
+-- the vertices that wait at the start are all
+pub all-wait : (k : ℕ) → k ≤ 96 → (i : ℕ) → i < k → i ∈ marked (take k (replicate 96 1))
+all-wait k h i l =
+    marked-in (take k (replicate 96 1)) i (λ e. omega (arith, sym (getD-take k (replicate 96 1) i 0 l ∙ getD-replicate {A = ℕ} 96 i 1 0 (omega arith)) ∙ e))

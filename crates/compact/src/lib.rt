@@ -165,7 +165,14 @@ fn is_inverse_over(
 }
 
 // The same, with a table for as many vertices as are listed: a small one takes less time to clear.
-fn is_inverse_of(n: usize, adjacency: &[u8], weights: &[u16], marks: &[u8], inverse: &[u16], vertices: &[u8]) -> bool
+fn is_inverse_of(
+    n: usize,
+    adjacency: &[u8],
+    weights: &[u16],
+    marks: &[u8],
+    inverse: &[u16],
+    vertices: &[u8],
+) -> bool
     requires { ⌜ Complete n (now adjacency) (now weights) × (length (now marks) ≡ n) × (n * n ≤ length (now inverse)) ⌝ }
     requires { ⌜ Numbered n (now marks) (now vertices) ⌝ }
     ensures { λ r. ⌜ Tells (InverseTable modulus (over n (now (adjacency .entry)) (now (weights .entry))) (marked (now (marks .entry))) (now (inverse .entry))) r ⌝ }
@@ -209,7 +216,13 @@ fn is_inverse_of(n: usize, adjacency: &[u8], weights: &[u16], marks: &[u8], inve
 }
 
 // Whether a buffer has the inverse for the vertices marked. For proved callers, who have accepted the graph.
-pub fn is_inverse(n: usize, adjacency: &[u8], weights: &[u16], marks: &[u8], inverse: &[u16]) -> bool
+pub fn is_inverse(
+    n: usize,
+    adjacency: &[u8],
+    weights: &[u16],
+    marks: &[u8],
+    inverse: &[u16],
+) -> bool
     requires { ⌜ Complete n (now adjacency) (now weights) × (length (now marks) ≡ n) × (n * n ≤ length (now inverse)) ⌝ }
     ensures { λ r. ⌜ ((S : Subset) → ((i : ℕ) → i < n → S i ≡ marked (now (marks .entry)) i) → Tells (InverseTable modulus (over n (now (adjacency .entry)) (now (weights .entry))) S (now (inverse .entry))) r) ⌝ }
 {

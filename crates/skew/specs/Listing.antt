@@ -65,11 +65,12 @@ module _ {n : ℕ} {L : Subset} {v : Vector} (K : Listed n L v) where
       go (no d) (yes e) = absurd (omega (arith, ap (λ a. count a L) e, element i (omega arith) .place, element j h .place))
       go (no d) (no e) =
           absurd
-          (omega
-          (arith,
-          count-below (v i) L (v j) (omega arith) (element j h .inside),
-          element i (omega arith) .place,
-          element j h .place))
+          (omega (
+            arith,
+            count-below (v i) L (v j) (omega arith) (element j h .inside),
+            element i (omega arith) .place,
+            element j h .place,
+          ))
 
 -- a sum over the numbers below n whose terms outside L are 0
 pub sum-along : {p : ℕ} (n : ℕ) {L : Subset} {v : Vector} → Listed n L v → (f : Vector) → ((a : ℕ) → a < n → a ∉ L → Congruent p (f a) 0)

@@ -69,7 +69,14 @@ pub fn fill(n: usize, adjacency: &[u8], weights: &[u16], set: &[u8], table: &mut
 }
 
 // Row i from the diagonal on, at vertices that are listed.
-fn listed_row(n: usize, adjacency: &[u8], weights: &[u16], vertices: &[u8], i: usize, row: &mut [u64])
+fn listed_row(
+    n: usize,
+    adjacency: &[u8],
+    weights: &[u16],
+    vertices: &[u8],
+    i: usize,
+    row: &mut [u64],
+)
     requires { ⌜ Complete n (now adjacency) (now weights) × Ascending n (now vertices) ⌝ }
     requires { ⌜ (i < length (now vertices)) × (i + 1 + length (now row) ≡ length (now vertices)) ⌝ }
     ensures { λ _. ⌜ now (row .exit) ≡ row-of (listed (over n (now (adjacency .entry)) (now (weights .entry))) (now (vertices .entry))) i (length (now (row .entry))) ⌝ }

@@ -1,38 +1,45 @@
+-- `compact::is_inverse` meets its contract: the vertices are listed in a part of an array, and the part of those listed is lent.
+-- Assumes nothing.
+use mathlib.Core.Path.{_≡_, sym, _∙_}
+use Prim.Native.Nat.{_*_, _≤_}
+use native.Mathlib.Omega.{arith}
+use lib.ListN.{length}
+use Rattle.lists.specs.Part.{length-part}
+use Rattle.compact.specs.Compared.{part-within, part-size, part-numbered, tells-members}
 use borrow.Author.Needs.{needs}
 use Rattle.compact.proofs.is_inverse.Statement.{statement}
 use Rattle.compact.proofs.is_inverse.Tie as tie
-use Rattle.compact.proofs.is_inverse.Reads as reads
-use Rattle.compact.proofs.is_inverse.Lts as lts
-use Rattle.compact.proofs.is_inverse_of.Reads as is-inverse-of-reads
-use Rattle.compact.proofs.list.Reads as list-reads
 
--- src/lib.rt:217:25
 array-borrow-prefix-vertices : tie.Need-array-borrow-prefix-vertices
 array-borrow-prefix-vertices c = search needs
 
--- src/lib.rt:217:25
+-- the list that came back is as long as there are vertices
+full : (at : tie.After-list) → length (at .list .last .1 .0) ≡ length (at .before .before .before .before .before .before .args .marks .now)
+full at = let s = at .before .before .before .before .before .before in at .list .kept .1 .0 ∙ length-part (s .args .n) 96 0 (s .pre .0 .size) ∙ sym (s .pre .1)
+
 slice-aggregate-list : tie.Need-slice-aggregate-list
-slice-aggregate-list c = ?
+slice-aggregate-list c = let s = c .before .before .before .before .before in sym (length-part (s .args .n) 96 0 (s .pre .0 .size))
 
--- src/lib.rt:217:9
 list-requires : tie.Need-list-requires
-list-requires c κs = ?
+list-requires c κs =
+    let s = c .before .before .before .before .before in
+    let h = s .pre .0 .size in
+    (omega arith, length-part (s .args .n) 96 0 h ∙ sym (s .pre .1))
 
--- src/lib.rt:218:58
 array-share-prefix-vertices : tie.Need-array-share-prefix-vertices
-array-share-prefix-vertices c = ?
+array-share-prefix-vertices c = part-within _ (c .before .list .ensures) (full (c .before))
 
--- src/lib.rt:218:58
 slice-aggregate-is-inverse-of : tie.Need-slice-aggregate-is-inverse-of
-slice-aggregate-is-inverse-of c = ?
+slice-aggregate-is-inverse-of c = part-size _ (c .before .before .list .ensures) (full (c .before .before))
 
--- src/lib.rt:218:5
 is-inverse-of-requires : tie.Need-is-inverse-of-requires
-is-inverse-of-requires c κs = ?
+is-inverse-of-requires c κs =
+    let s = c .before .before .before .before .before .before .before .before in
+    let at = c .before .before in
+    (s .pre, part-numbered _ (at .list .ensures) (full at) (s .pre .1))
 
--- src/lib.rt:212:1
 returns : tie.Need-returns
-returns c = ?
+returns c S agree = tells-members _ _ _ agree (c .is-inverse-of .ensures)
 
 pub is-inverse-spec : {M : Type 1} → statement M
 is-inverse-spec =
