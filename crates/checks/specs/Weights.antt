@@ -1,6 +1,7 @@
 -- How many weights a graph needs, and laws of the first one out of range. Assumes nothing.
 use mathlib.Core.Path.{_≡_}
-use Prim.Native.Nat.{ℕ, _≤_, _<_}
+use Prim.Native.Nat.{ℕ, _*_, _-_, _≤_, _<_}
+use native.Mathlib.Nat.{mul-le-mul}
 use native.Mathlib.Omega.{arith}
 use native.Mathlib.Decide.{decLt}
 use Rattle.skew.specs.Choose.{choose, choose-yes, choose-no}
@@ -17,6 +18,11 @@ module _ (p : ℕ) (g : Graph) where
   pub weights-absent : Every (pair-count (g .n)) (InRange g p) → bad-weight p g .finding ≡ absent
   unfolding bad-weight
   weights-absent h = found-absent (first-outside p g) .1 (λ k m d. d (h k m))
+
+-- the largest graph has 96 * 95 / 2 pairs of vertices
+pub pair-count-small : (n : ℕ) → n ≤ largest → pair-count n ≤ 4560
+pair-count-small n l =
+    let k : n * (n - 1) ≤ 9120 = mul-le-mul {n₁ = n} {m₁ = n - 1} {n₂ = 96} {m₂ = 95} (omega arith) (omega arith) in omega arith
 
 -- one for each pair of vertices, and none where there are too many vertices
 abbrev pub needed : ℕ → ℕ

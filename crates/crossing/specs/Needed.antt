@@ -1,8 +1,7 @@
 -- Of the weights, which cross as bytes, those that a graph needs. Assumes nothing.
 use mathlib.Core.Path.{_≡_, _∙_}
 use mathlib.Core.List.{List}
-use Prim.Native.Nat.{ℕ, _*_, _-_, _≤_, _<_}
-use native.Mathlib.Nat.{mul-le-mul}
+use Prim.Native.Nat.{ℕ, _*_, _≤_, _<_}
 use native.Mathlib.Omega.{arith}
 use native.Mathlib.Decide.{decLt}
 use lib.ListN.{length, getD, take}
@@ -10,7 +9,7 @@ use lib.Seq.{length-take-le, getD-take}
 use Rattle.matching.specs.Decision.{Every}
 use Rattle.matching.specs.Graph.{largest, pair-count}
 use Rattle.matching.specs.Host.{words}
-use Rattle.checks.specs.Weights.{needed, needed-none, needed-all}
+use Rattle.checks.specs.Weights.{needed, needed-none, needed-all, pair-count-small}
 use Rattle.packing.specs.Words.{words-length}
 
 -- the weights of a graph within the size
@@ -19,9 +18,7 @@ needed-small n = go (decLt largest n)
   where
     go : Dec (largest < n) → needed n ≤ 4560
     go (yes l) = omega (arith, needed-none n l)
-    go (no l) =
-        let k : n * (n - 1) ≤ 9120 = mul-le-mul {n₁ = n} {m₁ = n - 1} {n₂ = 96} {m₂ = 95} (omega arith) (omega arith) in
-        omega (arith, needed-all n (omega arith))
+    go (no l) = omega (arith, needed-all n (omega arith), pair-count-small n (omega arith))
 
 abbrev pub needed-weights : ℕ → List ℕ → List ℕ
 needed-weights n weights = take (needed n) (words weights)
