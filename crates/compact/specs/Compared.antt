@@ -1,10 +1,9 @@
 -- The marked vertices in a list, and the inverse for them compared with the words of a buffer. Assumes nothing.
 use mathlib.Core.Path.{_≡_, refl, sym, ap, _∙_, subst}
 use mathlib.Core.Logic.{_≢_}
-use mathlib.Core.Bool.{Bool, true}
+use mathlib.Core.Bool.{Bool}
 use mathlib.Core.List.{List, _++_}
 use Prim.Native.Nat.{ℕ, _+_, _*_, _-_, _/_, _%_, _≤_, _<_}
-use native.Mathlib.Nat.{mod-lt}
 use native.Mathlib.Numerals.{add-one}
 use native.Mathlib.Omega.{arith}
 use native.Mathlib.Decide.{ℕ-discrete, decLt}
@@ -12,23 +11,23 @@ use lib.Dec.{lit<}
 use lib.ListN.{length, getD, set, take, drop, replicate, getD-replicate, length-append, List·getD-append}
 use lib.Seq.{getD-set-same, getD-set-other, getD-take, length-take-le}
 use Rattle.lists.specs.Part.{part-at}
-use Rattle.lists.specs.Table.{table, vector, Square, row-below, column-below, index-of, index-below, row-fits}
+use Rattle.lists.specs.Table.{table, vector, Square, row-below, column-below, index-of, index-below}
 use Rattle.modular.specs.Congruence.{Congruent, equals, flip, _⨾_}
 use Rattle.modular.specs.Prime.{below-equal}
 use Rattle.residue.specs.Modulus.{modulus, modulus-prime}
-use Rattle.skew.specs.Subset.{Subset, _∈_, _∉_, Member, inside, outside, member?, clash, count, count-suc, marked, marked-in, marked-out}
+use Rattle.skew.specs.Subset.{Subset, _∈_, _∉_, Member, inside, outside, member?, clash, count, count-suc, count-most, count-below, marked, marked-in, marked-out}
 use Rattle.skew.specs.Inverse.{Matrix, Skew, Inverse, same-entries, same-members, inverse-unique}
 use Rattle.skew.specs.Column.{Witness}
 use Rattle.skew.specs.Decide.{witness-singular}
-use Rattle.skew.specs.Listing.{Listed, Element, along, element, ascending, count-below, count-most, skew-along, inverse-along, along-inverse}
+use Rattle.skew.specs.Listing.{Listed, along, element, ascending, skew-along, inverse-along, along-inverse}
 use Rattle.matching.specs.Graph.{Graph, tutte, tutte-upper, upper}
 use Rattle.matching.specs.Session.{InverseTable}
 use Rattle.matching.specs.Model.{skew}
-use Rattle.sequence.specs.Formed.{Tells, tells-false}
+use Rattle.sequence.specs.Formed.{Tells}
 use Rattle.tutte.specs.Table.{Ascending, Filled, listed}
 use Rattle.pivot.specs.Words.{Small, matrix}
 use Rattle.exchange.specs.Run.{Holds, word, word-diagonal, word-small, word-matrix}
-use Rattle.solve.specs.Solved.{Blank, filled-matrix, filled-below, word-below, upper-word}
+use Rattle.solve.specs.Solved.{Blank, filled-matrix, filled-below, word-below}
 
 -- the k vertices before m that are marked, in ascending order
 pub record Listing (m : ℕ) (marks vertices : List ℕ) (k : ℕ) : Type 0 where

@@ -4,7 +4,7 @@ use exchange::Outcome;
 ghost use mathlib.Core.Path.{_≡_};
 ghost use Prim.Native.Nat.{ℕ, _*_, _-_, _%_, _≤_, _<_};
 ghost use lib.ListN.{length};
-ghost use Rattle.lists.specs.Table.{table, Square};
+ghost use Rattle.lists.specs.Table.{table};
 ghost use Rattle.residue.specs.Modulus.{modulus};
 ghost use Rattle.skew.specs.Subset.{Subset, marked};
 ghost use Rattle.matching.specs.Graph.{over};

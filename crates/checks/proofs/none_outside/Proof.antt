@@ -1,6 +1,6 @@
 -- `checks::none_outside` meets its contract. The invariant of its loop: the weights before i that are out of range are counted, at most. The
 -- measure is what is left. Assumes nothing.
-use mathlib.Core.Path.{_≡_, sym, _∙_}
+use mathlib.Core.Path.{_≡_, sym}
 use mathlib.Core.Bool.{true≢false}
 use Prim.Native.Nat.{_-_, _≤_, _<_}
 use native.Mathlib.Omega.{arith}

@@ -1,6 +1,6 @@
 -- `compact::all_clear` meets its contract. The invariant of its loop: the first a rows are clear. The measure is what is left.
 -- Assumes nothing.
-use mathlib.Core.Path.{_≡_, _∙_}
+use mathlib.Core.Path.{_≡_}
 use Prim.Native.Nat.{_+_, _*_, _-_, _≤_}
 use native.Mathlib.Omega.{arith}
 use lib.ListN.{length}

@@ -1,7 +1,6 @@
 -- `compact::is_inverse` meets its contract: the vertices are listed in a part of an array, and the part of those listed is lent.
 -- Assumes nothing.
 use mathlib.Core.Path.{_≡_, sym, _∙_}
-use Prim.Native.Nat.{_*_, _≤_}
 use native.Mathlib.Omega.{arith}
 use lib.ListN.{length}
 use Rattle.lists.specs.Part.{length-part}

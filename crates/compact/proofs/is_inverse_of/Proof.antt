@@ -1,7 +1,7 @@
 -- `compact::is_inverse_of` meets its contract: it lends a table of zeros for the vertices listed, from 32 * 32, 64 * 64 or 96 * 96 words.
 -- Assumes nothing.
 use mathlib.Core.Path.{sym}
-use Prim.Native.Nat.{_*_, _≤_}
+use Prim.Native.Nat.{_≤_}
 use native.Mathlib.Omega.{arith}
 use lib.ListN.{length}
 use Rattle.lists.specs.Part.{length-part}

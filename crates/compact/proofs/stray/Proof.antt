@@ -1,7 +1,6 @@
 -- `compact::stray` meets its contract: a test for each part of the definition. Assumes nothing.
 use mathlib.Core.Path.{refl}
 use native.Mathlib.Omega.{arith}
-use borrow.Author.Needs.{needs}
 use Rattle.compact.proofs.stray.Statement.{statement}
 use Rattle.compact.proofs.stray.Tie as tie
 

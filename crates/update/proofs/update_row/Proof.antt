@@ -1,6 +1,6 @@
 -- `update::update_row` meets its contract: where both factors are 0 the row is only reduced. Assumes nothing.
 use mathlib.Core.Path.{_≡_, _∙_, ap}
-use Prim.Native.Nat.{ℕ, _+_, _*_, _%_}
+use Prim.Native.Nat.{ℕ, _%_}
 use native.Mathlib.Omega.{arith}
 use Rattle.lists.specs.Values.{list-of-same}
 use Rattle.residue.specs.Modulus.{modulus}
