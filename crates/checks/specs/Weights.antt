@@ -19,6 +19,11 @@ module _ (p : ℕ) (g : Graph) where
   unfolding bad-weight
   weights-absent h = found-absent (first-outside p g) .1 (λ k m d. d (h k m))
 
+-- the largest graph has 96 * 95 / 2 pairs of vertices
+pub pair-count-small : (n : ℕ) → n ≤ largest → pair-count n ≤ 4560
+pair-count-small n l =
+    let k : n * (n - 1) ≤ 9120 = mul-le-mul {n₁ = n} {m₁ = n - 1} {n₂ = 96} {m₂ = 95} (omega arith) (omega arith) in omega arith
+
 -- one for each pair of vertices, and none where there are too many vertices
 abbrev pub needed : ℕ → ℕ
 needed n = choose (decLt largest n) 0 (pair-count n)
@@ -35,6 +40,4 @@ needed-small n = go (decLt largest n)
   where
     go : Dec (largest < n) → needed n ≤ 4560
     go (yes l) = omega (arith, needed-none n l)
-    go (no l) =
-        let k : n * (n - 1) ≤ 9120 = mul-le-mul {n₁ = n} {m₁ = n - 1} {n₂ = 96} {m₂ = 95} (omega arith) (omega arith) in
-        omega (arith, needed-all n (omega arith))
+    go (no l) = omega (arith, needed-all n (omega arith), pair-count-small n (omega arith))

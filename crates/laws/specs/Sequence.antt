@@ -1,7 +1,6 @@
 -- The sequence of bytes that valid pairs make: it gives the pairs back, and it is well formed. Assumes nothing.
 use mathlib.Core.Path.{_≡_, refl, sym, ap, _∙_}
 use mathlib.Core.Logic.{_≢_}
-use mathlib.Core.Bool.{Bool, true, false}
 use mathlib.Core.List.{List, [], _∷_, _++_, append-assoc}
 use Prim.Native.Nat.{ℕ, zero, suc, _+_, _-_, _≤_, _<_}
 use native.Mathlib.Omega.{arith}
@@ -9,7 +8,7 @@ use native.Mathlib.Decide.{ℕ-discrete, decLt}
 use lib.ListN.{length, getD, take, replicate, length-append, length-replicate, getD-replicate, List·getD-append}
 use lib.Seq.{getD-append-seam, getD-append-add, take-suc, length-take-le, getD-take, ext-getD}
 use Rattle.modular.specs.Prime.{OddPrime}
-use Rattle.skew.specs.Subset.{Subset, _∈_, _∉_, clash, Without, without, smaller, bit, remove, remove-same, remove-other, count, count-none, count-suc, count-without}
+use Rattle.skew.specs.Subset.{Subset, _∈_, _∉_, clash, Without, without, smaller, remove, remove-same, remove-other, count, count-without, count-most}
 use Rattle.matching.specs.Decision.{Every}
 use Rattle.matching.specs.Graph.{Graph, cell}
 use Rattle.matching.specs.Pairs.{Pair, Pairs, unused, bytes, sequence, pairs-on, unmatched}
@@ -124,14 +123,6 @@ module _ {p : ℕ} (P : OddPrime p) (g : Graph) (S : Subset) where
   count-left (e ∷ earlier) (cons f v) =
       omega
       (arith, count-left earlier v, count-without (g .n) (fits-without e earlier f) (omega (arith, f .ordered, f .below)) (f .below))
-
-pub count-most : (n : ℕ) (L : Subset) → count n L ≤ n
-count-most zero L = omega (arith, count-none L)
-count-most (suc n) L = simp count-suc (omega (arith, count-most n L, at-most-one (L n)))
-  where
-    at-most-one : (b : Bool) → bit b ≤ 1
-    at-most-one true = omega arith
-    at-most-one false = omega arith
 
 -- the sequence of valid pairs of a graph, whatever stands after it, is well formed
 module _ {p : ℕ} (P : OddPrime p) (g : Graph) (S : Subset) where

@@ -51,8 +51,23 @@ blank-part n m h l = record {
     getD-replicate (suc m) zero = refl
     getD-replicate (suc m) (suc x) = getD-replicate m x
 
--- a filled table holds the matrix
-module _ (g : Graph) (S : Subset) {t t' : List ℕ} (B : Blank (g .n) t) (F : Filled g S (g .n) t t') where
+-- a table of zeros that is filled above its diagonal
+module _ {n : ℕ} {E : Matrix} {t t' : List ℕ} (F : Filled n E n t t') where
+  pub filled-matrix : {M : Matrix} → Skew modulus n M → ((i j : ℕ) → i < j → j < n → M i j ≡ E i j)
+      → (i j : ℕ) → i < n → j < n → Congruent modulus (matrix n t' i j) (M i j)
+  filled-matrix S h =
+      by-triangle (modulus-prime .odd) (mirror-skew (modulus-prime .odd) (table n t') n) S
+      (λ i j l hj. rw (mirror-above (modulus-prime .odd) (table n t') i j l, F .above i j (omega arith) l hj, h i j l hj) (equals refl))
+
+  pub filled-below : {b : ℕ} → Blank n t → 0 < b → ((i j : ℕ) → i < j → j < n → E i j < b) → Small b n t'
+  filled-below {b} B positive small = record { at = λ i j hi hj. go i j hi hj (decLt i j) }
+    where
+      go : (i j : ℕ) → i < n → j < n → Dec (i < j) → table n t' i j < b
+      go i j hi hj (yes l) = rw (F .above i j hi l hj) (small i j l hj)
+      go i j hi hj (no l) = rw (F .on-below i j hi (omega arith), B .zero (i * n + j) (index-below n i j hi hj)) (omega arith)
+
+-- filled with the matrix on a set
+module _ (g : Graph) (S : Subset) {t t' : List ℕ} (B : Blank (g .n) t) (F : Filled (g .n) (restricted g S) (g .n) t t') where
   abbrev n : ℕ
   n = g .n
 
@@ -73,10 +88,7 @@ module _ (g : Graph) (S : Subset) {t t' : List ℕ} (B : Blank (g .n) t) (F : Fi
       turn i j hi hj (outside o) (outside o') = rw (o, o') (equals (omega arith))
 
   same : (i j : ℕ) → i < n → j < n → Congruent modulus (matrix n t' i j) (part i j)
-  same =
-      by-triangle (modulus-prime .odd) (mirror-skew (modulus-prime .odd) (table n t') n) part-skew
-      (λ i j l hj.
-      rw (mirror-above (modulus-prime .odd) (table n t') i j l, F .above i j (omega arith) l hj, tutte-upper g modulus i j l) (equals refl))
+  same = filled-matrix F part-skew (λ i j l hj. rw (tutte-upper g modulus i j l) refl)
 
   pub filled-holds : Holds n A S t'
   filled-holds = record {
@@ -87,16 +99,12 @@ module _ (g : Graph) (S : Subset) {t t' : List ℕ} (B : Blank (g .n) t) (F : Fi
 
   -- its words are those of 16 bits
   pub filled-small : ((i j : ℕ) → i < j → j < n → upper g i j < 65536) → Small 65536 n t'
-  filled-small small = record { at = λ i j hi hj. go i j hi hj (decLt i j) }
+  filled-small small = filled-below F B (omega arith) (λ i j l hj. below i j l hj (member? S i) (member? S j))
     where
-      go : (i j : ℕ) → i < n → j < n → Dec (i < j) → table n t' i j < 65536
-      go i j hi hj (yes l) = rw (F .above i j hi l hj) (below (member? S i) (member? S j))
-        where
-          below : Member S i → Member S j → restricted g S i j < 65536
-          below (inside s) (inside s') = rw (s, s') (small i j l hj)
-          below (inside s) (outside o) = rw (s, o) (omega arith)
-          below (outside o) _ = rw o (omega arith)
-      go i j hi hj (no l) = rw (F .on-below i j hi (omega arith), B .zero (i * n + j) (index-below n i j hi hj)) (omega arith)
+      below : (i j : ℕ) → i < j → j < n → Member S i → Member S j → restricted g S i j < 65536
+      below i j l hj (inside s) (inside s') = rw (s, s') (small i j l hj)
+      below i j l hj (inside s) (outside o) = rw (s, o) (omega arith)
+      below i j l hj (outside o) _ = rw o (omega arith)
 
 -- an entry above the diagonal, and one below it
 pub word-above : (n : ℕ) (t : List ℕ) (i j : ℕ) → i < j → word n t i j ≡ table n t i j % modulus

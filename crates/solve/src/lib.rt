@@ -13,8 +13,8 @@ ghost use Rattle.tutte.specs.Table.{Complete};
 ghost use Rattle.exchange.specs.Run.{word, witness-word};
 ghost use Rattle.solve.specs.Solved.{Copied, Blank, Solved};
 
-// Entry (i, j) of the skew matrix that a table holds above its diagonal, where it stands there.
-fn above(t: &[u64], n: usize, i: usize, j: usize) -> u16
+// Entry (i, j) of the skew matrix that a table holds above its diagonal, where it stands there. For proved callers.
+pub fn above(t: &[u64], n: usize, i: usize, j: usize) -> u16
     requires { ⌜ Square n (now t) × (i < j) × (j < n) ⌝ }
     ensures { λ r. ⌜ r ≡ word n (now (t .entry)) i j ⌝ }
 {

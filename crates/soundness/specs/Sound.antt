@@ -1,27 +1,20 @@
 -- What the confirmation of a session says. Assumes nothing.
-use mathlib.Core.Path.{_≡_, sym, ap, _∙_}
-use mathlib.Core.Bool.{Bool, false}
+use mathlib.Core.Path.{_≡_, sym, _∙_}
 use mathlib.Core.List.{List, [], _∷_}
 use Prim.Native.Nat.{ℕ, _*_, _≤_}
 use native.Mathlib.Omega.{arith}
-use lib.ListN.{length, getD, take}
-use lib.Seq.{length-take-le, getD-take}
-use Rattle.residue.specs.Modulus.{modulus, modulus-prime}
-use Rattle.skew.specs.Subset.{Subset}
-use Rattle.skew.specs.Decide.{witness-singular}
+use lib.ListN.{length}
+use Rattle.residue.specs.Modulus.{modulus}
 use Rattle.matching.specs.Decision.{Refusal, because, Cause, accepted, refused, judge, not?}
-use Rattle.matching.specs.Graph.{Graph, over, tutte}
+use Rattle.matching.specs.Graph.{over}
 use Rattle.matching.specs.Pairs.{everything, unmatched, pairs-on}
 use Rattle.matching.specs.Session.{State, graph-of, pairs-of, InverseTable, WellFormed}
-use Rattle.matching.specs.Opening.{Singular}
-use Rattle.matching.specs.Model.{skew}
 use Rattle.matching.specs.Decided.{well-formed?, inverse-table?}
 use Rattle.matching.specs.Causes.{lent-always, lent-to-session, opening-causes, ill-formed, not-inverse, session-ruling}
 use Rattle.laws.specs.Sound.{judge-accepted, graph-in-order, judge-first, judge-second, judge-refused, judge-next, when-at, unless-absent}
-use Rattle.laws.specs.Determined.{inverse-table-unique, table-over}
 use Rattle.checks.specs.Answers.{ruling-of}
 use Rattle.checks.specs.declared.Ruling.{Ruling}
-use Rattle.sequence.specs.Formed.{Lent, Tells, tells-false, Left}
+use Rattle.sequence.specs.Formed.{Lent, Left}
 use Rattle.tutte.specs.Table.{Complete}
 
 -- a session over lent tables and buffers
@@ -66,22 +59,6 @@ ready {n} {adjacency} {weights} {inverse} {sequence} J =
       inverse-fits = k .0 .1 .1 .0;
       sequence-fits = k .0 .1 .1 .1 .0;
     }
-
--- the inverse solved again, compared with the words of a buffer
-module _ (g : Graph) (S : Subset) (table inverse : List ℕ) (long : g .n * g .n ≤ length inverse) where
-  front : InverseTable modulus g S inverse → InverseTable modulus g S (take (g .n * g .n) inverse)
-  front I = table-over inverse _ (λ x h. getD-take (g .n * g .n) inverse x 0 h) I
-
-  pub inverse-compared : length table ≡ g .n * g .n → InverseTable modulus g S table → (r : Bool) → Tells (table ≡ take (g .n * g .n) inverse) r
-      → Tells (InverseTable modulus g S inverse) r
-  inverse-compared l I r T = record {
-    when-true = λ e. table-over table inverse (λ x h. sym (getD-take (g .n * g .n) inverse x 0 h) ∙ ap (λ w. getD w x 0) (sym (T .when-true e))) I;
-    when-false = λ e J. T .when-false e (inverse-table-unique modulus-prime g S l (length-take-le (g .n * g .n) inverse long) I (front J));
-  }
-
-pub inverse-none : (g : Graph) (S : Subset) (inverse : List ℕ) {f : ℕ} {w : List ℕ} → Singular modulus g S f w → Tells (InverseTable modulus g S inverse) false
-inverse-none g S inverse s =
-    tells-false (λ I. witness-singular modulus-prime (g .n) (tutte g modulus) (skew modulus-prime g S) S (s .kernel) (_, I .is-inverse))
 
 -- the causes in their order
 module _ (s : State) where

@@ -9,7 +9,7 @@ use native.Mathlib.Decide.{ℕ-discrete}
 use lib.ListN.{length, getD}
 use Rattle.lists.specs.Values.{list-of, length-list-of, getD-list-of}
 use Rattle.lists.specs.Part.{replaced, length-replaced}
-use Rattle.lists.specs.Table.{table, index-below, row-fits, row-left, row-inside, row-other}
+use Rattle.lists.specs.Table.{table, vector, index-below, row-fits, row-left, row-inside, row-other}
 use Rattle.skew.specs.Subset.{Subset}
 use Rattle.skew.specs.Inverse.{Matrix}
 use Rattle.skew.specs.Exchange.{select}
@@ -26,32 +26,38 @@ pub record Complete (n : ℕ) (adjacency weights : List ℕ) : Type 0 where
 abbrev pub restricted : Graph → Subset → Matrix
 restricted g S i j = select (S i) (select (S j) (upper g i j) 0) 0
 
--- so many words of a row, from the diagonal on
-abbrev pub row-of : Graph → Subset → ℕ → ℕ → List ℕ
-row-of g S i size = list-of size (λ k. restricted g S i (i + 1 + k))
+-- an entry above the diagonal, at vertices that are listed
+abbrev pub listed : Graph → List ℕ → Matrix
+listed g vertices i j = upper g (vector vertices i) (vector vertices j)
 
--- the first m rows are filled above the diagonal, and nothing else is changed
-pub record Filled (g : Graph) (S : Subset) (m : ℕ) (t t' : List ℕ) : Type 0 where
+-- vertices below n, in ascending order
+pub record Ascending (n : ℕ) (vertices : List ℕ) : Type 0 where
+  pub below : (i : ℕ) → i < length vertices → vector vertices i < n
+  pub ordered : (i j : ℕ) → i < j → j < length vertices → vector vertices i < vector vertices j
+
+-- so many words of row i of a matrix, from the diagonal on
+abbrev pub row-of : Matrix → ℕ → ℕ → List ℕ
+row-of E i size = list-of size (λ k. E i (i + 1 + k))
+
+-- the first m of n rows are filled above the diagonal, and nothing else is changed
+pub record Filled (n : ℕ) (E : Matrix) (m : ℕ) (t t' : List ℕ) : Type 0 where
   pub size : length t' ≡ length t
-  pub above : (i j : ℕ) → i < m → i < j → j < g .n → table (g .n) t' i j ≡ restricted g S i j
-  pub on-below : (i j : ℕ) → i < g .n → j ≤ i → table (g .n) t' i j ≡ table (g .n) t i j
+  pub above : (i j : ℕ) → i < m → i < j → j < n → table n t' i j ≡ E i j
+  pub on-below : (i j : ℕ) → i < n → j ≤ i → table n t' i j ≡ table n t i j
 
-pub filled-start : (g : Graph) (S : Subset) (t : List ℕ) → Filled g S 0 t t
-filled-start g S t = record { size = refl; above = λ i j l. absurd (omega arith); on-below = λ i j _ _. refl }
+pub filled-start : (n : ℕ) (E : Matrix) (t : List ℕ) → Filled n E 0 t t
+filled-start n E t = record { size = refl; above = λ i j l. absurd (omega arith); on-below = λ i j _ _. refl }
 
 -- row m
-module _ (g : Graph) (S : Subset) {m : ℕ} {t s : List ℕ} (F : Filled g S m t s) (hm : m < g .n) (full : length t ≡ g .n * g .n) where
-  pub filled-next : {part : List ℕ} (size : ℕ) → m + 1 + size ≡ g .n → part ≡ row-of g S m size
-      → Filled g S (m + 1) t (replaced s (m * g .n + (m + 1)) size part)
+module _ (n : ℕ) (E : Matrix) {m : ℕ} {t s : List ℕ} (F : Filled n E m t s) (hm : m < n) (full : length t ≡ n * n) where
+  pub filled-next : {part : List ℕ} (size : ℕ) → m + 1 + size ≡ n → part ≡ row-of E m size
+      → Filled n E (m + 1) t (replaced s (m * n + (m + 1)) size part)
   filled-next {part} size e q = record {
     size = length-replaced s (m * n + (m + 1)) size part room len ∙ F .size;
     above = λ i j l h hj. above i j l h hj (ℕ-discrete i m);
     on-below = λ i j hi l. below i j hi l (ℕ-discrete i m);
   }
     where
-      n : ℕ
-      n = g .n
-
       full' : length s ≡ n * n
       full' = F .size ∙ full
 
@@ -64,7 +70,7 @@ module _ (g : Graph) (S : Subset) {m : ℕ} {t s : List ℕ} (F : Filled g S m t
       other : (i j : ℕ) → j < n → i ≢ m → table n (replaced s (m * n + (m + 1)) size part) i j ≡ table n s i j
       other = row-other n m (m + 1) (m * n + (m + 1)) size s part refl len hm (omega arith) full'
 
-      above : (i j : ℕ) → i < m + 1 → i < j → j < n → Dec (i ≡ m) → table n (replaced s (m * n + (m + 1)) size part) i j ≡ restricted g S i j
+      above : (i j : ℕ) → i < m + 1 → i < j → j < n → Dec (i ≡ m) → table n (replaced s (m * n + (m + 1)) size part) i j ≡ E i j
       above i j l h hj (no d) = other i j hj d ∙ F .above i j (omega arith) h hj
       above i j l h hj (yes w) =
           let z : m + 1 + (j - (m + 1)) ≡ j = omega arith in
@@ -72,7 +78,7 @@ module _ (g : Graph) (S : Subset) {m : ℕ} {t s : List ℕ} (F : Filled g S m t
           (row-inside n m (m + 1) (m * n + (m + 1)) size s part refl len hm (omega arith) full' j (omega arith) (omega arith)
           ∙ ap (λ l. getD l (j - (m + 1)) 0) q
           ∙ getD-list-of size _ (j - (m + 1)) (omega arith)
-          ∙ ap (restricted g S m) z)
+          ∙ ap (E m) z)
 
       below : (i j : ℕ) → i < n → j ≤ i → Dec (i ≡ m) → table n (replaced s (m * n + (m + 1)) size part) i j ≡ table n t i j
       below i j hi l (no d) = other i j (omega arith) d ∙ F .on-below i j hi l

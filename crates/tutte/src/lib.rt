@@ -1,14 +1,15 @@
-// The Tutte matrix of a graph in order: one column of it; and, on a set of vertices, its entries above the diagonal, as a table of words.
-// The set is a byte for each vertex, not 0 for those in it.
+// The Tutte matrix of a graph in order: one column of it; and its entries above the diagonal as a table of words, on a set of vertices, which
+// is a byte for each vertex, not 0 for those in it, or at listed vertices alone.
 use residue::Residue;
 ghost use mathlib.Core.Path.{_≡_};
 ghost use Prim.Native.Nat.{_+_, _*_, _<_};
 ghost use lib.ListN.{length};
 ghost use Rattle.lists.specs.Values.{list-of};
+ghost use Rattle.lists.specs.Table.{Square};
 ghost use Rattle.residue.specs.Modulus.{modulus};
 ghost use Rattle.skew.specs.Subset.{marked};
 ghost use Rattle.matching.specs.Graph.{upper, tutte, over};
-ghost use Rattle.tutte.specs.Table.{Complete, restricted, row-of, Filled};
+ghost use Rattle.tutte.specs.Table.{Complete, restricted, listed, Ascending, row-of, Filled};
 
 // The weight of i < j where they are adjacent, else 0.
 fn upper(n: usize, adjacency: &[u8], weights: &[u16], i: usize, j: usize) -> u16
@@ -42,7 +43,7 @@ fn entry(n: usize, adjacency: &[u8], weights: &[u16], set: &[u8], i: usize, j: u
 fn fill_row(n: usize, adjacency: &[u8], weights: &[u16], set: &[u8], i: usize, row: &mut [u64])
     requires { ⌜ Complete n (now adjacency) (now weights) × (length (now set) ≡ n) ⌝ }
     requires { ⌜ (i < n) × (i + 1 + length (now row) ≡ n) ⌝ }
-    ensures { λ _. ⌜ now (row .exit) ≡ row-of (over n (now (adjacency .entry)) (now (weights .entry))) (marked (now (set .entry))) i (length (now (row .entry))) ⌝ }
+    ensures { λ _. ⌜ now (row .exit) ≡ row-of (restricted (over n (now (adjacency .entry)) (now (weights .entry))) (marked (now (set .entry)))) i (length (now (row .entry))) ⌝ }
 {
     let mut k = 0;
     while k < row.len() {
@@ -55,7 +56,7 @@ fn fill_row(n: usize, adjacency: &[u8], weights: &[u16], set: &[u8], i: usize, r
 pub fn fill(n: usize, adjacency: &[u8], weights: &[u16], set: &[u8], table: &mut [u64])
     requires { ⌜ Complete n (now adjacency) (now weights) × (length (now set) ≡ n) ⌝ }
     requires { ⌜ length (now table) ≡ n * n ⌝ }
-    ensures { λ _. ⌜ Filled (over n (now (adjacency .entry)) (now (weights .entry))) (marked (now (set .entry))) n (now (table .entry)) (now (table .exit)) ⌝ }
+    ensures { λ _. ⌜ Filled n (restricted (over n (now (adjacency .entry)) (now (weights .entry))) (marked (now (set .entry)))) n (now (table .entry)) (now (table .exit)) ⌝ }
 {
     let mut i = 0;
     while i < n {
@@ -63,6 +64,46 @@ pub fn fill(n: usize, adjacency: &[u8], weights: &[u16], set: &[u8], table: &mut
         let at = i * n + lo;
         let end = i * n + n;
         fill_row(n, adjacency, weights, set, i, &mut table[at..end]);
+        i += 1;
+    }
+}
+
+// Row i from the diagonal on, at vertices that are listed.
+fn listed_row(
+    n: usize,
+    adjacency: &[u8],
+    weights: &[u16],
+    vertices: &[u8],
+    i: usize,
+    row: &mut [u64],
+)
+    requires { ⌜ Complete n (now adjacency) (now weights) × Ascending n (now vertices) ⌝ }
+    requires { ⌜ (i < length (now vertices)) × (i + 1 + length (now row) ≡ length (now vertices)) ⌝ }
+    ensures { λ _. ⌜ now (row .exit) ≡ row-of (listed (over n (now (adjacency .entry)) (now (weights .entry))) (now (vertices .entry))) i (length (now (row .entry))) ⌝ }
+{
+    let a = vertices[i] as usize;
+    let mut k = 0;
+    while k < row.len() {
+        let b = vertices[i + 1 + k] as usize;
+        row[k] = upper(n, adjacency, weights, a, b) as u64;
+        k += 1;
+    }
+}
+
+// The entries above the diagonal at vertices that are listed in ascending order, as a table of their own; its other words stay as they are.
+// For proved callers.
+pub fn fill_listed(n: usize, adjacency: &[u8], weights: &[u16], vertices: &[u8], table: &mut [u64])
+    requires { ⌜ Complete n (now adjacency) (now weights) × Ascending n (now vertices) ⌝ }
+    requires { ⌜ Square (length (now vertices)) (now table) ⌝ }
+    ensures { λ _. ⌜ Filled (length (now (vertices .entry))) (listed (over n (now (adjacency .entry)) (now (weights .entry))) (now (vertices .entry))) (length (now (vertices .entry))) (now (table .entry)) (now (table .exit)) ⌝ }
+{
+    let size = vertices.len();
+    let mut i = 0;
+    while i < size {
+        let lo = i + 1;
+        let at = i * size + lo;
+        let end = i * size + size;
+        listed_row(n, adjacency, weights, vertices, i, &mut table[at..end]);
         i += 1;
     }
 }

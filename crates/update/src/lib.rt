@@ -28,8 +28,19 @@ fn multiples(x: &[u16], g: u16, u: &mut [u16])
     }
 }
 
+// Reduces a row.
+fn reduce_row(row: &mut [u16])
+    ensures { λ _. ⌜ now (row .exit) ≡ list-of (length (now (row .entry))) (λ j. combined 0 0 0 0 (vector (now (row .entry)) j)) ⌝ }
+{
+    let mut j = 0;
+    while j < row.len() {
+        row[j] = combine(0, 0, 0, 0, row[j]);
+        j += 1;
+    }
+}
+
 // Adds f times u and h times v to a row, and reduces it.
-fn update_row(row: &mut [u16], u: &[u16], v: &[u16], f: u16, h: u16)
+fn combine_row(row: &mut [u16], u: &[u16], v: &[u16], f: u16, h: u16)
     requires { ⌜ (length (now u) ≡ length (now row)) × (length (now v) ≡ length (now row)) ⌝ }
     ensures { λ _. ⌜ now (row .exit) ≡ list-of (length (now (row .entry))) (λ j. combined f (vector (now (u .entry)) j) h (vector (now (v .entry)) j) (vector (now (row .entry)) j)) ⌝ }
 {
@@ -38,6 +49,18 @@ fn update_row(row: &mut [u16], u: &[u16], v: &[u16], f: u16, h: u16)
         row[j] = combine(f, u[j], h, v[j], row[j]);
         j += 1;
     }
+}
+
+// The same; a row to which nothing is added takes less time.
+fn update_row(row: &mut [u16], u: &[u16], v: &[u16], f: u16, h: u16)
+    requires { ⌜ (length (now u) ≡ length (now row)) × (length (now v) ≡ length (now row)) ⌝ }
+    ensures { λ _. ⌜ now (row .exit) ≡ list-of (length (now (row .entry))) (λ j. combined f (vector (now (u .entry)) j) h (vector (now (v .entry)) j) (vector (now (row .entry)) j)) ⌝ }
+{
+    if f as u32 + h as u32 == 0 {
+        reduce_row(row);
+        return;
+    }
+    combine_row(row, u, v, f, h);
 }
 
 // Adds y(i) times u and x(i) times v to each row i.

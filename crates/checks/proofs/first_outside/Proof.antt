@@ -1,74 +1,51 @@
--- `checks::first_outside` meets its contract. The invariant of its loop: the weights before i are in range. The measure is what is left of the count.
--- Assumes nothing.
-use mathlib.Core.Path.{sym}
-use Prim.Native.Nat.{_-_, _≤_, _<_}
+-- `checks::first_outside` meets its contract: where none is found no search is needed. Assumes nothing.
+use mathlib.Core.Path.{sym, subst}
+use Prim.Native.Nat.{ℕ, _≤_, _<_}
 use native.Mathlib.Omega.{arith}
-use lib.ListN.{getD}
-use borrow.Author.Count.{below-none, below-more}
+use lib.ListN.{length}
+use lib.Seq.{length-take-le, getD-take}
 use borrow.Author.Needs.{needs}
 use Rattle.residue.specs.Modulus.{modulus}
-use Rattle.matching.specs.Decision.{Every}
-use Rattle.checks.specs.Weights.{weight-found, weights-absent}
+use Rattle.checks.specs.Weights.{weights-absent, pair-count-small}
 use Rattle.checks.proofs.first_outside.Statement.{statement}
 use Rattle.checks.proofs.first_outside.Tie as tie
 
-abbrev Inv-loop : tie.InvT-loop
-Inv-loop n weights count i₀ i = (i ≤ count) × Every i (λ x. (0 < getD weights x 0) × (getD weights x 0 < modulus))
+within : (at : tie.After-pair-count) → at .pair-count .result ≤ length (at .before .before .args .weights .now)
+within at = omega (arith, at .pair-count .ensures, at .before .before .pre .1)
 
-abbrev μ-loop : tie.MeasureT-loop
-μ-loop n weights count i₀ i = count - i
-
-pair-count-requires : tie.Need-pair-count-requires Inv-loop μ-loop
+pair-count-requires : tie.Need-pair-count-requires
 pair-count-requires c κs = search needs
 
-loop-holds : tie.Need-loop-holds Inv-loop μ-loop
-loop-holds c = (search needs, below-none _)
+slice-aggregate-none-outside : tie.Need-slice-aggregate-none-outside
+slice-aggregate-none-outside c = sym (length-take-le _ _ (within (c .before)))
 
-mul-weight : tie.Need-mul-weight Inv-loop μ-loop
-mul-weight c = omega arith
+none-outside-requires : tie.Need-none-outside-requires
+none-outside-requires c κs =
+    let at = c .before in
+    let s = at .before .before in
+    omega (arith, length-take-le (at .pair-count .result) (s .args .weights .now) (within at), at .pair-count .ensures, pair-count-small (s .args .n) (s .pre .0))
 
-shared-slice-read-weight : tie.Need-shared-slice-read-weight Inv-loop μ-loop
-shared-slice-read-weight c = omega arith
-
-cast-weight : tie.Need-cast-weight Inv-loop μ-loop
-cast-weight c = omega (arith, c .shared-slice-known2 .given (c .before .before .loop .i))
-
-returns : tie.Need-returns Inv-loop μ-loop
-returns c adjacency =
+returns : tie.Need-returns
+returns c = λ adjacency.
     let at = c .before .before .before in
-    sym (weight-found modulus _ (at .loop .i) (omega arith) (λ h. omega (arith, h .0)) (at .loop .inv .1))
+    let s = at .before .before in
+    let count = at .pair-count .result in
+    let l = length-take-le count (s .args .weights .now) (within at) in
+    sym (weights-absent modulus _ (λ x h. subst (λ (w : ℕ). (0 < w) × (w < modulus)) (getD-take count (s .args .weights .now) x 0 (omega (arith, at .pair-count .ensures))) (c .before .none-outside .ensures (c .if1 .taken) x (omega (arith, at .pair-count .ensures)))))
 
-returns-2 : tie.Need-returns-2 Inv-loop μ-loop
-returns-2 c adjacency =
-    let at = c .before .before .before .before in
-    sym (weight-found modulus _ (at .loop .i) (omega arith) (λ h. omega (arith, h .1)) (at .loop .inv .1))
+find-outside-requires : tie.Need-find-outside-requires
+find-outside-requires c κs = search needs
 
-add-i : tie.Need-add-i Inv-loop μ-loop
-add-i c = omega arith
-
-loop-less : tie.Need-loop-less Inv-loop μ-loop
-loop-less c = omega arith
-
-loop-again : tie.Need-loop-again Inv-loop μ-loop
-loop-again c = (omega arith, below-more _ _ (c .before .before .before .before .loop .inv .1) (omega arith, omega arith))
-
-returns-3 : tie.Need-returns-3 Inv-loop μ-loop
-returns-3 c adjacency = sym (weights-absent modulus _ (λ x l. c .before .loop .inv .1 x (omega arith)))
+returns-2 : tie.Need-returns-2
+returns-2 c = search needs
 
 pub first-outside-spec : {M : Type 1} → statement M
 first-outside-spec =
     tie.close
     (tie.spec
-    Inv-loop
-    μ-loop
     pair-count-requires
-    loop-holds
-    mul-weight
-    shared-slice-read-weight
-    cast-weight
+    slice-aggregate-none-outside
+    none-outside-requires
     returns
-    returns-2
-    add-i
-    loop-less
-    loop-again
-    returns-3)
+    find-outside-requires
+    returns-2)

@@ -8,13 +8,13 @@ use Rattle.lists.specs.Part.{part-length}
 use Rattle.lists.specs.Table.{Room, row-room}
 use Rattle.skew.specs.Subset.{marked}
 use Rattle.matching.specs.Graph.{over}
-use Rattle.tutte.specs.Table.{Filled, filled-start, filled-next}
+use Rattle.tutte.specs.Table.{restricted, Filled, filled-start, filled-next}
 use borrow.Author.Needs.{needs}
 use Rattle.tutte.proofs.fill.Statement.{statement}
 use Rattle.tutte.proofs.fill.Tie as tie
 
 abbrev Inv-loop : tie.InvT-loop
-Inv-loop n adjacency weights set table₀ i₀ table i = (i ≤ n) × Filled (over n adjacency weights) (marked set) i table₀ table
+Inv-loop n adjacency weights set table₀ i₀ table i = (i ≤ n) × Filled n (restricted (over n adjacency weights) (marked set)) i table₀ table
 
 abbrev μ-loop : tie.MeasureT-loop
 μ-loop n adjacency weights set table₀ i₀ table i = n - i
@@ -84,7 +84,7 @@ loop-again c =
     let size = at .i * n + n - (at .i * n + (at .i + 1)) in
     let h = room w in
     let l : length (take size (drop (at .i * n + (at .i + 1)) (at .table))) ≡ size = part-length (at .table) (at .i * n + (at .i + 1)) size (omega arith) in
-    (omega arith, filled-next (over n (s .args .adjacency .now) (s .args .weights .now)) (marked (s .args .set .now)) (at .inv .1) (omega arith) (s .pre .1) size (omega arith) (rw l at (c .before .before .fill-row .ensures)))
+    (omega arith, filled-next n (restricted (over n (s .args .adjacency .now) (s .args .weights .now)) (marked (s .args .set .now))) (at .inv .1) (omega arith) (s .pre .1) size (omega arith) (rw l at (c .before .before .fill-row .ensures)))
 
 same-length : tie.Need-same-length Inv-loop μ-loop
 same-length c = c .before .loop .inv .1 .size
