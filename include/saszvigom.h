@@ -16,12 +16,12 @@
  * that there is no perfect matching: the weights may cancel.
  *
  * A weight is the value put for a variable of that matrix: it is no preference,
- * and finds no matching of largest or smallest weight. Weights should be drawn,
- * independent and uniform, as saszvigom_draws does from a seed, and not made up:
- * those that follow a pattern cancel often. With all weights 1, about a quarter
- * of the random graphs of 8 to 10 vertices that have a perfect matching are found
- * singular, and an eighth of those of 32 vertices with four neighbours on
- * average; with independent uniform weights at most n in 131040 graphs are.
+ * and finds no matching of largest or smallest weight. Weights are to be drawn
+ * uniformly and independently, and not made up: equal or hand-picked ones
+ * mislead. Four vertices with the edges 01, 02, 13, 23 and all weights 1 are
+ * singular, though 0 with 1 and 2 with 3 is a perfect matching. saszvigom_draws
+ * gives the weights of a seed; where a graph opens as singular, those of another
+ * seed may open it.
  *
  * saszvigom_read reads a graph from the bytes of a sheet, and saszvigom_draws
  * draws weights. saszvigom_open finds the inverse or a witness. With an inverse
@@ -285,13 +285,12 @@ uint64_t saszvigom_read(const uint8_t *sheet, size_t sheet_len,
  * saszvigom_read gives a sheet with that size and seed.
  *
  *   n          the number of vertices, 0 to 96
- *   seed       any number; another seed gives other weights
+ *   seed       any number
  *   weights    written; n * (n - 1) / 2 words, each from 1 to 65520
  *
- * The draws are those of a generator of 32 bits: enough that weights cancel only
- * by chance, and no secret. A graph that opens as singular may have a perfect
- * matching all the same: draw again with a few other seeds, and if it is
- * singular with all of them it almost surely has none. What is said of lengths,
+ * The draws are those of a generator of 32 bits, and no secret. A graph with an
+ * even number of vertices that opens as singular may have a perfect matching all
+ * the same: draw again with a few other seeds. What is said of lengths,
  * alignment, null and the bytes past those needed is as for saszvigom_open.
  *
  * Kind SASZVIGOM_DRAWS with the number of weights; else refused, with nothing
@@ -494,8 +493,9 @@ static inline unsigned saszvigom_larger_of(uint64_t number)
     return (unsigned)(number >> 24 & 0xFFu);
 }
 
-/* The pairs made after the call. It means nothing where the call was refused:
-   the pairs made are then those that were sent. */
+/* The pairs made after the call, for the kinds SASZVIGOM_OPENED, SASZVIGOM_PAIR,
+   SASZVIGOM_ROW and SASZVIGOM_REPLAYED. Where the call was refused the pairs made
+   are those that were sent. */
 static inline unsigned saszvigom_made_of(uint64_t number)
 {
     return (unsigned)(number >> 32 & 0xFFu);

@@ -140,7 +140,7 @@ static int open_ring(struct session *s)
         s->adjacency[i * N + (i + 1) % N] = 1;
         s->adjacency[(i + 1) % N * N + i] = 1;
     }
-    /* In use, weights are drawn at random. */
+    /* In use, weights are drawn, as by saszvigom_draws. */
     for (size_t index = 0; index < N * (N - 1) / 2; index++)
         saszvigom_store_word(s->weights, index, (uint16_t)(1 + 7919 * index % 65520));
     s->made = 0;

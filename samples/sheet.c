@@ -95,7 +95,7 @@ static void list(const char *name, const uint8_t *sheet, size_t length)
     if (open_with_some_draws())
         match_all();
     else
-        printf("%s perfect matching\n", s.n % 2 == 1 ? "no" : "almost surely no");
+        printf("%s\n", s.n % 2 == 1 ? "no perfect matching" : "undecided: singular with every draw");
 }
 
 int main(void)

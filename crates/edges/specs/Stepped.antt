@@ -81,9 +81,9 @@ pub record AllRead (bytes : List ℕ) (from n : ℕ) (weights : List ℕ) (count
   pub marks : table ≡ cells n edges
   pub reads : ReadsOn bytes (weighted n weights []) from (sheet n weights edges)
 
-abbrev pub Listed : List ℕ → (from n : ℕ) → List ℕ → Edges → List ℕ → Type 0
-Listed bytes from n weights (edges.Counted count) table = AllRead bytes from n weights count table
-Listed bytes from n weights (edges.Refused why) table = ReadsOn bytes (weighted n weights []) from (unread (because (why .cause) (why .place)))
+abbrev pub EdgesRead : List ℕ → (from n : ℕ) → List ℕ → Edges → List ℕ → Type 0
+EdgesRead bytes from n weights (edges.Counted count) table = AllRead bytes from n weights count table
+EdgesRead bytes from n weights (edges.Refused why) table = ReadsOn bytes (weighted n weights []) from (unread (because (why .cause) (why .place)))
 
 module _ {bytes : List ℕ} {from n : ℕ} {weights : List ℕ} where
   pub reached-start : {table : List ℕ} → table ≡ cells n [] → Reached bytes from n weights from 0 table

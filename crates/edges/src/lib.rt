@@ -8,7 +8,7 @@ ghost use Prim.Native.Nat.{ℕ};
 ghost use Rattle.lists.specs.Table.{Square};
 ghost use Rattle.matching.specs.Records.{cells};
 ghost use Rattle.edges.specs.Marked.{Marked};
-ghost use Rattle.edges.specs.Stepped.{Stepped, Listed};
+ghost use Rattle.edges.specs.Stepped.{Stepped, EdgesRead};
 
 // An edge is marked, or refused for a cause.
 pub enum Mark {
@@ -92,7 +92,7 @@ fn take_record(bytes: &[u8], at: usize, n: usize, table: &mut [u8]) -> Step
 // Reads the share records from an offset on, to the end, and marks their edges in a table of 0s. For proved callers.
 pub fn read_edges(bytes: &[u8], from: usize, n: usize, table: &mut [u8]) -> Edges
     requires { ⌜ Square n (now table) × (now table ≡ cells n []) ⌝ }
-    ensures { λ r. ⌜ ((weights : List ℕ) → Listed (now (bytes .entry)) from n weights r (now (table .exit))) ⌝ }
+    ensures { λ r. ⌜ ((weights : List ℕ) → EdgesRead (now (bytes .entry)) from n weights r (now (table .exit))) ⌝ }
 {
     let mut at = from;
     let mut count = 0;

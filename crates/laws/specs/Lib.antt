@@ -20,6 +20,7 @@ pub mod Cells
 pub mod Reading
 pub mod Bounds
 pub mod Outcomes
+pub mod Sheets
 -- The host.
 pub mod Numbers
 -- Where a weight stands.

@@ -19,14 +19,7 @@ use Rattle.laws.specs.Bounds.{reads-edges}
 use Rattle.checks.specs.Weights.{needed, needed-all, needed-small}
 use Rattle.sheet.specs.Filled.{room-enough, drawn-needed}
 use Rattle.text.specs.Puts.{Puts, puts-first}
-use Rattle.listing.specs.declared.Listed.{Listed}
-use Rattle.listing.specs.declared.Listed.the-variants.{Text, NoRoom}
 use Rattle.listing.specs.Lines.{Writes, Verdict, full, none, GraphLines, Lent}
-
--- the definition's answer of the code's
-abbrev pub listed-of : Listed → definition.Listed
-listed-of (Text n) = definition.text-of n
-listed-of NoRoom = definition.no-room
 
 -- the listing of each input whose first bytes, as many as are read, are these
 abbrev pub ListsBytes : List ℕ → List ℕ → Type 0

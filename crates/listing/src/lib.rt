@@ -10,8 +10,9 @@ ghost use Rattle.matching.specs.Decision.{accepted};
 ghost use Rattle.matching.specs.Graph.{over};
 ghost use Rattle.matching.specs.Causes.{opening-ruling};
 ghost use Rattle.matching.specs.Listing.{input-limit, text-room, ListsInto};
+ghost use Rattle.listing.specs.Answers.{listed-of};
 ghost use Rattle.listing.specs.Lines.{Writes, Verdict, GraphLines, Fresh, FreshFor, Lent};
-ghost use Rattle.listing.specs.Sheets.{listed-of, ListsBytes, Tables};
+ghost use Rattle.listing.specs.Sheets.{ListsBytes, Tables};
 
 // What the listing answers: how long the text is, or that the buffer has no room for every text.
 pub enum Listed {

@@ -32,7 +32,8 @@ unfoldable pub bytes-of : List ℕ → List ℕ
 bytes-of [] = []
 bytes-of (w ∷ rest) = w % 256 ∷ w / 256 % 256 ∷ bytes-of rest
 
--- the one number of a call. Bits 0 to 7: the cause, 0 when none; 8 to 15: the kind of answer; 16 to 31: a value; 32 to 39: the pairs made
+-- the one number of a call. Bits 0 to 7: the cause, 0 when none; 8 to 15: the kind of answer; 16 to 31: a value; 32 to 39: the pairs made, or
+-- the size of a sheet that was read
 abbrev pub number : (cause kind value made : ℕ) → ℕ
 number cause kind value made = cause + 2 ^ 8 * kind + 2 ^ 16 * value + 2 ^ 32 * made
 

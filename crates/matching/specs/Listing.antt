@@ -105,11 +105,11 @@ pub data Lists (input : List ℕ) : List ℕ → Type 0 where
       → length words ≡ n → Singular modulus (graph n weights edges) everything f words
       → Lists input (first-line n (length edges) ++ witness-lines 0 words ++ line-none)
 
--- how long a buffer for the text is to be: the longest text has 1,654 bytes
+-- how long a buffer for the text is to be: no text has more than 1,654 bytes
 abbrev pub text-room : ℕ
 text-room = 2048
 
--- the text's length, or that the buffer is too short for every text
+-- the text's length, or that the buffer is shorter than that
 pub data Listed : Type 0 where
   text-of : ℕ → Listed
   no-room : Listed

@@ -13,7 +13,7 @@ use Rattle.matching.specs.Records.{Read, graph-read, not-read, room, Fills, ref
 use Rattle.matching.specs.Listing.{input-limit}
 use Rattle.matching.specs.Host.{words, bytes-of, read-number, weights-stored, HostReads}
 use Rattle.laws.specs.Reading.{reads-fit}
-use Rattle.laws.specs.Bounds.{Answers, fills-answer}
+use Rattle.laws.specs.Bounds.{Answers, more-within, fills-answer}
 use Rattle.checks.specs.Weights.{needed, needed-all, needed-small}
 use Rattle.sheet.specs.Filled.{drawn-needed}
 use Rattle.packing.specs.Words.{Bytes, words-length, stored-front}
@@ -79,7 +79,7 @@ module _ {sheet values weights : List ℕ} (R : Room sheet values weights) where
     where
       go : (o : Read) → Answers o (length sheet) → Answers o input-limit
       go (graph-read n m) h = (h .0, omega (arith, h .1, R .few))
-      go (not-read why) h = omega (arith, h, R .few)
+      go (not-read why) h = more-within (omega (arith, R .few)) h
 
   -- through the host
   pub host-reads : {adjacency adjacency′ left weights′ : List ℕ} {given : Read} {answer : ℕ} → Bytes weights → Fills sheet adjacency values given adjacency′ left → answer ≡ read-number given

@@ -1,5 +1,5 @@
 -- `due::found_at` meets its contract: each answer is the case of what stands at the offset. Assumes nothing.
-use Rattle.due.specs.Follows.{cut-here, undue-cut, unknown-here, stops-here}
+use Rattle.due.specs.Found.{no-kind, not-awaited, first-cut, second-cut, no-byte}
 use borrow.Author.Needs.{needs}
 use Rattle.due.proofs.found_at.Statement.{statement}
 use Rattle.due.proofs.found_at.Tie as tie
@@ -14,14 +14,12 @@ enum-known-next-2 : tie.Need-enum-known-next-2
 enum-known-next-2 c = search needs
 
 returns : tie.Need-returns
-returns c q a =
-    let known = c .before .before in
-    cut-here (rw (known .next2 .given .1) at (known .before .before .next-at .ensures)) (rw (c .if1 .taken) (a .one))
+returns c =
+    let known = c .before .before in first-cut (rw (known .next2 .given .1, c .if1 .taken) at (known .before .before .next-at .ensures))
 
 returns-2 : tie.Need-returns-2
-returns-2 c q a =
-    let known = c .before .before .before in
-    cut-here (rw (known .next2 .given .1) at (known .before .before .next-at .ensures)) (rw (c .if2 .taken) (a .other))
+returns-2 c =
+    let known = c .before .before .before in second-cut (rw (known .next2 .given .1, c .if2 .taken) at (known .before .before .next-at .ensures))
 
 enum-told : tie.Need-enum-told
 enum-told c = search needs
@@ -33,15 +31,15 @@ returns-3 : tie.Need-returns-3
 returns-3 c = rw (c .before .next .given .1) at (c .before .before .before .next-at .ensures)
 
 returns-4 : tie.Need-returns-4
-returns-4 c q a =
+returns-4 c =
     let known = c .before .before .before in
-    undue-cut (rw (known .next2 .given .1) at (known .before .before .next-at .ensures)) (a .only _ (c .before .if1 .left) (c .if2 .left))
+    not-awaited _ (rw (known .next2 .given .1) at (known .before .before .next-at .ensures)) (c .before .if1 .left) (c .if2 .left)
 
 returns-5 : tie.Need-returns-5
-returns-5 c q a = unknown-here (rw (c .enum-told .given .1) at (c .before .before .next-at .ensures))
+returns-5 c = no-kind (rw (c .enum-told .given .1) at (c .before .before .next-at .ensures))
 
 returns-6 : tie.Need-returns-6
-returns-6 c q a = stops-here (rw (c .enum-told2 .given .1) at (c .before .before .next-at .ensures)) (a .one)
+returns-6 c = no-byte (rw (c .enum-told2 .given .1) at (c .before .before .next-at .ensures))
 
 pub found-at-spec : {M : Type 1} → statement M
 found-at-spec =

@@ -1,7 +1,7 @@
 -- `edges::take_record` meets its contract: each answer is the case of the record that stands at the offset. Assumes nothing.
 use mathlib.Core.Path.{refl}
 use native.Mathlib.Omega.{arith}
-use Rattle.due.specs.Found.{awaits-edges}
+use Rattle.due.specs.Found.{awaits-edges, missing-reads}
 use Rattle.due.specs.Follows.{stands-within}
 use Rattle.edges.specs.Stepped.{step-undue, step-share, step-rejected, step-end, step-excess}
 use borrow.Author.Needs.{needs}
@@ -55,7 +55,7 @@ returns c weights edges _ =
     step-excess (rw (c .before .enum-told4 .given .1) at (rw (known .found2 .given .1) at (known .before .before .found-at .ensures))) (c .if1 .taken) weights edges
 
 returns-2 : tie.Need-returns-2
-returns-2 c weights edges _ = (rw (c .before .found .given .1) at (c .before .before .before .found-at .ensures)) _ awaits-edges
+returns-2 c weights edges _ = missing-reads awaits-edges (rw (c .before .found .given .1) at (c .before .before .before .found-at .ensures))
 
 returns-3 : tie.Need-returns-3
 returns-3 c weights edges _ =

@@ -1,7 +1,7 @@
 -- `sheet::read_head` meets its contract: each answer is the case of the record that stands at the offset. Assumes nothing.
 use native.Mathlib.Omega.{arith}
 use Rattle.due.specs.Follows.{stands-within}
-use Rattle.due.specs.Found.{awaits-size}
+use Rattle.due.specs.Found.{awaits-size, missing-reads}
 use Rattle.sheet.specs.Headed.{not-size, size-rejected, size-heads}
 use borrow.Author.Needs.{needs}
 use Rattle.sheet.proofs.read_head.Statement.{statement}
@@ -44,7 +44,7 @@ enum-told-3 : tie.Need-enum-told-3
 enum-told-3 c = search needs
 
 returns-2 : tie.Need-returns-2
-returns-2 c = (rw (c .before .found .given .1) at (c .before .before .before .found-at .ensures)) _ awaits-size
+returns-2 c = missing-reads awaits-size (rw (c .before .found .given .1) at (c .before .before .before .found-at .ensures))
 
 returns-3 : tie.Need-returns-3
 returns-3 c =

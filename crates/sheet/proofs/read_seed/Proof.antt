@@ -1,7 +1,7 @@
 -- `sheet::read_seed` meets its contract: each answer is the case of the record that stands at the offset. Assumes nothing.
 use native.Mathlib.Omega.{arith}
 use Rattle.due.specs.Follows.{stands-within}
-use Rattle.due.specs.Found.{awaits-seed}
+use Rattle.due.specs.Found.{awaits-seed, missing-reads}
 use Rattle.sheet.specs.Headed.{not-seed, seed-behind}
 use borrow.Author.Needs.{needs}
 use Rattle.sheet.proofs.read_seed.Statement.{statement}
@@ -35,7 +35,7 @@ enum-told-3 : tie.Need-enum-told-3
 enum-told-3 c = search needs
 
 returns : tie.Need-returns
-returns c = (rw (c .before .found .given .1) at (c .before .before .before .found-at .ensures)) _ awaits-seed
+returns c = missing-reads awaits-seed (rw (c .before .found .given .1) at (c .before .before .before .found-at .ensures))
 
 returns-2 : tie.Need-returns-2
 returns-2 c =

@@ -23,7 +23,7 @@ enum-known-read-2 : tie.Need-enum-known-read-2
 enum-known-read-2 c = search needs
 
 refusal-number-requires : tie.Need-refusal-number-requires
-refusal-number-requires c κs = let small = rw (c .before .read2 .given .1) at (c .before .before .before .pre) in omega (arith, small)
+refusal-number-requires c κs = let small = rw (c .before .read2 .given .1) at (c .before .before .before .pre) in omega (arith, small .place-within)
 
 returns : tie.Need-returns
 returns c = rw (c .before .read .given .1) (omega arith)
