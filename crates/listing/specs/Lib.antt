@@ -1,4 +1,3 @@
--- What the contracts cite, with its laws: the answers; the lines of a graph; those of a sheet.
+-- What the contracts cite, with its laws: the answers; the lines of a sheet.
 pub mod Answers
-pub mod Lines
 pub mod Sheets

@@ -19,7 +19,7 @@ use Rattle.laws.specs.Bounds.{reads-edges}
 use Rattle.checks.specs.Weights.{needed, needed-all, needed-small}
 use Rattle.sheet.specs.Filled.{room-enough, drawn-needed}
 use Rattle.text.specs.Puts.{Puts, puts-first}
-use Rattle.listing.specs.Lines.{Writes, Verdict, full, none, GraphLines, Lent}
+use Rattle.verdict.specs.Lines.{Writes, Verdict, full, none, GraphLines, Lent}
 
 -- the listing of each input whose first bytes, as many as are read, are these
 abbrev pub ListsBytes : List ℕ → List ℕ → Type 0

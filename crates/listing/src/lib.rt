@@ -1,92 +1,16 @@
 // The listing of a sheet as text in a lent buffer.
-use opening::Opening;
 use sheet::Read;
-ghost use mathlib.Core.Path.{_≡_};
-ghost use mathlib.Core.List.{List};
-ghost use Prim.Native.Nat.{ℕ, _+_, _*_, _≤_, _<_};
-ghost use lib.ListN.{length, replicate};
-ghost use Rattle.residue.specs.Modulus.{modulus};
-ghost use Rattle.matching.specs.Decision.{accepted};
-ghost use Rattle.matching.specs.Graph.{over};
-ghost use Rattle.matching.specs.Causes.{opening-ruling};
+ghost use Prim.Native.Nat.{_≤_};
+ghost use lib.ListN.{length};
 ghost use Rattle.matching.specs.Listing.{input-limit, text-room, ListsInto};
+ghost use Rattle.verdict.specs.Lines.{Writes};
 ghost use Rattle.listing.specs.Answers.{listed-of};
-ghost use Rattle.listing.specs.Lines.{Writes, Verdict, GraphLines, Fresh, FreshFor, Lent};
 ghost use Rattle.listing.specs.Sheets.{ListsBytes, Tables};
 
 // What the listing answers: how long the text is, or that the buffer has no room for every text.
 pub enum Listed {
     Text(usize),
     NoRoom,
-}
-
-// The lines of a session fresh from opening: its pairs, and the verdict that all vertices are matched.
-fn full_lines(
-    n: usize,
-    adjacency: &[u8],
-    inverse: &mut [u16],
-    sequence: &mut [u8],
-    marks: &mut [u8],
-    text: &mut [u8],
-    at: usize,
-) -> usize
-    requires { ⌜ FreshFor n (now adjacency) (now inverse) (now sequence) (now marks) × (at + 658 ≤ length (now text)) ⌝ }
-    ensures { λ r. ⌜ ((weights : List ℕ) → Fresh n (now (adjacency .entry)) weights (now (inverse .entry)) (now (sequence .entry)) (now (marks .entry)) → Writes (Verdict (over n (now (adjacency .entry)) weights)) at (now (text .entry)) (now (text .exit)) r) ⌝ }
-{
-    let made = completion::complete(n, adjacency, inverse, sequence, marks);
-    let next = text::pair_lines(text, at, sequence, made);
-    text::full_line(text, next)
-}
-
-// The lines behind the first.
-fn verdict_lines(
-    n: usize,
-    adjacency: &[u8],
-    weights: &[u16],
-    inverse: &mut [u16],
-    sequence: &mut [u8],
-    witness: &mut [u16],
-    marks: &mut [u8],
-    text: &mut [u8],
-    at: usize,
-) -> usize
-    requires { ⌜ opening-ruling modulus (over n (now adjacency) (now weights)) (length (now inverse)) (length (now sequence)) (length (now witness)) (n * n) ≡ accepted ⌝ }
-    requires { ⌜ (n ≤ 96) × (now marks ≡ replicate n 1) × (at + 1642 ≤ length (now text)) ⌝ }
-    ensures { λ r. ⌜ Writes (Verdict (over n (now (adjacency .entry)) (now (weights .entry)))) at (now (text .entry)) (now (text .exit)) r ⌝ }
-{
-    let opening = opening::begin_apart(n, adjacency, weights, inverse, sequence, witness, n * n);
-    match opening {
-        Opening::Opened(_) => full_lines(n, adjacency, inverse, sequence, marks, text, at),
-        Opening::Singular(_) => {
-            let next = text::witness_lines(text, at, &witness[..n]);
-            text::none_line(text, next)
-        }
-        Opening::Refused(_) => at,
-    }
-}
-
-// All lines of a graph in order, with so many edges.
-fn graph_lines(n: usize, edges: usize, adjacency: &[u8], weights: &[u16], text: &mut [u8]) -> usize
-    requires { ⌜ Lent (over n (now adjacency) (now weights)) × (edges < 100000) × (2048 ≤ length (now text)) ⌝ }
-    ensures { λ r. ⌜ Writes (GraphLines (over n (now (adjacency .entry)) (now (weights .entry))) edges) 0 (now (text .entry)) (now (text .exit)) r ⌝ }
-{
-    // The words and bytes of the largest graph: 96 * 96, and 96.
-    let mut inverse = [0u16; 9216];
-    let mut sequence = [0u8; 96];
-    let mut witness = [0u16; 96];
-    let mut marks = [1u8; 96];
-    let next = text::first_line(text, 0, n, edges);
-    verdict_lines(
-        n,
-        adjacency,
-        weights,
-        &mut inverse,
-        &mut sequence,
-        &mut witness,
-        &mut marks[..n],
-        text,
-        next,
-    )
 }
 
 // All lines of a sheet, with tables for the largest graph.
@@ -101,7 +25,7 @@ fn sheet_lines(bytes: &[u8], adjacency: &mut [u8], weights: &mut [u16], text: &m
             let n = extent.size;
             let size = n * n;
             let count = checks::weights_needed(n);
-            graph_lines(n, extent.edges, &adjacency[..size], &weights[..count], text)
+            verdict::graph_lines(n, extent.edges, &adjacency[..size], &weights[..count], text)
         }
     }
 }

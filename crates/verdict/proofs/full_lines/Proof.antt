@@ -1,11 +1,11 @@
--- `listing::full_lines` meets its contract: the pairs of a completed matching, and the verdict behind them. Assumes nothing.
+-- `verdict::full_lines` meets its contract: the pairs of a completed matching, and the verdict behind them. Assumes nothing.
 use native.Mathlib.Omega.{arith}
 use borrow.Author.Needs.{needs}
 use Rattle.calls.specs.Known.{tables, sequence-fits}
 use Rattle.text.specs.Puts.{puts-then, puts-length}
-use Rattle.listing.specs.Lines.{full-lines}
-use Rattle.listing.proofs.full_lines.Statement.{statement}
-use Rattle.listing.proofs.full_lines.Tie as tie
+use Rattle.verdict.specs.Lines.{full-lines}
+use Rattle.verdict.proofs.full_lines.Statement.{statement}
+use Rattle.verdict.proofs.full_lines.Tie as tie
 
 complete-requires : tie.Need-complete-requires
 complete-requires c κs =

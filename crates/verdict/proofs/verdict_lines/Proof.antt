@@ -1,4 +1,4 @@
--- `listing::verdict_lines` meets its contract: a graph that is accepted is opened, or has a witness. Assumes nothing.
+-- `verdict::verdict_lines` meets its contract: a graph that is accepted is opened, or has a witness. Assumes nothing.
 use mathlib.Core.Path.{_≡_, sym}
 use Prim.Native.Nat.{_*_, _≤_}
 use native.Mathlib.Omega.{arith}
@@ -11,9 +11,9 @@ use Rattle.matching.specs.Graph.{over}
 use Rattle.laws.specs.Sound.{opening-accepted}
 use Rattle.opening.specs.Answers.{opening-of}
 use Rattle.text.specs.Puts.{puts-then, puts-length}
-use Rattle.listing.specs.Lines.{none, fresh, kernel, not-refused}
-use Rattle.listing.proofs.verdict_lines.Statement.{statement}
-use Rattle.listing.proofs.verdict_lines.Tie as tie
+use Rattle.verdict.specs.Lines.{none, fresh, kernel, not-refused}
+use Rattle.verdict.proofs.verdict_lines.Statement.{statement}
+use Rattle.verdict.proofs.verdict_lines.Tie as tie
 
 long : (c : tie.After-begin-apart)
     → (let a = c .before .before .before .before .before .before .before .before .before .before .before .args in a .n ≤ length (a .witness .now))

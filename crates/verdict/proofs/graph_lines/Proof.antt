@@ -1,4 +1,4 @@
--- `listing::graph_lines` meets its contract: the first line, and then the others, over buffers for the largest graph. Assumes nothing.
+-- `verdict::graph_lines` meets its contract: the first line, and then the others, over buffers for the largest graph. Assumes nothing.
 use mathlib.Core.Path.{sym}
 use Prim.Native.Nat.{ℕ}
 use native.Mathlib.Omega.{arith}
@@ -7,9 +7,9 @@ use lib.ListN.{length-replicate}
 use Rattle.lists.specs.Part.{length-part, first-part}
 use Rattle.text.specs.Puts.{puts-length}
 use Rattle.text.specs.Lines.{first-length}
-use Rattle.listing.specs.Lines.{accepts, graph-lines}
-use Rattle.listing.proofs.graph_lines.Statement.{statement}
-use Rattle.listing.proofs.graph_lines.Tie as tie
+use Rattle.verdict.specs.Lines.{accepts, graph-lines}
+use Rattle.verdict.proofs.graph_lines.Statement.{statement}
+use Rattle.verdict.proofs.graph_lines.Tie as tie
 
 first-line-requires : tie.Need-first-line-requires
 first-line-requires c κs =
