@@ -32,7 +32,7 @@
  * the vertices that it leaves have an inverse too, so a session never runs into
  * a dead end: automatic picks match every vertex that is left.
  *
- * For C99 or C++11 and later. Link with libhost.a, which is for 64-bit x86 and
+ * For C99 or C++11 and later. Link with libsaszvigom.a, which is for 64-bit x86 and
  * the System V ABI. It keeps no state, allocates nothing, and calls only memcpy,
  * memmove and memset. Threads may call it at once if none writes to a buffer
  * that another one uses. A call takes less than 128 KiB of stack.

@@ -1,7 +1,7 @@
 /*
  * Opens three graphs and prints what is found.
  *
- *     cc -Iinclude samples/open.c target/staticlib/libhost.a -o open
+ *     cc -Iinclude samples/open.c target/staticlib/libsaszvigom.a -o open
  */
 #include "saszvigom.h"
 

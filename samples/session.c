@@ -2,7 +2,7 @@
  * Matches the vertices of a ring of six: by hand, automatically and with undo,
  * and checks the log of all calls by replaying it.
  *
- *     cc -Iinclude samples/session.c target/staticlib/libhost.a -o session
+ *     cc -Iinclude samples/session.c target/staticlib/libsaszvigom.a -o session
  */
 #include "saszvigom.h"
 

@@ -2,7 +2,7 @@
  * Reads sheets, opens their graphs and matches the vertices. Where a graph is
  * singular, the weights may have cancelled: it is opened again with other draws.
  *
- *     cc -Iinclude samples/sheet.c target/staticlib/libhost.a -o sheet
+ *     cc -Iinclude samples/sheet.c target/staticlib/libsaszvigom.a -o sheet
  */
 #include "saszvigom.h"
 

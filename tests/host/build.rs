@@ -1,4 +1,4 @@
-//! Links libhost.a from the folder that SASZVIGOM_LIB names.
+//! Links libsaszvigom.a from the folder that SASZVIGOM_LIB names.
 
 use std::env;
 use std::path::{Path, PathBuf};
@@ -12,8 +12,8 @@ fn main() {
     println!("cargo:rerun-if-env-changed=SASZVIGOM_LIB");
     println!(
         "cargo:rerun-if-changed={}",
-        folder.join("libhost.a").display()
+        folder.join("libsaszvigom.a").display()
     );
     println!("cargo:rustc-link-search=native={}", folder.display());
-    println!("cargo:rustc-link-lib=static=host");
+    println!("cargo:rustc-link-lib=static=saszvigom");
 }

@@ -10,7 +10,7 @@ ghost use Rattle.matching.specs.Graph.{over};
 ghost use Rattle.matching.specs.Causes.{opening-ruling};
 ghost use Rattle.verdict.specs.Lines.{Writes, Verdict, GraphLines, Fresh, FreshFor, Lent};
 
-// The lines of a session fresh from opening: its pairs, and the verdict that all vertices are matched.
+// The lines of a session fresh from opening: its pairs, at most 48 lines of 13 bytes, and the verdict that all vertices are matched, 10 bytes.
 fn full_lines(
     n: usize,
     adjacency: &[u8],
@@ -20,7 +20,7 @@ fn full_lines(
     text: &mut [u8],
     at: usize,
 ) -> usize
-    requires { ⌜ FreshFor n (now adjacency) (now inverse) (now sequence) (now marks) × (at + 658 ≤ length (now text)) ⌝ }
+    requires { ⌜ FreshFor n (now adjacency) (now inverse) (now sequence) (now marks) × (at + 634 ≤ length (now text)) ⌝ }
     ensures { λ r. ⌜ ((weights : List ℕ) → Fresh n (now (adjacency .entry)) weights (now (inverse .entry)) (now (sequence .entry)) (now (marks .entry)) → Writes (Verdict (over n (now (adjacency .entry)) weights)) at (now (text .entry)) (now (text .exit)) r) ⌝ }
 {
     let made = completion::complete(n, adjacency, inverse, sequence, marks);
@@ -28,7 +28,7 @@ fn full_lines(
     text::full_line(text, next)
 }
 
-// The lines behind the first.
+// The lines behind the first: these, or those of a witness, at most 96 of 17 bytes, with a verdict.
 fn verdict_lines(
     n: usize,
     adjacency: &[u8],
