@@ -12,9 +12,9 @@ static void refused(uint64_t number)
 static void no_such_sleeve(const struct session *s, uint64_t a)
 {
     if (s->n == 0)
-        printf("there is no sleeve %" PRIu64 "; the sheet has no sleeves.\n", a);
+        printf("no sleeve is numbered %" PRIu64 "; the sheet has none.\n", a);
     else
-        printf("there is no sleeve %" PRIu64 "; the sleeves are 0 to %u.\n", a, s->n - 1);
+        printf("no sleeve is numbered %" PRIu64 "; they are 0 to %u.\n", a, s->n - 1);
 }
 
 static void invalid(const struct session *s, const struct call *call)
@@ -28,7 +28,7 @@ static void invalid(const struct session *s, const struct call *call)
     if (call->kind == CALL_ROW)
         printf("  what to do: name a sleeve of the sheet; show lists the loose ones.\n");
     else
-        printf("  what to do: name two sleeves of the sheet that differ; show lists the loose ones.\n");
+        printf("  what to do: name two different sleeves; show lists the loose ones.\n");
 }
 
 /* Says of a vertex below n that it is matched, if it is. */
@@ -80,15 +80,17 @@ static void nothing_left(const struct call *call)
 
 static void no_inverse(const struct session *s)
 {
-    if (s->opened)
+    if (s->opened) {
         printf("the held table is not that of the loose sleeves.\n"
                "  what to do: leave this desk, and open the sheet again.\n");
+        return;
+    }
+    printf("the loose sleeves have no inverse under these draws; the sheet\n"
+           "  has a witness, and there is no session.\n");
+    if (s->n % 2 == 1)
+        printf("  what to do: nothing; an odd number of sleeves has no full pairing.\n");
     else
-        printf("the loose sleeves have no inverse under these draws; the sheet\n"
-               "  has a witness, and there is no session.\n"
-               "  what to do: %s\n",
-               s->n % 2 == 1 ? "nothing; an odd number of sleeves has no full pairing."
-                             : "try other draws, such as draws 1.");
+        printf("  what to do: try other draws, such as draws %u.\n", (unsigned)(s->seed + 1u));
 }
 
 static void explain_refusal(const struct session *s, const struct call *call, uint64_t number)
