@@ -11,6 +11,7 @@
 #include "picture.h"
 
 #include <errno.h>
+#include <fcntl.h>
 #include <inttypes.h>
 #include <signal.h>
 #include <string.h>
@@ -282,6 +283,8 @@ int main(int argc, char **argv)
         fprintf(stderr, "usage: desk SHEET\n");
         return 2;
     }
+    if (fcntl(STDOUT_FILENO, F_GETFD) < 0)
+        return 1; /* a log would take the place of the output */
     signal(SIGXFSZ, SIG_IGN); /* a log that grows too large is a failed write */
     if (!start(argv[1]))
         return 1;

@@ -39,8 +39,10 @@ static void command(unsigned n)
     case 0:
         bytes(40);
         break;
-    case 1:
-        bytes(below(8) == 0 ? 20000 : 400);
+    case 1: /* one line, often a long one */
+        printf("%s", words[below(sizeof words / sizeof words[0])]);
+        for (unsigned i = below(below(2) ? 9000 : 40); i > 0; i--)
+            putchar(" 1x\t"[below(4)]);
         break;
     case 2: /* any words after a word that may be a command */
         printf("%s", words[below(sizeof words / sizeof words[0])]);
