@@ -1,0 +1,143 @@
+/* Why a sheet was refused: the record at fault is found again in its bytes. */
+#include "explain.h"
+#include "input.h"
+
+#include <stdio.h>
+#include <string.h>
+
+/* A record: where it begins, and how many stand before it. */
+struct record {
+    size_t offset;
+    unsigned before;
+};
+
+static size_t length_of(uint8_t kind)
+{
+    switch (kind) {
+    case SASZVIGOM_RECORD_SIZE:
+        return 2;
+    case SASZVIGOM_RECORD_EDGE:
+        return 3;
+    case SASZVIGOM_RECORD_SEED:
+        return 5;
+    default:
+        return 1;
+    }
+}
+
+/* The last record that begins before or at an offset. */
+static struct record find(const uint8_t *sheet, size_t length, size_t offset)
+{
+    struct record r = {0, 0};
+    while (r.offset < length && r.offset + length_of(sheet[r.offset]) <= offset) {
+        r.offset += length_of(sheet[r.offset]);
+        r.before++;
+    }
+    return r;
+}
+
+static const char *name_of(uint8_t kind)
+{
+    switch (kind) {
+    case SASZVIGOM_RECORD_SIZE:
+        return "a size";
+    case SASZVIGOM_RECORD_EDGE:
+        return "a may share";
+    case SASZVIGOM_RECORD_SEED:
+        return "a seed";
+    case SASZVIGOM_RECORD_END:
+        return "an end";
+    default:
+        return "no kind of record";
+    }
+}
+
+/* What may stand where a record is at fault. */
+static const char *due(const uint8_t *sheet, struct record r)
+{
+    if (r.before == 0)
+        return "the size record, kind 1, is due";
+    if (r.before == 1)
+        return "the seed record, kind 3, is due";
+    for (size_t at = 0; at < r.offset; at += length_of(sheet[at]))
+        if (sheet[at] == SASZVIGOM_RECORD_END)
+            return "nothing is due, for the end record stands before it";
+    return "a may share record, kind 2, or the end record, kind 4, is due";
+}
+
+static void explain_cut(const uint8_t *sheet, size_t length)
+{
+    const struct record r = find(sheet, length, length);
+    printf("the data stops after %u bytes, ", (unsigned)length);
+    if (r.offset < length)
+        printf("inside record %u,\n  %s record that begins at offset %u.\n", r.before + 1,
+               name_of(sheet[r.offset]), (unsigned)r.offset);
+    else
+        printf("before the end record;\n  there %s.\n", due(sheet, r));
+    printf("  what to do: have the sheet sent again whole, or add what is missing.\n");
+}
+
+static void explain_sleeves(const uint8_t *sheet, struct record r)
+{
+    const unsigned a = sheet[r.offset + 1], b = sheet[r.offset + 2], n = sheet[1];
+    printf("record %u, may share %u %u, ", r.before + 1, a, b);
+    if (a >= n || b >= n) {
+        printf("names sleeve %u, but ", a >= n ? a : b);
+        if (n == 0)
+            printf("there are none.\n");
+        else
+            printf("the sleeves\n  are 0 to %u.\n", n - 1);
+    } else {
+        printf("names the same sleeve twice.\n");
+    }
+    printf("  what to do: put the right sleeve there, or take the record out.\n");
+}
+
+static void explain_repeated(const uint8_t *sheet, struct record r)
+{
+    const uint8_t a = sheet[r.offset + 1], b = sheet[r.offset + 2];
+    struct record first = {7, 2};
+    while (first.offset < r.offset &&
+           !(sheet[first.offset + 1] == a && sheet[first.offset + 2] == b) &&
+           !(sheet[first.offset + 1] == b && sheet[first.offset + 2] == a)) {
+        first.offset += 3;
+        first.before++;
+    }
+    printf("record %u, may share %u %u, names two sleeves that\n"
+           "  record %u, at offset %u, has named already.\n",
+           r.before + 1, a, b, first.before + 1, (unsigned)first.offset);
+    printf("  what to do: take one of the two records out.\n");
+}
+
+void explain_sheet(const char *name, const uint8_t *sheet, size_t length, uint64_t number)
+{
+    const unsigned place = saszvigom_place_of(number);
+    const struct record r = find(sheet, length, place);
+    printf("  refused %u at %u: ", saszvigom_cause_of(number), place);
+    switch (saszvigom_cause_of(number)) {
+    case SASZVIGOM_SIZE_TOO_LARGE:
+        printf("the size record says %u sleeves; a sheet has 96 at most.\n"
+               "  what to do: make two sheets of it.\n",
+               sheet[1]);
+        break;
+    case SASZVIGOM_RECORD_NOT_DUE:
+        printf("the byte at offset %u, %u, begins record %u, %s;\n  there %s.\n", place,
+               sheet[place], r.before + 1, name_of(sheet[place]), due(sheet, r));
+        printf("  what to do: put what is due there, or take this byte and its record out.\n");
+        break;
+    case SASZVIGOM_SHEET_CUT:
+        explain_cut(sheet, length);
+        break;
+    case SASZVIGOM_RECORD_VERTEX_INVALID:
+        explain_sleeves(sheet, r);
+        break;
+    case SASZVIGOM_EDGE_REPEATED:
+        explain_repeated(sheet, r);
+        break;
+    default: /* 2: no buffer is too short for a sheet */
+        printf("a lent buffer is too short.\n");
+    }
+    printf("  Nothing was opened. ./sheet show lists the records with their offsets:\n    ./sheet show ");
+    print_word(name, strlen(name));
+    printf("\n");
+}

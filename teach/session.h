@@ -1,0 +1,42 @@
+/* A graph and the session on it, in buffers for any number of vertices. */
+#ifndef TEACH_SESSION_H
+#define TEACH_SESSION_H
+
+#include "saszvigom.h"
+
+#define MOST SASZVIGOM_MAX_VERTICES
+
+struct session {
+    unsigned n, edges;
+    uint32_t seed; /* of the weights */
+    int opened;    /* else the graph is singular with these weights */
+    unsigned column;
+    unsigned made;
+    uint8_t adjacency[SASZVIGOM_ADJACENCY_BYTES(MOST)];
+    uint8_t weights[SASZVIGOM_WEIGHTS_BYTES(MOST)];
+    uint8_t inverse[SASZVIGOM_INVERSE_BYTES(MOST)];
+    uint8_t sequence[SASZVIGOM_SEQUENCE_BYTES(MOST)];
+    uint8_t witness[SASZVIGOM_WITNESS_BYTES(MOST)];
+};
+
+/* Reads a sheet and opens its graph; the number of saszvigom_read. */
+uint64_t session_read(struct session *s, const uint8_t *sheet, size_t length);
+
+/* Opens the graph again with the weights of a seed. */
+void session_redraw(struct session *s, uint32_t seed);
+
+/* The calls of the library: each returns its number, and goes on with made. */
+uint64_t session_pick(struct session *s, uint64_t a, uint64_t b);
+uint64_t session_automatic(struct session *s);
+uint64_t session_undo(struct session *s);
+uint64_t session_row(const struct session *s, uint64_t a, uint8_t row[MOST]);
+uint64_t session_replay(struct session *s, const uint64_t *calls, size_t numbers,
+                        uint64_t *answers, size_t room);
+
+/* Whether two vertices, both below n, are adjacent. */
+int adjacent(const struct session *s, unsigned a, unsigned b);
+
+/* The index in sequence of a vertex, or SASZVIGOM_UNUSED if it is unmatched. */
+unsigned place_of(const struct session *s, unsigned a);
+
+#endif
