@@ -250,7 +250,7 @@ static inline void saszvigom_line_refusal(struct saszvigom_line *line, uint64_t 
 /*
  * Explains a number in one line, such as
  *
- *     refused: the weight of 3 and 7 is 0 or above 65520 (cause 4 at 18)
+ *     refused: the weight of 3 and 7 is 0 or above 65520 (cause 4 at 21)
  *
  *   text    written; the line, without a line feed, cut to size - 1 characters,
  *           and a 0 after it. Null only with size 0: then nothing is written
