@@ -14,23 +14,29 @@
 static struct saszvigom_graph graph; /* large, so not on the stack */
 
 /* Prints what a call returned; whether it was carried out. */
-static bool say(const char *what, uint64_t number, enum saszvigom_from from)
+static bool say_from(const char *what, uint64_t number, enum saszvigom_from from)
 {
     char line[SASZVIGOM_LINE_BYTES];
     saszvigom_explain(line, sizeof line, number, graph.n, from);
-    printf("%s: %s\n", what, line);
+    printf("%s -> %s\n", what, line);
     return saszvigom_cause_of(number) == SASZVIGOM_NO_CAUSE;
 }
 
-static bool pick(uint64_t a, uint64_t b)
+static bool say(const char *what, uint64_t number)
 {
-    printf("%u with %u, ", (unsigned)a, (unsigned)b);
-    return say("pick", saszvigom_graph_pick(&graph, a, b), SASZVIGOM_FROM_CALL);
+    return say_from(what, number, SASZVIGOM_FROM_CALL);
+}
+
+static void pick(uint64_t a, uint64_t b)
+{
+    char what[32];
+    (void)snprintf(what, sizeof what, "pick %u and %u", (unsigned)a, (unsigned)b);
+    say(what, saszvigom_graph_pick(&graph, a, b));
 }
 
 static void print_partners(uint64_t a)
 {
-    if (!say("row", saszvigom_graph_row(&graph, a), SASZVIGOM_FROM_CALL))
+    if (!say("row", saszvigom_graph_row(&graph, a)))
         return;
     printf("%u may be matched with", (unsigned)a);
     for (unsigned b = 0; b < graph.n; b++)
@@ -43,9 +49,9 @@ static void print_partners(uint64_t a)
 static bool open_with_draws(void)
 {
     for (uint32_t seed = 1; seed <= REDRAWS; seed++) {
-        say("draw", saszvigom_graph_draw(&graph, seed), SASZVIGOM_FROM_CALL);
+        say("draw", saszvigom_graph_draw(&graph, seed));
         const uint64_t number = saszvigom_graph_open(&graph);
-        say("open", number, SASZVIGOM_FROM_CALL);
+        say("open", number);
         if (saszvigom_kind_of(number) == SASZVIGOM_OPENED)
             return true;
     }
@@ -62,7 +68,7 @@ int main(void)
     if (!saszvigom_graph_set_weight(&graph, 0, 1, 65537))
         printf("65537 is no weight\n");
 
-    say("open without weights", saszvigom_graph_open(&graph), SASZVIGOM_FROM_CALL);
+    say("open without weights", saszvigom_graph_open(&graph));
     if (!open_with_draws())
         return 1;
 
@@ -72,10 +78,10 @@ int main(void)
     pick(0, 6);
     pick(1, 0);
     pick(1, 2);
-    say("undo", saszvigom_graph_undo(&graph), SASZVIGOM_FROM_CALL);
+    say("undo", saszvigom_graph_undo(&graph));
     pick(2, 3);
 
-    while (say("automatic", saszvigom_graph_automatic(&graph), SASZVIGOM_FROM_CALL))
+    while (say("automatic", saszvigom_graph_automatic(&graph)))
         continue;
     for (unsigned v = 0; v < graph.n; v++)
         printf("%u is matched with %u\n", v, saszvigom_graph_partner(&graph, v));
@@ -83,8 +89,8 @@ int main(void)
     /* A list that is no list of calls, and a sheet that is no sheet. */
     const uint64_t calls[] = {SASZVIGOM_CALL_UNDO, 0, 0, SASZVIGOM_CALL_PICK, 0};
     uint64_t answers[2];
-    say("replay", saszvigom_graph_replay(&graph, calls, 5, answers, 2), SASZVIGOM_FROM_LIST);
-    say("read", saszvigom_graph_read(&graph, (const uint8_t *)"no sheet", 8), SASZVIGOM_FROM_SHEET);
-    say("undo", saszvigom_graph_undo(&graph), SASZVIGOM_FROM_CALL);
+    say_from("replay", saszvigom_graph_replay(&graph, calls, 5, answers, 2), SASZVIGOM_FROM_LIST);
+    say_from("read", saszvigom_graph_read(&graph, (const uint8_t *)"no sheet", 8), SASZVIGOM_FROM_SHEET);
+    say("undo", saszvigom_graph_undo(&graph));
     return 0;
 }
