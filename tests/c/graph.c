@@ -116,6 +116,8 @@ static void sizes(void)
         check("weight of too many", !saszvigom_graph_set_weight(&graph, 0, 1, 1));
         check("no weight of too many", saszvigom_graph_weight(&graph, 0, 1) == 0);
         check("in row of too many", !saszvigom_graph_in_row(&graph, 0));
+        check("far in row of too many", !saszvigom_graph_in_row(&graph, 96));
+        check("far partner of too many", saszvigom_graph_partner(&graph, 96) == SASZVIGOM_UNUSED);
         check("partner of too many", saszvigom_graph_partner(&graph, 0) == SASZVIGOM_UNUSED);
         check("too many, unchanged", unchanged());
     }
@@ -181,10 +183,14 @@ static void sheets(void)
     check_number("no bytes", saszvigom_graph_read(&graph, sheet, 0), 13);
     check_number("half a sheet", saszvigom_graph_read(&graph, sheet, 9), 0x9000D);
     check("refused sheets, unchanged", unchanged());
-    check_number("and the session goes on", saszvigom_graph_undo(&graph), 0x1000300);
+    check_number("and the session goes on", saszvigom_graph_automatic(&graph), 0x203020300);
+    check_number("a row of it", saszvigom_graph_row(&graph, 4), 0x200000400);
 
     check_number("sheet", saszvigom_graph_read(&graph, sheet, sizeof sheet), 0x400030600);
     check("size", graph.n == 4 && graph.made == 0);
+    check("no session", all(graph.inverse, sizeof graph.inverse, 0) &&
+                            all(graph.sequence, sizeof graph.sequence, SASZVIGOM_UNUSED) &&
+                            all(graph.row, sizeof graph.row, 0));
     check("edges of the sheet", saszvigom_graph_adjacent(&graph, 3, 1) &&
                                     saszvigom_graph_adjacent(&graph, 0, 2) &&
                                     !saszvigom_graph_adjacent(&graph, 2, 3));
