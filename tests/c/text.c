@@ -258,7 +258,7 @@ static void any_number(void)
 {
     uint64_t state = 1;
     size_t longest = 0;
-    for (int k = 0; k < 200000; k++) {
+    for (int k = 0; k < 20000; k++) {
         char text[SASZVIGOM_LINE_BYTES];
         state = state * 6364136223846793005u + 1442695040888963407u;
         const uint64_t number = (state >> 24 & 0xFFFFFF0000u) | (state >> 20 & (k % 2 ? 0xFu : 0x700u));
