@@ -47,6 +47,14 @@
 extern "C" {
 #endif
 
+/* The version of this header. A program that is in order may have to be changed
+   where the minor number changes, as CHANGES.md says, and not where the patch
+   number does. */
+#define SASZVIGOM_VERSION_MAJOR 0
+#define SASZVIGOM_VERSION_MINOR 3
+#define SASZVIGOM_VERSION_PATCH 0
+#define SASZVIGOM_VERSION "0.3.0"
+
 /* The largest number of vertices. */
 #define SASZVIGOM_MAX_VERTICES 96u
 

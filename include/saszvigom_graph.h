@@ -1,0 +1,276 @@
+/*
+ * saszvigom: a graph with room for its session, and the calls of saszvigom.h over
+ * it.
+ *
+ *     static struct saszvigom_graph graph;
+ *     saszvigom_graph_init(&graph, 4);
+ *     saszvigom_graph_set_edge(&graph, 0, 1);
+ *     saszvigom_graph_set_edge(&graph, 2, 3);
+ *     saszvigom_graph_draw(&graph, 1);
+ *     if (saszvigom_kind_of(saszvigom_graph_open(&graph)) == SASZVIGOM_OPENED)
+ *         saszvigom_graph_pick(&graph, 0, 1);
+ *
+ * Each call passes the struct's buffers with their lengths, keeps the vertices
+ * and the pairs made, and returns the number of the entry that it calls,
+ * unchanged. saszvigom_explain of saszvigom_text.h says it in words.
+ *
+ * These mistakes do no harm: a vertex that is not there or is given twice, a
+ * weight out of range, more than 96 vertices, a session call before opening or
+ * after a graph that is singular or was changed, and null for a list or a sheet.
+ * Not guarded: null for the graph, a graph that saszvigom_graph_init has not been
+ * called for, and lists that overlap each other or the graph.
+ *
+ * The functions are of this header only; they call libsaszvigom.a and memset and
+ * allocate nothing. For C99 or C++11 and later.
+ */
+#ifndef SASZVIGOM_GRAPH_H
+#define SASZVIGOM_GRAPH_H
+
+#include "saszvigom.h"
+#include "saszvigom_text.h"
+
+#include <stdbool.h>
+#include <string.h>
+
+#ifdef __cplusplus
+extern "C" {
+#endif
+
+/* A graph of up to 96 vertices. It is large, about 55 KB: make it static or
+   allocate it where the stack is small. It has no pointers, and may be copied and
+   stored, session and all. The buffers are as saszvigom.h says; reading them is
+   in order at any time. */
+struct saszvigom_graph {
+    /* The number of vertices, and of the pairs made. */
+    uint64_t n, made;
+    uint8_t adjacency[SASZVIGOM_ADJACENCY_BYTES(SASZVIGOM_MAX_VERTICES)];
+    uint8_t weights[SASZVIGOM_WEIGHTS_BYTES(SASZVIGOM_MAX_VERTICES)];
+    uint8_t inverse[SASZVIGOM_INVERSE_BYTES(SASZVIGOM_MAX_VERTICES)];
+    uint8_t sequence[SASZVIGOM_SEQUENCE_BYTES(SASZVIGOM_MAX_VERTICES)];
+    uint8_t witness[SASZVIGOM_WITNESS_BYTES(SASZVIGOM_MAX_VERTICES)];
+    uint8_t work[SASZVIGOM_WORK_BYTES(SASZVIGOM_MAX_VERTICES)];
+    /* Who may be matched with the vertex of the last saszvigom_graph_row. */
+    uint8_t row[SASZVIGOM_ROW_BYTES(SASZVIGOM_MAX_VERTICES)];
+};
+
+/* Leaves no session: no pairs, and the inverse 0, which is that of no vertices
+   only. For this header alone. */
+static inline void saszvigom_graph_forget(struct saszvigom_graph *graph)
+{
+    graph->made = 0;
+    memset(graph->inverse, 0, sizeof graph->inverse);
+    memset(graph->sequence, SASZVIGOM_UNUSED, sizeof graph->sequence);
+    memset(graph->witness, 0, sizeof graph->witness);
+    memset(graph->work, 0, sizeof graph->work);
+    memset(graph->row, 0, sizeof graph->row);
+}
+
+/* Makes a graph of n vertices without edges. Its weights are 0, so that opening
+   it is refused with SASZVIGOM_WEIGHT_OUT_OF_RANGE until they are drawn or all
+   set. False if n is above 96: then every call of the library is refused with
+   SASZVIGOM_SIZE_TOO_LARGE, but for saszvigom_graph_read. */
+static inline bool saszvigom_graph_init(struct saszvigom_graph *graph, uint64_t n)
+{
+    memset(graph, 0, sizeof *graph);
+    saszvigom_graph_forget(graph);
+    graph->n = n;
+    return n <= SASZVIGOM_MAX_VERTICES;
+}
+
+/* Whether i and j are two different vertices of the graph. */
+static inline bool saszvigom_graph_two(const struct saszvigom_graph *graph, uint64_t i, uint64_t j)
+{
+    return graph->n <= SASZVIGOM_MAX_VERTICES && i < graph->n && j < graph->n && i != j;
+}
+
+/* Sets both adjacency bytes of two vertices. For this header alone. */
+static inline bool saszvigom_graph_mark(struct saszvigom_graph *graph, uint64_t i, uint64_t j,
+                                        uint8_t value)
+{
+    if (!saszvigom_graph_two(graph, i, j))
+        return false;
+    graph->adjacency[i * graph->n + j] = value;
+    graph->adjacency[j * graph->n + i] = value;
+    return true;
+}
+
+/* Make two vertices adjacent, or not adjacent, in either order. False, with
+   nothing changed, unless they are two different vertices of the graph.
+
+   After this and the functions that change weights the graph is to be opened
+   again. A session call before that is refused with SASZVIGOM_SESSION_MALFORMED or
+   SASZVIGOM_INVERSE_WRONG if its session is no longer one of the graph. */
+static inline bool saszvigom_graph_set_edge(struct saszvigom_graph *graph, uint64_t i, uint64_t j)
+{
+    return saszvigom_graph_mark(graph, i, j, 1);
+}
+
+static inline bool saszvigom_graph_clear_edge(struct saszvigom_graph *graph, uint64_t i, uint64_t j)
+{
+    return saszvigom_graph_mark(graph, i, j, 0);
+}
+
+/* Whether two vertices are adjacent; false where there is no such vertex. */
+static inline bool saszvigom_graph_adjacent(const struct saszvigom_graph *graph, uint64_t i,
+                                            uint64_t j)
+{
+    return saszvigom_graph_two(graph, i, j) && graph->adjacency[i * graph->n + j] == 1;
+}
+
+/* Sets the weight of two vertices, in either order, adjacent or not. False, with
+   nothing changed, unless they are two different vertices of the graph and the
+   weight is from 1 to 65520. */
+static inline bool saszvigom_graph_set_weight(struct saszvigom_graph *graph, uint64_t i, uint64_t j,
+                                              uint64_t weight)
+{
+    size_t index = 0;
+    if (weight == 0 || weight >= SASZVIGOM_MODULUS ||
+        !saszvigom_find_weight(graph->n, i, j, &index))
+        return false;
+    saszvigom_store_word(graph->weights, index, (uint16_t)weight);
+    return true;
+}
+
+/* The weight of two vertices, in either order; 0 if it is not set yet, or where
+   there is no such vertex. */
+static inline unsigned saszvigom_graph_weight(const struct saszvigom_graph *graph, uint64_t i,
+                                              uint64_t j)
+{
+    size_t index = 0;
+    return saszvigom_find_weight(graph->n, i, j, &index) ? saszvigom_word(graph->weights, index)
+                                                         : 0u;
+}
+
+/* Draws all weights from a seed: saszvigom_draws. */
+static inline uint64_t saszvigom_graph_draw(struct saszvigom_graph *graph, uint32_t seed)
+{
+    return saszvigom_draws(graph->n, seed, graph->weights, sizeof graph->weights);
+}
+
+/* Makes the graph that of a sheet, with its size, edges and weights:
+   saszvigom_read. There is no session then: it is to be opened. Where the sheet
+   is refused the graph and its session are as they were. Null is a sheet of no
+   bytes. */
+static inline uint64_t saszvigom_graph_read(struct saszvigom_graph *graph, const uint8_t *sheet,
+                                            size_t sheet_len)
+{
+    const uint8_t none = 0;
+    const uint64_t number = saszvigom_read(sheet != NULL ? sheet : &none,
+                                           sheet != NULL ? sheet_len : 0, graph->adjacency,
+                                           sizeof graph->adjacency, graph->weights,
+                                           sizeof graph->weights);
+    if (saszvigom_kind_of(number) == SASZVIGOM_SHEET) {
+        saszvigom_graph_forget(graph);
+        graph->n = saszvigom_size_of(number);
+    }
+    return number;
+}
+
+/* Keeps the pairs made of a call that was carried out. For this header alone. */
+static inline uint64_t saszvigom_graph_keep(struct saszvigom_graph *graph, uint64_t number)
+{
+    if (saszvigom_cause_of(number) == SASZVIGOM_NO_CAUSE)
+        graph->made = saszvigom_made_of(number);
+    return number;
+}
+
+/* Finds the inverse or a witness, and begins a session with no pairs:
+   saszvigom_open. Refused, it leaves the session that there was. */
+static inline uint64_t saszvigom_graph_open(struct saszvigom_graph *graph)
+{
+    return saszvigom_graph_keep(
+        graph, saszvigom_open(graph->n, graph->adjacency, sizeof graph->adjacency, graph->weights,
+                              sizeof graph->weights, graph->inverse, sizeof graph->inverse,
+                              graph->sequence, sizeof graph->sequence, graph->witness,
+                              sizeof graph->witness, graph->work, sizeof graph->work));
+}
+
+/* Matches vertices a and b, in either order: saszvigom_pick. */
+static inline uint64_t saszvigom_graph_pick(struct saszvigom_graph *graph, uint64_t a, uint64_t b)
+{
+    return saszvigom_graph_keep(
+        graph, saszvigom_pick(graph->n, graph->made, a, b, graph->adjacency,
+                              sizeof graph->adjacency, graph->weights, sizeof graph->weights,
+                              graph->inverse, sizeof graph->inverse, graph->sequence,
+                              sizeof graph->sequence));
+}
+
+/* Matches the lowest unmatched vertex: saszvigom_automatic. */
+static inline uint64_t saszvigom_graph_automatic(struct saszvigom_graph *graph)
+{
+    return saszvigom_graph_keep(
+        graph, saszvigom_automatic(graph->n, graph->made, graph->adjacency,
+                                   sizeof graph->adjacency, graph->weights, sizeof graph->weights,
+                                   graph->inverse, sizeof graph->inverse, graph->sequence,
+                                   sizeof graph->sequence));
+}
+
+/* Removes the last pair: saszvigom_undo. */
+static inline uint64_t saszvigom_graph_undo(struct saszvigom_graph *graph)
+{
+    return saszvigom_graph_keep(
+        graph, saszvigom_undo(graph->n, graph->made, graph->adjacency, sizeof graph->adjacency,
+                              graph->weights, sizeof graph->weights, graph->inverse,
+                              sizeof graph->inverse, graph->sequence, sizeof graph->sequence));
+}
+
+/* Finds who may be matched with vertex a, and writes it to row: saszvigom_row.
+   Refused, it leaves row all 0. */
+static inline uint64_t saszvigom_graph_row(struct saszvigom_graph *graph, uint64_t a)
+{
+    memset(graph->row, 0, sizeof graph->row);
+    return saszvigom_row(graph->n, graph->made, a, graph->adjacency, sizeof graph->adjacency,
+                         graph->weights, sizeof graph->weights, graph->inverse,
+                         sizeof graph->inverse, graph->sequence, sizeof graph->sequence,
+                         graph->row, sizeof graph->row);
+}
+
+/* Whether b may be matched with the vertex of the last saszvigom_graph_row; false
+   where there is no such vertex. */
+static inline bool saszvigom_graph_in_row(const struct saszvigom_graph *graph, uint64_t b)
+{
+    return graph->n <= SASZVIGOM_MAX_VERTICES && b < graph->n && graph->row[b] == 1;
+}
+
+/* The vertex that v is matched with, or SASZVIGOM_UNUSED if v is unmatched or not
+   there. */
+static inline unsigned saszvigom_graph_partner(const struct saszvigom_graph *graph, uint64_t v)
+{
+    uint64_t k;
+    if (graph->n > SASZVIGOM_MAX_VERTICES || v >= graph->n)
+        return SASZVIGOM_UNUSED;
+    for (k = 0; k < graph->n && k / 2u < graph->made; k++)
+        if (graph->sequence[k] == v)
+            return graph->sequence[k ^ 1u];
+    return SASZVIGOM_UNUSED;
+}
+
+/* Makes a list of calls: saszvigom_replay. The lengths count numbers. Null for
+   answers is room for none, and null for calls is the empty list with length 0,
+   and else a list that is refused with SASZVIGOM_LIST_CUT at 0. */
+static inline uint64_t saszvigom_graph_replay(struct saszvigom_graph *graph, const uint64_t *calls,
+                                              size_t calls_len, uint64_t *answers,
+                                              size_t answers_len)
+{
+    const uint64_t no_calls = 0;
+    uint64_t no_answers = 0;
+    if (calls == NULL) {
+        calls = &no_calls;
+        calls_len = calls_len > 0 ? 1 : 0;
+    }
+    if (answers == NULL) {
+        answers = &no_answers;
+        answers_len = 0;
+    }
+    return saszvigom_graph_keep(
+        graph, saszvigom_replay(graph->n, graph->made, graph->adjacency, sizeof graph->adjacency,
+                                graph->weights, sizeof graph->weights, graph->inverse,
+                                sizeof graph->inverse, graph->sequence, sizeof graph->sequence,
+                                calls, calls_len, answers, answers_len));
+}
+
+#ifdef __cplusplus
+}
+#endif
+
+#endif

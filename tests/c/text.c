@@ -1,0 +1,284 @@
+/*
+ * Compares what the functions of saszvigom_text.h return with what is expected.
+ * Stops with status 1 at the first difference, and prints how many cases there
+ * were.
+ */
+#include "saszvigom_text.h"
+
+#include <stdio.h>
+#include <stdlib.h>
+#include <string.h>
+
+#define COUNT(array) (sizeof(array) / sizeof(array)[0])
+
+static size_t cases;
+
+static void fail(const char *what)
+{
+    printf("differs: %s\n", what);
+    exit(1);
+}
+
+static void check(const char *what, bool holds)
+{
+    cases++;
+    if (!holds)
+        fail(what);
+}
+
+static void check_text(const char *what, const char *text, const char *expected)
+{
+    cases++;
+    if (strcmp(text, expected) != 0) {
+        printf("%s: \"%s\", expected \"%s\"\n", what, text, expected);
+        fail(what);
+    }
+}
+
+/* The texts of the causes, buffers and kinds, from 0 on; the last ones are those
+   of unknown numbers. */
+static const char *const unknown = "an unknown cause";
+
+static const char *const causes[] = {
+    "the call was carried out",
+    "there are more than 96 vertices",
+    "a buffer is too short",
+    "an adjacency byte is not 0 or 1, is not 0 on the diagonal, or differs from its mirror image",
+    "a weight is 0 or above 65520",
+    "the sequence does not hold so many matched pairs",
+    "the inverse is not that of the unmatched vertices",
+    "there is no such vertex, or both vertices are the same",
+    "a vertex is matched already",
+    "the two vertices are not adjacent",
+    "the vertices left unmatched would have no inverse",
+    "no vertex is left to match, or no pair to undo",
+};
+
+static void texts(void)
+{
+    const char *const buffers[] = {"unknown", "adjacency", "weights", "inverse", "sequence",
+                                   "witness", "work",      "row",     "unknown", "unknown",
+                                   "answers", "unknown"};
+    const char *const kinds[] = {"refused", "opened", "singular", "pair",   "row",
+                                 "replayed", "sheet", "draws",    "unknown"};
+    const enum saszvigom_from froms[] = {SASZVIGOM_FROM_CALL, SASZVIGOM_FROM_LIST,
+                                         SASZVIGOM_FROM_SHEET};
+    for (size_t from = 0; from < COUNT(froms); from++) {
+        for (unsigned cause = 0; cause < COUNT(causes); cause++)
+            check_text("cause", saszvigom_cause_text(cause, froms[from]), causes[cause]);
+        check_text("cause 16", saszvigom_cause_text(16, froms[from]), unknown);
+        check_text("cause 255", saszvigom_cause_text(255, froms[from]), unknown);
+        check_text("largest cause", saszvigom_cause_text(~0u, froms[from]), unknown);
+    }
+    for (unsigned cause = 12; cause < 16; cause++)
+        check_text("no cause of a call", saszvigom_cause_text(cause, SASZVIGOM_FROM_CALL), unknown);
+    check_text("12 of a list", saszvigom_cause_text(12, SASZVIGOM_FROM_LIST),
+               "a call of the list is of no known kind");
+    check_text("13 of a list", saszvigom_cause_text(13, SASZVIGOM_FROM_LIST),
+               "the list ends within a call");
+    check_text("14 of a list", saszvigom_cause_text(14, SASZVIGOM_FROM_LIST), unknown);
+    check_text("15 of a list", saszvigom_cause_text(15, SASZVIGOM_FROM_LIST), unknown);
+    check_text("12 of a sheet", saszvigom_cause_text(12, SASZVIGOM_FROM_SHEET),
+               "a byte of the sheet is no record that may stand there");
+    check_text("13 of a sheet", saszvigom_cause_text(13, SASZVIGOM_FROM_SHEET),
+               "the sheet ends within a record, or before its end record");
+    check_text("14 of a sheet", saszvigom_cause_text(14, SASZVIGOM_FROM_SHEET),
+               "a record has a vertex that is not there, or the same vertex twice");
+    check_text("15 of a sheet", saszvigom_cause_text(15, SASZVIGOM_FROM_SHEET),
+               "an earlier record has the same edge");
+
+    for (unsigned buffer = 0; buffer < COUNT(buffers); buffer++)
+        check_text("buffer", saszvigom_buffer_text(buffer), buffers[buffer]);
+    check_text("largest buffer", saszvigom_buffer_text(~0u), "unknown");
+    for (unsigned kind = 0; kind < COUNT(kinds); kind++)
+        check_text("kind", saszvigom_kind_text(kind), kinds[kind]);
+    check_text("largest kind", saszvigom_kind_text(~0u), "unknown");
+}
+
+/* Whether n vertices have no weight at an index, and the outputs are left. */
+static bool no_vertices(uint64_t n, uint64_t index)
+{
+    unsigned i = 77, j = 78;
+    return !saszvigom_weight_vertices(n, index, &i, &j) && i == 77 && j == 78;
+}
+
+static bool no_index(uint64_t n, uint64_t i, uint64_t j)
+{
+    size_t index = 77;
+    return !saszvigom_find_weight(n, i, j, &index) && index == 77;
+}
+
+static void indices(void)
+{
+    for (unsigned n = 0; n <= SASZVIGOM_MAX_VERTICES; n++) {
+        size_t expected = 0;
+        bool same = true;
+        for (unsigned i = 0; i < n; i++)
+            for (unsigned j = i + 1; j < n; j++) {
+                size_t index = SIZE_MAX, swapped = SIZE_MAX;
+                unsigned first = 99, second = 99;
+                same = same && saszvigom_find_weight(n, i, j, &index) && index == expected &&
+                       saszvigom_find_weight(n, j, i, &swapped) && swapped == expected &&
+                       saszvigom_weight_vertices(n, expected, &first, &second) && first == i &&
+                       second == j;
+                expected++;
+            }
+        check("indices and vertices", same);
+        check("count", saszvigom_weight_count(n) == expected);
+        check("index past the last", no_vertices(n, expected));
+        check("a vertex and itself", no_index(n, n / 2, n / 2));
+        check("the first vertex too large", no_index(n, n, 0));
+        check("the second vertex too large", no_index(n, 0, n));
+    }
+    const uint64_t large[] = {97, 256, 4294967296u + 4, UINT64_MAX};
+    for (size_t k = 0; k < COUNT(large); k++) {
+        check("count of too many", saszvigom_weight_count(large[k]) == 0);
+        check("index of too many", no_index(large[k], 0, 1));
+        check("vertices of too many", no_vertices(large[k], 0));
+        check("large index", no_vertices(96, 4560 + large[k] % 4294967296u));
+        check("large vertex", no_index(4, 1, large[k]));
+        check("large vertex first", no_index(4, large[k], 1));
+        check("row of too many", saszvigom_fault_row(0x50003, large[k]) == 0);
+        check("column of too many", saszvigom_fault_column(0x50003, large[k]) == 0);
+    }
+}
+
+static void faults(void)
+{
+    for (unsigned n = 1; n <= SASZVIGOM_MAX_VERTICES; n++) {
+        bool same = true;
+        for (unsigned i = 0; i < n; i++)
+            for (unsigned j = 0; j < n; j++) {
+                const uint64_t number = 3 | (uint64_t)(i * n + j) << 16;
+                same = same && saszvigom_fault_row(number, n) == i &&
+                       saszvigom_fault_column(number, n) == j;
+            }
+        check("row and column", same);
+    }
+    check("row of no vertices", saszvigom_fault_row(0x90003, 0) == 0);
+    check("column of no vertices", saszvigom_fault_column(0x90003, 0) == 0);
+}
+
+#define CALL SASZVIGOM_FROM_CALL
+#define LIST SASZVIGOM_FROM_LIST
+#define SHEET SASZVIGOM_FROM_SHEET
+
+static const struct {
+    uint64_t number, n;
+    enum saszvigom_from from;
+    const char *line;
+} lines[] = {
+    {0x100, 4, CALL, "opened: there is an inverse, and a perfect matching"},
+    {0x20200, 3, CALL,
+     "singular: there is no inverse, first dependent column 2; the number of vertices is odd"},
+    {0x5F0200, 96, CALL,
+     "singular: there is no inverse, first dependent column 95; other weights may have one"},
+    {0x102000300, 4, CALL, "pair: 0 and 2, pairs made 1"},
+    {0x305F5E0300, 96, CALL, "pair: 94 and 95, pairs made 48"},
+    {0x100000400, 4, CALL, "row: written, pairs made 1"},
+    {0x200000500, 4, LIST, "replayed: all calls made, pairs made 2"},
+    {0x400030600, 0, SHEET, "sheet: vertices 4, edges 3"},
+    {0x6011D00600, 0, SHEET, "sheet: vertices 96, edges 4560"},
+    {0x60700, 4, CALL, "draws: weights drawn 6"},
+    {0x000001, 97, CALL, "refused: there are more than 96 vertices (cause 1)"},
+    {0x000001, 0, SHEET, "refused: there are more than 96 vertices (cause 1)"},
+    {0x10002, 4, SHEET, "refused: the adjacency buffer is too short (cause 2 at 1)"},
+    {0x70002, 4, CALL, "refused: the row buffer is too short (cause 2 at 7)"},
+    {0x90002, 4, CALL, "refused: the unknown buffer is too short (cause 2 at 9)"},
+    {0xA0002, 4, LIST, "refused: the answers buffer is too short (cause 2 at 10)"},
+    {0x23FF0003, 96, CALL,
+     "refused: the adjacency byte of row 95 and column 95 is not 0 (cause 3 at 9215)"},
+    {0x60003, 4, CALL,
+     "refused: the adjacency byte of row 1 and column 2 is not 0 or 1, or differs from that of "
+     "row 2 and column 1 (cause 3 at 6)"},
+    {0x100003, 4, CALL,
+     "refused: an adjacency byte is not 0 or 1, is not 0 on the diagonal, or differs from its "
+     "mirror image (cause 3 at 16)"},
+    {0x000003, 0, CALL,
+     "refused: an adjacency byte is not 0 or 1, is not 0 on the diagonal, or differs from its "
+     "mirror image (cause 3 at 0)"},
+    {0x180004, 8, CALL, "refused: the weight of 4 and 7 is 0 or above 65520 (cause 4 at 24)"},
+    {0x150004, 8, CALL, "refused: the weight of 3 and 7 is 0 or above 65520 (cause 4 at 21)"},
+    {0x11CF0004, 96, LIST, "refused: the weight of 94 and 95 is 0 or above 65520 (cause 4 at 4559)"},
+    {0x60004, 4, CALL, "refused: a weight is 0 or above 65520 (cause 4 at 6)"},
+    {5, 4, CALL, "refused: the sequence does not hold so many matched pairs (cause 5)"},
+    {6, 4, LIST, "refused: the inverse is not that of the unmatched vertices (cause 6)"},
+    {7, 4, CALL, "refused: there is no such vertex, or both vertices are the same (cause 7)"},
+    {8, 4, CALL, "refused: a vertex is matched already (cause 8)"},
+    {9, 4, CALL, "refused: the two vertices are not adjacent (cause 9)"},
+    {10, 4, CALL, "refused: the vertices left unmatched would have no inverse (cause 10)"},
+    {11, 4, CALL, "refused: no vertex is left to match, or no pair to undo (cause 11)"},
+    {0x1000C, 4, LIST, "refused: a call of the list is of no known kind (cause 12 at 1)"},
+    {0xFFFF000C, 4, LIST,
+     "refused: a call of the list is of no known kind (cause 12 at 65535 or later)"},
+    {0xFFFF000D, 4, LIST, "refused: the list ends within a call (cause 13 at 65535 or later)"},
+    {0x7000C, 4, SHEET,
+     "refused: a byte of the sheet is no record that may stand there (cause 12 at 7)"},
+    {0xA000D, 4, SHEET,
+     "refused: the sheet ends within a record, or before its end record (cause 13 at 10)"},
+    {0x7000E, 4, SHEET,
+     "refused: a record has a vertex that is not there, or the same vertex twice (cause 14 at 7)"},
+    {0xD000F, 4, SHEET, "refused: an earlier record has the same edge (cause 15 at 13)"},
+    {0x7000C, 4, CALL, "refused: an unknown cause (cause 12 at 7)"},
+    {0xFF, 4, CALL, "refused: an unknown cause (cause 255 at 0)"},
+    {0, 4, CALL, "no answer: neither a cause nor a kind"},
+    {0x800, 4, CALL, "no answer: unknown kind 8"},
+    {0x101, 4, CALL, "no answer: both a cause and a kind"},
+    {UINT64_MAX, UINT64_MAX, LIST, "no answer: both a cause and a kind"},
+};
+
+/* Every line into room of every size, with a byte after it that stays. */
+static void explanations(void)
+{
+    for (size_t k = 0; k < COUNT(lines); k++) {
+        const size_t length = strlen(lines[k].line);
+        char text[SASZVIGOM_LINE_BYTES + 1];
+        check("length alone", saszvigom_explain(NULL, 0, lines[k].number, lines[k].n,
+                                                lines[k].from) == length);
+        check("room for every line", length < SASZVIGOM_LINE_BYTES);
+        for (size_t size = 0; size <= SASZVIGOM_LINE_BYTES; size++) {
+            char expected[sizeof text];
+            const size_t kept = size == 0 ? 0 : length < size ? length : size - 1;
+            memset(text, '#', sizeof text);
+            memset(expected, '#', sizeof expected);
+            memcpy(expected, lines[k].line, kept);
+            if (size > 0)
+                expected[kept] = '\0';
+            const size_t returned =
+                saszvigom_explain(text, size, lines[k].number, lines[k].n, lines[k].from);
+            if (size == SASZVIGOM_LINE_BYTES)
+                check_text("line", text, lines[k].line);
+            check(lines[k].line, returned == length && memcmp(text, expected, sizeof text) == 0);
+        }
+    }
+}
+
+/* No number has a line that is longer than SASZVIGOM_LINE_BYTES allows. */
+static void any_number(void)
+{
+    uint64_t state = 1;
+    size_t longest = 0;
+    for (int k = 0; k < 20000; k++) {
+        char text[SASZVIGOM_LINE_BYTES];
+        state = state * 6364136223846793005u + 1442695040888963407u;
+        const uint64_t number = (state >> 24 & 0xFFFFFF0000u) | (state >> 20 & (k % 2 ? 0xFu : 0x700u));
+        const uint64_t n = state >> 57;
+        const size_t length =
+            saszvigom_explain(text, sizeof text, number, n, (enum saszvigom_from)(k % 3));
+        if (length >= sizeof text || strlen(text) != length)
+            fail("any number");
+        longest = length > longest ? length : longest;
+    }
+    check("the longest line", longest > 120 && longest < SASZVIGOM_LINE_BYTES);
+}
+
+int main(void)
+{
+    texts();
+    indices();
+    faults();
+    explanations();
+    any_number();
+    printf("%zu cases\n", cases);
+    return 0;
+}
