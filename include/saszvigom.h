@@ -11,9 +11,10 @@
  *
  * and every other entry is 0. If A has an inverse, as it always has for n = 0,
  * the vertices can be matched in pairs of adjacent vertices, with none left
- * over: a perfect matching. If it has none, as always for odd n, there is a
- * vector w other than 0 with A w = 0, the witness. A witness alone does not show
- * that there is no perfect matching: the weights may cancel.
+ * over: a perfect matching. If it has none, A is singular, and there is a vector
+ * w other than 0 with A w = 0, the witness. For odd n it always is, and there is
+ * no perfect matching. For even n a witness decides nothing: there may be a
+ * perfect matching all the same, for the weights may cancel.
  *
  * A weight is the value put for a variable of that matrix: it is no preference,
  * and finds no matching of largest or smallest weight. Weights are to be drawn
@@ -22,6 +23,11 @@
  * singular, though 0 with 1 and 2 with 3 is a perfect matching. saszvigom_draws
  * gives the weights of a seed; where a graph opens as singular, those of another
  * seed may open it.
+ *
+ * The inverse shows what can be matched: of two adjacent vertices, both still
+ * unmatched, a pick is accepted if their entry of it is not 0, and refused with
+ * SASZVIGOM_REST_SINGULAR if it is 0. saszvigom_row looks this up for all
+ * partners of a vertex.
  *
  * saszvigom_read reads a graph from the bytes of a sheet, and saszvigom_draws
  * draws weights. saszvigom_open finds the inverse or a witness. With an inverse
@@ -32,6 +38,10 @@
  * the vertices that it leaves have an inverse too, so a session never runs into
  * a dead end: automatic picks match every vertex that is left.
  *
+ * To begin with, take saszvigom_graph.h: a struct with all buffers, and every
+ * call over it. saszvigom_text.h says an answer in words. The guide is HOST.md in
+ * share/doc/saszvigom.
+ *
  * For C99 or C++11 and later. Link with libsaszvigom.a, which is for 64-bit x86 and
  * the System V ABI. It keeps no state, allocates nothing, and calls only memcpy,
  * memmove and memset. Threads may call it at once if none writes to a buffer
@@ -40,6 +50,7 @@
 #ifndef SASZVIGOM_H
 #define SASZVIGOM_H
 
+#include <stdbool.h>
 #include <stddef.h>
 #include <stdint.h>
 
@@ -51,9 +62,34 @@ extern "C" {
    where the minor number changes, as CHANGES.md says, and not where the patch
    number does. */
 #define SASZVIGOM_VERSION_MAJOR 0
-#define SASZVIGOM_VERSION_MINOR 3
+#define SASZVIGOM_VERSION_MINOR 4
 #define SASZVIGOM_VERSION_PATCH 0
-#define SASZVIGOM_VERSION "0.3.0"
+#define SASZVIGOM_VERSION "0.4.0"
+
+/* The same as a number, for #if too: the patch number in bits 0 to 7, the minor
+   one in 8 to 15 and the major one in 16 to 23. */
+#define SASZVIGOM_VERSION_NUMBER \
+    (SASZVIGOM_VERSION_MAJOR * 65536u + SASZVIGOM_VERSION_MINOR * 256u + SASZVIGOM_VERSION_PATCH)
+
+/* The version of the library that is linked, as such a number. It is
+   SASZVIGOM_VERSION_NUMBER unless header and library do not belong together. */
+uint64_t saszvigom_version(void);
+
+/* The type of the enums. A number may have a value that no enumerator has, such as
+   a cause of a later version, and in C++ that needs a fixed type. */
+#ifdef __cplusplus
+#define SASZVIGOM_ENUM_TYPE : unsigned
+#else
+#define SASZVIGOM_ENUM_TYPE
+#endif
+
+/* No buffer may be null: compilers warn where one is sure to be, and
+   -fsanitize=undefined reports a call with one. */
+#if defined(__GNUC__)
+#define SASZVIGOM_NOT_NULL __attribute__((nonnull))
+#else
+#define SASZVIGOM_NOT_NULL
+#endif
 
 /* The largest number of vertices. */
 #define SASZVIGOM_MAX_VERTICES 96u
@@ -83,11 +119,12 @@ extern "C" {
 /* How many numbers a call has in the list of saszvigom_replay. */
 #define SASZVIGOM_NUMBERS_A_CALL 3u
 
-/* Why a call was refused: bits 0 to 7 of the number returned. The place, in bits
-   16 to 31, says where. 12 and 13 have two names each: one for the list of
+/* Why a call was refused: bits 0 to 7 of the number returned. No number is 0, so
+   test saszvigom_cause_of(number) and never the number. The place, in bits 16 to
+   31, says where. 12 and 13 have two names each: one for the list of
    saszvigom_replay and one for the sheet of saszvigom_read, the only calls that
    return them. */
-enum saszvigom_cause {
+enum saszvigom_cause SASZVIGOM_ENUM_TYPE {
     /* The call was carried out. */
     SASZVIGOM_NO_CAUSE = 0,
     /* n is above 96. The place is 0, which is also the offset of a sheet's size
@@ -99,7 +136,8 @@ enum saszvigom_cause {
     /* The adjacency byte of row i and column j is not 0 or 1, or is not 0 though
        i = j, or differs from that of row j and column i. The place is i * n + j
        for the first such byte, row by row. Where two bytes differ both are at
-       fault, so j is never below i. */
+       fault, so j is never below i. This place is to change: ask
+       saszvigom_fault_row and saszvigom_fault_column of saszvigom_text.h. */
     SASZVIGOM_ADJACENCY_FAULT = 3,
     /* A weight is 0 or above 65520, of adjacent vertices or of others. The place
        is the index of the first such weight: 0 for the first word, 1 for the
@@ -111,7 +149,8 @@ enum saszvigom_cause {
        place is 0, as it is for the causes 6 to 11. */
     SASZVIGOM_SESSION_MALFORMED = 5,
     /* A word of the inverse is not the one that belongs there, or the unmatched
-       vertices have no inverse. */
+       vertices have no inverse. It is also what a session call gets before the
+       graph is opened, and where it is singular. */
     SASZVIGOM_INVERSE_WRONG = 6,
     /* A vertex is n or more, or both vertices of a pick are the same. */
     SASZVIGOM_VERTEX_INVALID = 7,
@@ -146,7 +185,7 @@ enum saszvigom_cause {
 };
 
 /* The buffers, as the place of SASZVIGOM_BUFFER_TOO_SHORT names them. */
-enum saszvigom_buffer {
+enum saszvigom_buffer SASZVIGOM_ENUM_TYPE {
     SASZVIGOM_BUFFER_ADJACENCY = 1,
     SASZVIGOM_BUFFER_WEIGHTS = 2,
     SASZVIGOM_BUFFER_INVERSE = 3,
@@ -159,7 +198,7 @@ enum saszvigom_buffer {
 };
 
 /* What a call found: bits 8 to 15 of the number returned. */
-enum saszvigom_kind {
+enum saszvigom_kind SASZVIGOM_ENUM_TYPE {
     /* Nothing: the call was refused. */
     SASZVIGOM_REFUSED = 0,
     /* A has an inverse. */
@@ -179,7 +218,7 @@ enum saszvigom_kind {
 };
 
 /* The kinds of records in a sheet: the first byte of each. */
-enum saszvigom_record {
+enum saszvigom_record SASZVIGOM_ENUM_TYPE {
     /* The number of vertices: 1 byte. */
     SASZVIGOM_RECORD_SIZE = 1,
     /* An edge: the bytes of two vertices, in either order. */
@@ -191,7 +230,7 @@ enum saszvigom_record {
 };
 
 /* The kinds of calls in the list of saszvigom_replay. */
-enum saszvigom_call {
+enum saszvigom_call SASZVIGOM_ENUM_TYPE {
     SASZVIGOM_CALL_PICK = 1,
     SASZVIGOM_CALL_AUTOMATIC = 2,
     SASZVIGOM_CALL_UNDO = 3
@@ -240,6 +279,7 @@ enum saszvigom_call {
  *     singular    0        2         f
  *     refused     cause    0         place
  */
+SASZVIGOM_NOT_NULL
 uint64_t saszvigom_open(uint64_t n,
                         const uint8_t *adjacency, size_t adjacency_len,
                         const uint8_t *weights, size_t weights_len,
@@ -284,6 +324,7 @@ uint64_t saszvigom_open(uint64_t n,
  *     sheet       0        6         edges      n
  *     refused     cause    0         place      0
  */
+SASZVIGOM_NOT_NULL
 uint64_t saszvigom_read(const uint8_t *sheet, size_t sheet_len,
                         uint8_t *adjacency, size_t adjacency_len,
                         uint8_t *weights, size_t weights_len);
@@ -311,6 +352,7 @@ uint64_t saszvigom_read(const uint8_t *sheet, size_t sheet_len,
  *     draws       0        7         weights
  *     refused     cause    0         place
  */
+SASZVIGOM_NOT_NULL
 uint64_t saszvigom_draws(uint64_t n, uint32_t seed, uint8_t *weights, size_t weights_len);
 
 /*
@@ -364,6 +406,7 @@ uint64_t saszvigom_draws(uint64_t n, uint32_t seed, uint8_t *weights, size_t wei
  * adjacent unmatched vertices are refused with SASZVIGOM_REST_SINGULAR if the
  * vertices left after them have no inverse.
  */
+SASZVIGOM_NOT_NULL
 uint64_t saszvigom_pick(uint64_t n, uint64_t made, uint64_t a, uint64_t b,
                         const uint8_t *adjacency, size_t adjacency_len,
                         const uint8_t *weights, size_t weights_len,
@@ -378,6 +421,7 @@ uint64_t saszvigom_pick(uint64_t n, uint64_t made, uint64_t a, uint64_t b,
  * unless a cause from 1 to 6 applies, or SASZVIGOM_NOTHING_LEFT: all vertices are
  * matched.
  */
+SASZVIGOM_NOT_NULL
 uint64_t saszvigom_automatic(uint64_t n, uint64_t made,
                              const uint8_t *adjacency, size_t adjacency_len,
                              const uint8_t *weights, size_t weights_len,
@@ -391,9 +435,11 @@ uint64_t saszvigom_automatic(uint64_t n, uint64_t made,
  *
  * The arguments are those of saszvigom_pick. Kind SASZVIGOM_PAIR with the pair
  * removed, unless a cause from 1 to 6 applies, or SASZVIGOM_NOTHING_LEFT: there
- * is no pair. SASZVIGOM_REST_SINGULAR is possible only for a session that did
- * not come from saszvigom_open but was put together by other means.
+ * is no pair. SASZVIGOM_REST_SINGULAR is possible only for a session that was
+ * put together by other means than saszvigom_open and these calls, or whose
+ * graph was changed since.
  */
+SASZVIGOM_NOT_NULL
 uint64_t saszvigom_undo(uint64_t n, uint64_t made,
                         const uint8_t *adjacency, size_t adjacency_len,
                         const uint8_t *weights, size_t weights_len,
@@ -414,6 +460,7 @@ uint64_t saszvigom_undo(uint64_t n, uint64_t made,
  * SASZVIGOM_VERTEX_INVALID or SASZVIGOM_VERTEX_MATCHED for a itself. The pairs
  * made are those that were sent.
  */
+SASZVIGOM_NOT_NULL
 uint64_t saszvigom_row(uint64_t n, uint64_t made, uint64_t a,
                        const uint8_t *adjacency, size_t adjacency_len,
                        const uint8_t *weights, size_t weights_len,
@@ -454,6 +501,7 @@ uint64_t saszvigom_row(uint64_t n, uint64_t made, uint64_t a,
  * SASZVIGOM_BUFFER_TOO_SHORT at SASZVIGOM_BUFFER_ANSWERS. An empty list is in
  * order, and tells whether a session is sound.
  */
+SASZVIGOM_NOT_NULL
 uint64_t saszvigom_replay(uint64_t n, uint64_t made,
                           const uint8_t *adjacency, size_t adjacency_len,
                           const uint8_t *weights, size_t weights_len,
@@ -462,22 +510,30 @@ uint64_t saszvigom_replay(uint64_t n, uint64_t made,
                           const uint64_t *calls, size_t calls_len,
                           uint64_t *answers, size_t answers_len);
 
-/* The cause in a number returned: one of enum saszvigom_cause. */
-static inline unsigned saszvigom_cause_of(uint64_t number)
+/* Why the call was refused, and SASZVIGOM_NO_CAUSE exactly if it was carried out.
+   A cause that no enumerator has, as a later version may return, is a refusal. */
+static inline enum saszvigom_cause saszvigom_cause_of(uint64_t number)
 {
-    return (unsigned)(number & 0xFFu);
+    return (enum saszvigom_cause)(number & 0xFFu);
 }
 
-/* What the call found: one of enum saszvigom_kind. */
-static inline unsigned saszvigom_kind_of(uint64_t number)
+/* What the call found. */
+static inline enum saszvigom_kind saszvigom_kind_of(uint64_t number)
 {
-    return (unsigned)(number >> 8 & 0xFFu);
+    return (enum saszvigom_kind)(number >> 8 & 0xFFu);
 }
 
 /* The place of the cause. It means nothing where the call was not refused. */
 static inline unsigned saszvigom_place_of(uint64_t number)
 {
     return (unsigned)(number >> 16 & 0xFFFFu);
+}
+
+/* The first buffer that is too short: the place as an enum. It means nothing for
+   a cause other than SASZVIGOM_BUFFER_TOO_SHORT. */
+static inline enum saszvigom_buffer saszvigom_buffer_of(uint64_t number)
+{
+    return (enum saszvigom_buffer)(number >> 16 & 0xFFFFu);
 }
 
 /* The first dependent column f. It means nothing for a kind other than
@@ -530,23 +586,39 @@ static inline unsigned saszvigom_drawn_of(uint64_t number)
     return (unsigned)(number >> 16 & 0xFFFFu);
 }
 
-/* The index of the weight of vertices i < j < n. */
-static inline size_t saszvigom_weight_index(size_t n, size_t i, size_t j)
+/* An index that no buffer of words has. */
+#define SASZVIGOM_NO_INDEX SIZE_MAX
+
+/* The index of the weight of vertices i and j of n, in either order.
+   SASZVIGOM_NO_INDEX if n is above 96, a vertex is n or more, or i = j: the two
+   functions below do no harm with it, but a subscript does. */
+static inline size_t saszvigom_weight_index(uint64_t n, uint64_t i, uint64_t j)
 {
-    return i * n - i * (i + 1u) / 2u + (j - i - 1u);
+    const uint64_t smaller = i < j ? i : j, larger = i < j ? j : i;
+    if (n > SASZVIGOM_MAX_VERTICES || larger >= n || smaller == larger)
+        return SASZVIGOM_NO_INDEX;
+    return (size_t)(smaller * n - smaller * (smaller + 1u) / 2u + (larger - smaller - 1u));
 }
 
-/* The word at an index of a buffer of words. */
+/* The word at an index of a buffer of words; 0 for an index of 9216 or more, more
+   than any buffer has. Else the word must be there. */
 static inline uint16_t saszvigom_word(const uint8_t *words, size_t index)
 {
+    if (index >= SASZVIGOM_MAX_VERTICES * SASZVIGOM_MAX_VERTICES)
+        return 0;
     return (uint16_t)(words[2u * index] | words[2u * index + 1u] << 8);
 }
 
-/* Stores a word at an index of a buffer of words. */
-static inline void saszvigom_store_word(uint8_t *words, size_t index, uint16_t word)
+/* Stores a word, 0 to 65520, at an index of a buffer of words. False, with
+   nothing written, if it is 65521 or more, which a negative number becomes, or if
+   the index is 9216 or more. 0 is a word but no weight: opening refuses it. */
+static inline bool saszvigom_store_word(uint8_t *words, size_t index, uint64_t word)
 {
+    if (word >= SASZVIGOM_MODULUS || index >= SASZVIGOM_MAX_VERTICES * SASZVIGOM_MAX_VERTICES)
+        return false;
     words[2u * index] = (uint8_t)(word & 0xFFu);
     words[2u * index + 1u] = (uint8_t)(word >> 8);
+    return true;
 }
 
 #ifdef __cplusplus

@@ -17,8 +17,9 @@
  * These mistakes do no harm: a vertex that is not there or is given twice, a
  * weight out of range, more than 96 vertices, a session call before opening or
  * after a graph that is singular or was changed, and null for a list or a sheet.
- * Not guarded: null for the graph, a graph that saszvigom_graph_init has not been
- * called for, and lists that overlap each other or the graph.
+ * Not guarded: null for the graph, a graph whose bytes were never set, by
+ * saszvigom_graph_init or from a copy, and lists that overlap each other or the
+ * graph.
  *
  * The functions are of this header only; they call libsaszvigom.a and memset and
  * allocate nothing. For C99 or C++11 and later.
@@ -29,7 +30,6 @@
 #include "saszvigom.h"
 #include "saszvigom_text.h"
 
-#include <stdbool.h>
 #include <string.h>
 
 #ifdef __cplusplus
@@ -38,8 +38,13 @@ extern "C" {
 
 /* A graph of up to 96 vertices. It is large, about 55 KB: make it static or
    allocate it where the stack is small. It has no pointers, and may be copied and
-   stored, session and all. The buffers are as saszvigom.h says; reading them is
-   in order at any time. */
+   stored, session and all; store the version with it, and take it back only under
+   the same major and minor number. Whatever bytes are read back do no harm, and
+   saszvigom_graph_replay(&graph, NULL, 0, NULL, 0) tells whether they are a sound
+   session. The buffers are as saszvigom.h says; reading them is in order at any
+   time. Pair k, for k below made, is sequence[2 * k] and
+   sequence[2 * k + 1], and row i and column j of the inverse is
+   saszvigom_word(graph.inverse, i * graph.n + j). */
 struct saszvigom_graph {
     /* The number of vertices, and of the pairs made. */
     uint64_t n, made;
@@ -49,7 +54,8 @@ struct saszvigom_graph {
     uint8_t sequence[SASZVIGOM_SEQUENCE_BYTES(SASZVIGOM_MAX_VERTICES)];
     uint8_t witness[SASZVIGOM_WITNESS_BYTES(SASZVIGOM_MAX_VERTICES)];
     uint8_t work[SASZVIGOM_WORK_BYTES(SASZVIGOM_MAX_VERTICES)];
-    /* Who may be matched with the vertex of the last saszvigom_graph_row. */
+    /* Who could be matched with the vertex of the last saszvigom_graph_row, when
+       that was called. */
     uint8_t row[SASZVIGOM_ROW_BYTES(SASZVIGOM_MAX_VERTICES)];
 };
 
@@ -68,7 +74,8 @@ static inline void saszvigom_graph_forget(struct saszvigom_graph *graph)
 /* Makes a graph of n vertices without edges. Its weights are 0, so that opening
    it is refused with SASZVIGOM_WEIGHT_OUT_OF_RANGE until they are drawn or all
    set. False if n is above 96: then every call of the library is refused with
-   SASZVIGOM_SIZE_TOO_LARGE, but for saszvigom_graph_read. */
+   SASZVIGOM_SIZE_TOO_LARGE, but for saszvigom_graph_read, and for
+   saszvigom_graph_replay with a list at fault. */
 static inline bool saszvigom_graph_init(struct saszvigom_graph *graph, uint64_t n)
 {
     memset(graph, 0, sizeof *graph);
@@ -94,12 +101,16 @@ static inline bool saszvigom_graph_mark(struct saszvigom_graph *graph, uint64_t 
     return true;
 }
 
-/* Make two vertices adjacent, or not adjacent, in either order. False, with
-   nothing changed, unless they are two different vertices of the graph.
+/* Make two vertices adjacent, or not adjacent, in either order; they may be so
+   already. False, with nothing changed, unless they are two different vertices of
+   the graph.
 
    After this and the functions that change weights the graph is to be opened
    again. A session call before that is refused with SASZVIGOM_SESSION_MALFORMED or
-   SASZVIGOM_INVERSE_WRONG if its session is no longer one of the graph. */
+   SASZVIGOM_INVERSE_WRONG if its session is none of the changed graph. A change at
+   a matched vertex, but for the edge of its pair, is not noticed so: the session
+   goes on as one of the changed graph, and an undo may then be refused with
+   SASZVIGOM_REST_SINGULAR. */
 static inline bool saszvigom_graph_set_edge(struct saszvigom_graph *graph, uint64_t i, uint64_t j)
 {
     return saszvigom_graph_mark(graph, i, j, 1);
@@ -123,12 +134,8 @@ static inline bool saszvigom_graph_adjacent(const struct saszvigom_graph *graph,
 static inline bool saszvigom_graph_set_weight(struct saszvigom_graph *graph, uint64_t i, uint64_t j,
                                               uint64_t weight)
 {
-    size_t index = 0;
-    if (weight == 0 || weight >= SASZVIGOM_MODULUS ||
-        !saszvigom_find_weight(graph->n, i, j, &index))
-        return false;
-    saszvigom_store_word(graph->weights, index, (uint16_t)weight);
-    return true;
+    return weight != 0 &&
+           saszvigom_store_word(graph->weights, saszvigom_weight_index(graph->n, i, j), weight);
 }
 
 /* The weight of two vertices, in either order; 0 if it is not set yet, or where
@@ -136,9 +143,7 @@ static inline bool saszvigom_graph_set_weight(struct saszvigom_graph *graph, uin
 static inline unsigned saszvigom_graph_weight(const struct saszvigom_graph *graph, uint64_t i,
                                               uint64_t j)
 {
-    size_t index = 0;
-    return saszvigom_find_weight(graph->n, i, j, &index) ? saszvigom_word(graph->weights, index)
-                                                         : 0u;
+    return saszvigom_word(graph->weights, saszvigom_weight_index(graph->n, i, j));
 }
 
 /* Draws all weights from a seed: saszvigom_draws. */
@@ -175,7 +180,8 @@ static inline uint64_t saszvigom_graph_keep(struct saszvigom_graph *graph, uint6
 }
 
 /* Finds the inverse or a witness, and begins a session with no pairs:
-   saszvigom_open. Refused, it leaves the session that there was. */
+   saszvigom_open. Refused, it leaves the session that there was; singular, there
+   is none. */
 static inline uint64_t saszvigom_graph_open(struct saszvigom_graph *graph)
 {
     return saszvigom_graph_keep(
@@ -215,7 +221,7 @@ static inline uint64_t saszvigom_graph_undo(struct saszvigom_graph *graph)
 }
 
 /* Finds who may be matched with vertex a, and writes it to row: saszvigom_row.
-   Refused, it leaves row all 0. */
+   Refused, it leaves row all 0. Ask again after a pick or an undo. */
 static inline uint64_t saszvigom_graph_row(struct saszvigom_graph *graph, uint64_t a)
 {
     memset(graph->row, 0, sizeof graph->row);

@@ -2,23 +2,21 @@
  * saszvigom: the answers of saszvigom.h as English text, and the vertices that
  * an answer's place stands for.
  *
- * Functions of this header only: nothing is linked, allocated or kept. Every
- * function takes every argument, unless it says otherwise. For C99 or C++11 and
- * later.
+ * Functions of this header only: nothing is linked, allocated or kept. They take
+ * every number, and a pointer that is not null unless they say otherwise. For C99
+ * or C++11 and later.
  */
 #ifndef SASZVIGOM_TEXT_H
 #define SASZVIGOM_TEXT_H
 
 #include "saszvigom.h"
 
-#include <stdbool.h>
-
 #ifdef __cplusplus
 extern "C" {
 #endif
 
 /* Which call returned a number: the causes 12 and 13 have two meanings. */
-enum saszvigom_from {
+enum saszvigom_from SASZVIGOM_ENUM_TYPE {
     /* saszvigom_open, saszvigom_draws or a session call but saszvigom_replay;
        also an answer that saszvigom_replay wrote. */
     SASZVIGOM_FROM_CALL = 0,
@@ -30,7 +28,8 @@ enum saszvigom_from {
 
 /* A cause as text, without its place; "an unknown cause" for what is none of
    such a call. */
-static inline const char *saszvigom_cause_text(unsigned cause, enum saszvigom_from from)
+static inline const char *saszvigom_cause_text(enum saszvigom_cause cause,
+                                               enum saszvigom_from from)
 {
     switch (cause) {
     case SASZVIGOM_NO_CAUSE:
@@ -45,9 +44,9 @@ static inline const char *saszvigom_cause_text(unsigned cause, enum saszvigom_fr
     case SASZVIGOM_WEIGHT_OUT_OF_RANGE:
         return "a weight is 0 or above 65520";
     case SASZVIGOM_SESSION_MALFORMED:
-        return "the sequence does not hold so many matched pairs";
+        return "the sequence does not hold so many pairs of adjacent vertices";
     case SASZVIGOM_INVERSE_WRONG:
-        return "the inverse is not that of the unmatched vertices";
+        return "the unmatched vertices have no inverse, or it is not the one sent";
     case SASZVIGOM_VERTEX_INVALID:
         return "there is no such vertex, or both vertices are the same";
     case SASZVIGOM_VERTEX_MATCHED:
@@ -78,14 +77,12 @@ static inline const char *saszvigom_cause_text(unsigned cause, enum saszvigom_fr
         if (from == SASZVIGOM_FROM_SHEET)
             return "an earlier record has the same edge";
         break;
-    default:
-        break;
     }
     return "an unknown cause";
 }
 
-/* The name of a buffer, one of enum saszvigom_buffer, or "unknown". */
-static inline const char *saszvigom_buffer_text(unsigned buffer)
+/* The name of a buffer, or "unknown". */
+static inline const char *saszvigom_buffer_text(enum saszvigom_buffer buffer)
 {
     switch (buffer) {
     case SASZVIGOM_BUFFER_ADJACENCY:
@@ -104,13 +101,12 @@ static inline const char *saszvigom_buffer_text(unsigned buffer)
         return "row";
     case SASZVIGOM_BUFFER_ANSWERS:
         return "answers";
-    default:
-        return "unknown";
     }
+    return "unknown";
 }
 
-/* A kind, one of enum saszvigom_kind, as text, or "unknown". */
-static inline const char *saszvigom_kind_text(unsigned kind)
+/* A kind as text, or "unknown". */
+static inline const char *saszvigom_kind_text(enum saszvigom_kind kind)
 {
     switch (kind) {
     case SASZVIGOM_REFUSED:
@@ -129,9 +125,8 @@ static inline const char *saszvigom_kind_text(unsigned kind)
         return "sheet";
     case SASZVIGOM_DRAWS:
         return "draws";
-    default:
-        return "unknown";
     }
+    return "unknown";
 }
 
 /* How many weights n vertices have; 0 for n above 96. */
@@ -140,19 +135,9 @@ static inline size_t saszvigom_weight_count(uint64_t n)
     return n == 0 || n > SASZVIGOM_MAX_VERTICES ? 0 : (size_t)(n * (n - 1u) / 2u);
 }
 
-/* The index of the weight of vertices i and j of n, in either order. False, with
-   index as it was, if n is above 96, a vertex is n or more, or i = j. */
-static inline bool saszvigom_find_weight(uint64_t n, uint64_t i, uint64_t j, size_t *index)
-{
-    if (n > SASZVIGOM_MAX_VERTICES || i >= n || j >= n || i == j)
-        return false;
-    *index = i < j ? saszvigom_weight_index((size_t)n, (size_t)i, (size_t)j)
-                   : saszvigom_weight_index((size_t)n, (size_t)j, (size_t)i);
-    return true;
-}
-
-/* The vertices i < j of n whose weight has an index. False, with i and j as they
-   were, if n vertices have no such weight, or n is above 96. */
+/* The vertices i < j of n whose weight has an index: the other way round than
+   saszvigom_weight_index. False, with i and j as they were, if n vertices have no
+   such weight, or n is above 96. */
 static inline bool saszvigom_weight_vertices(uint64_t n, uint64_t index, unsigned *i, unsigned *j)
 {
     unsigned first = 0;
@@ -169,21 +154,61 @@ static inline bool saszvigom_weight_vertices(uint64_t n, uint64_t index, unsigne
     return true;
 }
 
-/* The row and the column of the adjacency byte at fault, for the number of a call
-   with n vertices. They mean nothing for a cause other than
-   SASZVIGOM_ADJACENCY_FAULT, and are 0 for n = 0 and n above 96. */
+/* What is wrong with an adjacency byte that is at fault: the first of these that
+   applies. */
+enum saszvigom_fault SASZVIGOM_ENUM_TYPE {
+    /* Nothing, as far as is known. */
+    SASZVIGOM_NO_FAULT = 0,
+    /* It is not 0 or 1. */
+    SASZVIGOM_FAULT_VALUE = 1,
+    /* It is not 0 though its row is its column. */
+    SASZVIGOM_FAULT_DIAGONAL = 2,
+    /* It differs from the byte with row and column exchanged. */
+    SASZVIGOM_FAULT_MIRROR = 3
+};
+
+/* The row, the column and the fault of the adjacency byte at fault, for the number
+   of a call with n vertices. Row and column mean nothing for a cause other than
+   SASZVIGOM_ADJACENCY_FAULT.
+
+   These functions take a number of either layout: that of today, whose place is
+   row * n + column, and the announced one, which has the row in bits 16 to 23,
+   the column in 24 to 31 and the fault, which is never 0, in 32 to 39. Under
+   today's, row and column are 0 for n = 0 and n above 96, and the fault is looked
+   up in the table that the call was lent, if that has n * n bytes; null is a table
+   of no bytes. SASZVIGOM_NO_FAULT is returned for another cause, and if the fault
+   is not there. */
 static inline unsigned saszvigom_fault_row(uint64_t number, uint64_t n)
 {
-    if (n == 0 || n > SASZVIGOM_MAX_VERTICES)
-        return 0;
-    return saszvigom_place_of(number) / (unsigned)n;
+    if ((number >> 32 & 0xFFu) != 0)
+        return (unsigned)(number >> 16 & 0xFFu);
+    return n == 0 || n > SASZVIGOM_MAX_VERTICES ? 0 : saszvigom_place_of(number) / (unsigned)n;
 }
 
 static inline unsigned saszvigom_fault_column(uint64_t number, uint64_t n)
 {
-    if (n == 0 || n > SASZVIGOM_MAX_VERTICES)
-        return 0;
-    return saszvigom_place_of(number) % (unsigned)n;
+    if ((number >> 32 & 0xFFu) != 0)
+        return (unsigned)(number >> 24 & 0xFFu);
+    return n == 0 || n > SASZVIGOM_MAX_VERTICES ? 0 : saszvigom_place_of(number) % (unsigned)n;
+}
+
+static inline enum saszvigom_fault saszvigom_fault_of(uint64_t number, uint64_t n,
+                                                      const uint8_t *adjacency,
+                                                      size_t adjacency_len)
+{
+    const size_t i = saszvigom_fault_row(number, n), j = saszvigom_fault_column(number, n);
+    if (saszvigom_cause_of(number) != SASZVIGOM_ADJACENCY_FAULT)
+        return SASZVIGOM_NO_FAULT;
+    if ((number >> 32 & 0xFFu) != 0)
+        return (enum saszvigom_fault)(number >> 32 & 0xFFu);
+    if (n > SASZVIGOM_MAX_VERTICES || i >= n || adjacency == NULL || adjacency_len < n * n)
+        return SASZVIGOM_NO_FAULT;
+    if (adjacency[i * n + j] > 1)
+        return SASZVIGOM_FAULT_VALUE;
+    if (i == j && adjacency[i * n + j] != 0)
+        return SASZVIGOM_FAULT_DIAGONAL;
+    return adjacency[i * n + j] != adjacency[j * n + i] ? SASZVIGOM_FAULT_MIRROR
+                                                        : SASZVIGOM_NO_FAULT;
 }
 
 /* A text that is being written: size bytes of room, and the length so far, which
@@ -221,14 +246,14 @@ static inline void saszvigom_line_number(struct saszvigom_line *line, const char
 static inline void saszvigom_line_refusal(struct saszvigom_line *line, uint64_t number, uint64_t n,
                                           enum saszvigom_from from)
 {
-    const unsigned cause = saszvigom_cause_of(number), place = saszvigom_place_of(number);
+    const enum saszvigom_cause cause = saszvigom_cause_of(number);
     unsigned i = saszvigom_fault_row(number, n), j = saszvigom_fault_column(number, n);
 
     if (cause == SASZVIGOM_BUFFER_TOO_SHORT) {
         saszvigom_line_text(line, "the ");
-        saszvigom_line_text(line, saszvigom_buffer_text(place));
+        saszvigom_line_text(line, saszvigom_buffer_text(saszvigom_buffer_of(number)));
         saszvigom_line_text(line, " buffer is too short");
-    } else if (cause == SASZVIGOM_ADJACENCY_FAULT && n > 0 && n <= SASZVIGOM_MAX_VERTICES && i < n) {
+    } else if (cause == SASZVIGOM_ADJACENCY_FAULT && n <= SASZVIGOM_MAX_VERTICES && i < n) {
         saszvigom_line_number(line, "the adjacency byte of row ", i);
         saszvigom_line_number(line, " and column ", j);
         if (i == j) {
@@ -238,7 +263,7 @@ static inline void saszvigom_line_refusal(struct saszvigom_line *line, uint64_t 
             saszvigom_line_number(line, " and column ", i);
         }
     } else if (cause == SASZVIGOM_WEIGHT_OUT_OF_RANGE &&
-               saszvigom_weight_vertices(n, place, &i, &j)) {
+               saszvigom_weight_vertices(n, saszvigom_place_of(number), &i, &j)) {
         saszvigom_line_number(line, "the weight of ", i);
         saszvigom_line_number(line, " and ", j);
         saszvigom_line_text(line, " is 0 or above 65520");
@@ -248,7 +273,8 @@ static inline void saszvigom_line_refusal(struct saszvigom_line *line, uint64_t 
 }
 
 /*
- * Explains a number in one line, such as
+ * Explains a number in one line. It does not know which session call it was: an
+ * undo reads like a pick, and the causes 7 and 11 name both cases. Such as
  *
  *     refused: the weight of 3 and 7 is 0 or above 65520 (cause 4 at 21)
  *
@@ -267,7 +293,8 @@ static inline void saszvigom_line_refusal(struct saszvigom_line *line, uint64_t 
 static inline size_t saszvigom_explain(char *text, size_t size, uint64_t number, uint64_t n,
                                        enum saszvigom_from from)
 {
-    const unsigned cause = saszvigom_cause_of(number), kind = saszvigom_kind_of(number);
+    const enum saszvigom_cause cause = saszvigom_cause_of(number);
+    const enum saszvigom_kind kind = saszvigom_kind_of(number);
     const unsigned place = saszvigom_place_of(number);
     struct saszvigom_line line;
     line.text = text;
@@ -278,7 +305,7 @@ static inline size_t saszvigom_explain(char *text, size_t size, uint64_t number,
         saszvigom_line_text(&line, "refused: ");
         saszvigom_line_refusal(&line, number, n, from);
         saszvigom_line_number(&line, " (cause ", cause);
-        if ((cause >= SASZVIGOM_BUFFER_TOO_SHORT && cause <= SASZVIGOM_WEIGHT_OUT_OF_RANGE) ||
+        if (cause == SASZVIGOM_BUFFER_TOO_SHORT || cause == SASZVIGOM_WEIGHT_OUT_OF_RANGE ||
             cause > SASZVIGOM_NOTHING_LEFT) {
             saszvigom_line_number(&line, " at ", place);
             if (from == SASZVIGOM_FROM_LIST && cause > SASZVIGOM_NOTHING_LEFT && place == 65535u)
@@ -287,6 +314,8 @@ static inline size_t saszvigom_explain(char *text, size_t size, uint64_t number,
         saszvigom_line_char(&line, ')');
     } else if (cause != SASZVIGOM_NO_CAUSE) {
         saszvigom_line_text(&line, "no answer: both a cause and a kind");
+    } else if (kind > SASZVIGOM_DRAWS) {
+        saszvigom_line_number(&line, "no answer: unknown kind ", kind);
     } else {
         switch (kind) {
         case SASZVIGOM_OPENED:
@@ -295,8 +324,8 @@ static inline size_t saszvigom_explain(char *text, size_t size, uint64_t number,
         case SASZVIGOM_SINGULAR:
             saszvigom_line_number(&line, "singular: there is no inverse, first dependent column ",
                                   saszvigom_column_of(number));
-            saszvigom_line_text(&line, n % 2u == 1u ? "; the number of vertices is odd"
-                                                    : "; other weights may have one");
+            saszvigom_line_text(&line, n % 2u == 1u ? "; n is odd: no perfect matching"
+                                                    : "; undecided: other weights may have an inverse");
             break;
         case SASZVIGOM_PAIR:
             saszvigom_line_number(&line, "pair: ", saszvigom_smaller_of(number));
@@ -319,9 +348,6 @@ static inline size_t saszvigom_explain(char *text, size_t size, uint64_t number,
             break;
         case SASZVIGOM_REFUSED:
             saszvigom_line_text(&line, "no answer: neither a cause nor a kind");
-            break;
-        default:
-            saszvigom_line_number(&line, "no answer: unknown kind ", kind);
             break;
         }
     }

@@ -1,7 +1,8 @@
 /*
- * Opens three graphs and prints what is found.
+ * Opens graphs through saszvigom.h alone, and prints what is found. The weights
+ * are made up, to be followed by hand: in use they are drawn.
  *
- *     cc -Iinclude samples/open.c target/staticlib/libsaszvigom.a -o open
+ *     cc open.c $(pkg-config --cflags --libs saszvigom) -o open
  */
 #include "saszvigom.h"
 
@@ -11,15 +12,14 @@
 #define MOST 4 /* vertices */
 
 struct edge {
-    size_t i, j; /* i < j */
-    uint16_t weight;
+    unsigned i, j, weight;
 };
 
 static void print_words(const uint8_t *words, size_t rows, size_t columns)
 {
     for (size_t i = 0; i < rows; i++) {
         for (size_t j = 0; j < columns; j++)
-            printf(" %6u", (unsigned)saszvigom_word(words, i * columns + j));
+            printf(" %6u", saszvigom_word(words, i * columns + j));
         printf("\n");
     }
 }
@@ -38,10 +38,13 @@ static void open_graph(const char *name, size_t n, const struct edge *edges, siz
     memset(adjacency, 0, sizeof adjacency);
     for (size_t index = 0; index < n * (n - 1) / 2; index++)
         saszvigom_store_word(weights, index, 1);
-    for (const struct edge *edge = edges; edge < edges + count; edge++) {
-        adjacency[edge->i * n + edge->j] = 1;
-        adjacency[edge->j * n + edge->i] = 1;
-        saszvigom_store_word(weights, saszvigom_weight_index(n, edge->i, edge->j), edge->weight);
+    for (const struct edge *e = edges; e < edges + count; e++) {
+        adjacency[e->i * n + e->j] = 1;
+        adjacency[e->j * n + e->i] = 1;
+        if (!saszvigom_store_word(weights, saszvigom_weight_index(n, e->i, e->j), e->weight)) {
+            printf("%s: not opened\n", name); /* it is no word */
+            return;
+        }
     }
 
     const uint64_t number = saszvigom_open(n, adjacency, sizeof adjacency, weights, sizeof weights,
@@ -59,17 +62,20 @@ static void open_graph(const char *name, size_t n, const struct edge *edges, siz
         print_words(witness, 1, n);
         break;
     default:
-        printf("refused, cause %u at place %u\n", saszvigom_cause_of(number), saszvigom_place_of(number));
+        printf("refused, cause %u at place %u\n", saszvigom_cause_of(number),
+               saszvigom_place_of(number));
     }
 }
 
 int main(void)
 {
-    const struct edge path[] = {{0, 1, 2}, {1, 2, 3}, {2, 3, 5}};
-    const struct edge no_weight[] = {{0, 1, 2}, {1, 2, 0}, {2, 3, 5}};
+    const struct edge path[] = {{0, 1, 2}, {1, 2, 3}, {3, 2, 5}};
+    const struct edge weight_0[] = {{0, 1, 2}, {1, 2, 0}, {2, 3, 5}};
+    const struct edge weight_65537[] = {{0, 1, 2}, {1, 2, 65537}, {2, 3, 5}};
 
     open_graph("path of four vertices", 4, path, 3);
     open_graph("path of three vertices", 3, path, 2);
-    open_graph("path with a weight of 0", 4, no_weight, 3);
+    open_graph("path with a weight of 65537", 4, weight_65537, 3);
+    open_graph("path with a weight of 0", 4, weight_0, 3);
     return 0;
 }

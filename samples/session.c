@@ -1,8 +1,9 @@
 /*
- * Matches the vertices of a ring of six: by hand, automatically and with undo,
+ * A whole session through saszvigom.h alone: matches the vertices of a ring of
+ * six by hand, automatically and with undo, says refusals in words of its own,
  * and checks the log of all calls by replaying it.
  *
- *     cc -Iinclude samples/session.c target/staticlib/libsaszvigom.a -o session
+ *     cc session.c $(pkg-config --cflags --libs saszvigom) -o session
  */
 #include "saszvigom.h"
 
@@ -28,7 +29,7 @@ struct log {
     uint64_t answers[MOST_CALLS];
 };
 
-static const char *explain(unsigned cause)
+static const char *explain(enum saszvigom_cause cause)
 {
     switch (cause) {
     case SASZVIGOM_SESSION_MALFORMED:
@@ -45,7 +46,7 @@ static const char *explain(unsigned cause)
         return "the vertices left would have no inverse";
     case SASZVIGOM_NOTHING_LEFT:
         return "no vertex is left to match, or no pair to undo";
-    default: /* 1 to 4, 12 and 13: the caller is at fault */
+    default: /* 1 to 4, 12 and 13, and causes of later versions */
         return "the call is not in order";
     }
 }
@@ -68,7 +69,7 @@ static void take(struct session *session, uint64_t number)
            saszvigom_larger_of(number), session->made);
 }
 
-static void append(struct log *log, unsigned kind, uint64_t a, uint64_t b, uint64_t number)
+static void append(struct log *log, enum saszvigom_call kind, uint64_t a, uint64_t b, uint64_t number)
 {
     uint64_t *call = log->calls + SASZVIGOM_NUMBERS_A_CALL * log->count;
     call[0] = kind;
@@ -131,8 +132,8 @@ static void print_partners(const struct session *s, uint64_t a)
     printf("\n");
 }
 
-/* Opens a ring with some weights; 0 if it has no inverse. */
-static int open_ring(struct session *s)
+/* Opens a ring with the draws of a seed; whether it has an inverse. */
+static bool open_ring(struct session *s)
 {
     uint8_t witness[SASZVIGOM_WITNESS_BYTES(N)], work[SASZVIGOM_WORK_BYTES(N)];
     memset(s->adjacency, 0, sizeof s->adjacency);
@@ -140,9 +141,7 @@ static int open_ring(struct session *s)
         s->adjacency[i * N + (i + 1) % N] = 1;
         s->adjacency[(i + 1) % N * N + i] = 1;
     }
-    /* In use, weights are drawn, as by saszvigom_draws. */
-    for (size_t index = 0; index < N * (N - 1) / 2; index++)
-        saszvigom_store_word(s->weights, index, (uint16_t)(1 + 7919 * index % 65520));
+    saszvigom_draws(N, 1, s->weights, sizeof s->weights);
     s->made = 0;
     const uint64_t number = saszvigom_open(N, s->adjacency, sizeof s->adjacency, s->weights,
                                            sizeof s->weights, s->inverse, sizeof s->inverse,
@@ -176,7 +175,7 @@ int main(void)
     struct session session;
     struct log log = {0};
     if (!open_ring(&session)) {
-        printf("the ring has no inverse\n");
+        printf("the ring has no inverse\n"); /* draw again, as in draw.c */
         return 1;
     }
     printf("opened a ring of %u\n", (unsigned)N);

@@ -2,9 +2,9 @@
  * Reads sheets, opens their graphs and matches the vertices. Where a graph is
  * singular, the weights may have cancelled: it is opened again with other draws.
  *
- *     cc -Iinclude samples/sheet.c target/staticlib/libsaszvigom.a -o sheet
+ *     cc sheet.c $(pkg-config --cflags --libs saszvigom) -o sheet
  */
-#include "saszvigom.h"
+#include "saszvigom_text.h"
 
 #include <stdio.h>
 
@@ -20,42 +20,24 @@ static struct {
     uint8_t sequence[SASZVIGOM_SEQUENCE_BYTES(MOST)];
 } s;
 
-static const char *explain(unsigned cause)
-{
-    switch (cause) {
-    case SASZVIGOM_SIZE_TOO_LARGE:
-        return "too many vertices";
-    case SASZVIGOM_RECORD_NOT_DUE:
-        return "no such record may stand there";
-    case SASZVIGOM_SHEET_CUT:
-        return "the sheet stops before its end";
-    case SASZVIGOM_RECORD_VERTEX_INVALID:
-        return "there is no such vertex, or it is named twice";
-    case SASZVIGOM_EDGE_REPEATED:
-        return "an earlier record names this edge";
-    default: /* 2: a buffer is too short */
-        return "the call is not in order";
-    }
-}
-
 /* Opens the graph; whether it has an inverse. */
-static int open_graph(void)
+static bool open_graph(void)
 {
     static uint8_t witness[SASZVIGOM_WITNESS_BYTES(MOST)], work[SASZVIGOM_WORK_BYTES(MOST)];
     const uint64_t number = saszvigom_open(
         s.n, s.adjacency, sizeof s.adjacency, s.weights, sizeof s.weights, s.inverse,
         sizeof s.inverse, s.sequence, sizeof s.sequence, witness, sizeof witness, work,
         sizeof work);
-    const int opened = saszvigom_kind_of(number) == SASZVIGOM_OPENED;
-    printf(opened ? "opened" : "singular");
-    return opened;
+    const enum saszvigom_kind kind = saszvigom_kind_of(number); /* a sheet read is never refused */
+    printf("%s", saszvigom_kind_text(kind));
+    return kind == SASZVIGOM_OPENED;
 }
 
 /* Opens the graph with the draws of the sheet, and of other seeds while it is
    singular; an odd number of vertices is singular with all. */
-static int open_with_some_draws(void)
+static bool open_with_some_draws(void)
 {
-    int opened = open_graph();
+    bool opened = open_graph();
     printf(" with the draws of the sheet\n");
     for (uint32_t seed = 1; !opened && s.n % 2 == 0 && seed <= REDRAWS; seed++) {
         saszvigom_draws(s.n, seed, s.weights, sizeof s.weights);
@@ -83,19 +65,16 @@ static void list(const char *name, const uint8_t *sheet, size_t length)
 {
     const uint64_t number = saszvigom_read(sheet, length, s.adjacency, sizeof s.adjacency,
                                            s.weights, sizeof s.weights);
-    if (saszvigom_kind_of(number) != SASZVIGOM_SHEET) {
-        const unsigned cause = saszvigom_cause_of(number);
-        printf("%s: refused, %s (cause %u at %u)\n", name, explain(cause), cause,
-               saszvigom_place_of(number));
+    char line[SASZVIGOM_LINE_BYTES];
+    saszvigom_explain(line, sizeof line, number, 0, SASZVIGOM_FROM_SHEET);
+    printf("%s: %s\n", name, line);
+    if (saszvigom_kind_of(number) != SASZVIGOM_SHEET)
         return;
-    }
     s.n = saszvigom_size_of(number);
-    printf("%s: %u vertices, %u edges\n", name, saszvigom_size_of(number),
-           saszvigom_edges_of(number));
     if (open_with_some_draws())
         match_all();
     else
-        printf("%s\n", s.n % 2 == 1 ? "no perfect matching" : "undecided: singular with every draw");
+        printf("%s\n", s.n % 2 == 1 ? "no perfect matching" : "undecided: all are singular");
 }
 
 int main(void)

@@ -6,6 +6,7 @@
 #define _XOPEN_SOURCE 700
 
 #include "explain.h"
+#include "hint.h"
 #include "input.h"
 #include "log.h"
 #include "picture.h"
@@ -18,17 +19,32 @@
 #include <unistd.h>
 
 static struct session session;
-static struct log calls_log;
+static struct log calls_log = {-1, 0, 0, ""};
+static int person; /* whether a person types */
+static int typed;  /* and sees the answers, so that lines need not be repeated */
 static int leave;
+static int asked; /* whether the last command was one to leave that was put off; a word that is
+                     none, such as yes, does not count */
 
 static int number_of(const struct word *word, uint64_t *number)
 {
     if (is_number(word, number))
         return 1;
+    const char letter = letter_for_digit(word);
     printf("  not understood: ");
     print_word(word->text, word->length);
-    printf(" is no number that the desk takes.\n"
-           "  what to do: write digits alone, such as 12; 18446744073709551615 at most.\n");
+    if (is_digits(word) && session.n > 0)
+        printf(" is too large a number.\n"
+               "  what to do: sleeves are 0 to %u, and seeds 0 to 4294967295.\n",
+               session.n - 1);
+    else if (is_digits(word))
+        printf(" is too large a number.\n"
+               "  what to do: the sheet has no sleeves; seeds are 0 to 4294967295.\n");
+    else if (letter != 0)
+        printf(" is no number: %c is a letter.\n  what to do: write the digit %c.\n", letter,
+               letter == 'O' || letter == 'o' ? '0' : '1');
+    else
+        printf(" is no number.\n  what to do: write digits alone, such as 12.\n");
     return 0;
 }
 
@@ -40,11 +56,23 @@ static int is_name(const struct word *word)
     return 0;
 }
 
-static void finish(uint64_t kind, uint64_t a, uint64_t b, uint64_t number)
+/* Explains and logs a call that was made; whether it was accepted. */
+static int finish(uint64_t kind, uint64_t a, uint64_t b, uint64_t number)
 {
     const struct call call = {kind, a, b};
     explain_call(&session, &call, number);
-    log_call(&calls_log, kind, a, b);
+    log_call(&calls_log, &call, number);
+    return saszvigom_cause_of(number) == SASZVIGOM_NO_CAUSE;
+}
+
+static int automatic(void)
+{
+    return finish(SASZVIGOM_CALL_AUTOMATIC, 0, 0, session_automatic(&session));
+}
+
+static int undo(void)
+{
+    return finish(SASZVIGOM_CALL_UNDO, 0, 0, session_undo(&session));
 }
 
 static void do_pick(const struct word *words)
@@ -52,14 +80,6 @@ static void do_pick(const struct word *words)
     uint64_t a, b;
     if (number_of(&words[1], &a) && number_of(&words[2], &b))
         finish(SASZVIGOM_CALL_PICK, a, b, session_pick(&session, a, b));
-}
-
-/* An automatic pick; whether it was accepted. */
-static int automatic(void)
-{
-    const uint64_t number = session_automatic(&session);
-    finish(SASZVIGOM_CALL_AUTOMATIC, 0, 0, number);
-    return saszvigom_cause_of(number) == SASZVIGOM_NO_CAUSE;
 }
 
 static void do_auto(const struct word *words)
@@ -78,13 +98,20 @@ static void do_all(const struct word *words)
 static void do_undo(const struct word *words)
 {
     (void)words;
-    finish(SASZVIGOM_CALL_UNDO, 0, 0, session_undo(&session));
+    undo();
+}
+
+static void do_clear(const struct word *words)
+{
+    (void)words;
+    while (undo() && session.made > 0)
+        continue;
 }
 
 static void do_row(const struct word *words)
 {
     struct call call = {CALL_ROW, 0, 0};
-    uint8_t row[MOST] = {0}, closed[MOST] = {0}, boxed[MOST] = {0};
+    uint8_t row[MOST] = {0}, closed[MOST] = {0}, matched[MOST] = {0};
     if (!number_of(&words[1], &call.a))
         return;
     const uint64_t number = session_row(&session, call.a, row);
@@ -98,12 +125,28 @@ static void do_row(const struct word *words)
         if (place_of(&session, b) == SASZVIGOM_UNUSED)
             closed[b] = 1;
         else
-            boxed[b] = 1;
+            matched[b] = 1;
     }
     printf("  sleeve %u\n", (unsigned)call.a);
     print_vertices("  open partners              ", row, session.n);
     print_vertices("  may share, but refused 10  ", closed, session.n);
-    print_vertices("  may share, but boxed       ", boxed, session.n);
+    print_vertices("  may share, but not loose   ", matched, session.n);
+}
+
+/* Makes a pick on a copy of the session. */
+static void do_why(const struct word *words)
+{
+    static struct session copy;
+    struct call call = {SASZVIGOM_CALL_PICK, 0, 0};
+    if (!number_of(&words[1], &call.a) || !number_of(&words[2], &call.b))
+        return;
+    copy = session;
+    const uint64_t number = session_pick(&copy, call.a, call.b);
+    if (saszvigom_cause_of(number) != SASZVIGOM_NO_CAUSE)
+        explain_call(&session, &call, number);
+    else
+        printf("  %" PRIu64 " and %" PRIu64 " are open partners: a pick of the two is accepted.\n",
+               call.a, call.b);
 }
 
 static void do_show(const struct word *words)
@@ -123,71 +166,134 @@ static void do_draws(const struct word *words)
     }
     if (session.made > 0) {
         printf("  not done: boxes are made with the draws of seed %u.\n"
-               "  what to do: take them all back with undo, and then draw.\n",
+               "  what to do: take them all back with clear, and then draw.\n",
                (unsigned)session.seed);
         return;
     }
+    if (calls_log.fd >= 0)
+        printf("  The log ends here: it is of the draws of seed %u.\n"
+               "  what to do: log FILE begins a new one.\n",
+               (unsigned)session.seed);
+    log_end(&calls_log);
     session_redraw(&session, (uint32_t)seed);
     explain_opening(&session);
-    if (calls_log.file != NULL)
-        printf("  The log does not have the draws: give this command before its replay.\n");
 }
 
 static void do_log(const struct word *words)
 {
-    if (!is_name(&words[1]) || !log_begin(&calls_log, words[1].text))
+    static struct log before;
+    before = calls_log;
+    if (!is_name(&words[1]) || !log_begin(&calls_log, words[1].text, &session))
         return;
-    printf("  log: each pick and take-back from now on\n");
-    if (session.made > 0)
-        printf("  The boxes made before are not in it: make them before its replay.\n");
+    if (before.fd >= 0) {
+        printf("  ");
+        print_name(before.name);
+        printf(" ends here.\n");
+    }
+    printf("  log: boxes made so far %u, and each call from now on\n", session.made);
 }
 
-/* Says what each call of a list returned. The boxes are followed in a copy of
-   the session from before, by the answers alone. */
-static void explain_answers(struct session *s, const uint64_t *numbers, size_t count,
-                            const uint64_t *answers)
+/* Says what each call of a list returned; how many answers are not as in the
+   file. */
+static unsigned explain_calls(const struct calls *calls, const uint64_t *answers)
 {
-    for (size_t i = 0; i < count; i++) {
-        const struct call call = {numbers[3 * i], numbers[3 * i + 1], numbers[3 * i + 2]};
-        const uint64_t number = answers[i];
+    unsigned others = 0;
+    char text[64];
+    for (size_t i = 0; i < calls->count; i++) {
+        const uint64_t *const numbers = calls->numbers + SASZVIGOM_NUMBERS_A_CALL * i;
+        const struct call call = {numbers[0], numbers[1], numbers[2]};
+        const int undone = call.kind == SASZVIGOM_CALL_UNDO;
         if (call.kind == SASZVIGOM_CALL_PICK)
-            printf("  call %u, pick %" PRIu64 " %" PRIu64 "\n", (unsigned)i, call.a, call.b);
+            snprintf(text, sizeof text, "pick %" PRIu64 " %" PRIu64, call.a, call.b);
         else
-            printf("  call %u, %s\n", (unsigned)i,
-                   call.kind == SASZVIGOM_CALL_UNDO ? "undo" : "auto");
-        if (saszvigom_cause_of(number) == SASZVIGOM_NO_CAUSE) {
-            s->made = saszvigom_made_of(number);
-            if (call.kind != SASZVIGOM_CALL_UNDO) {
-                s->sequence[2 * s->made - 2] = (uint8_t)saszvigom_smaller_of(number);
-                s->sequence[2 * s->made - 1] = (uint8_t)saszvigom_larger_of(number);
-            }
+            snprintf(text, sizeof text, "%s", undone ? "undo" : "auto");
+        printf("  %-12s%s", text, strlen(text) < 12 ? "" : "\n              ");
+        explain_briefly(&call, answers[i]);
+        log_call(&calls_log, &call, answers[i]);
+        if (calls->answers[i] != NO_ANSWER && calls->answers[i] != (answers[i] & UINT32_MAX)) {
+            printf("              not as in the file, which has: ");
+            print_answer(calls->answers[i], undone);
+            printf("\n");
+            others++;
         }
-        explain_call(s, &call, number);
-        log_call(&calls_log, call.kind, call.a, call.b);
     }
+    return others;
+}
+
+static void print_comparison(const struct calls *calls, unsigned others)
+{
+    size_t compared = 0;
+    for (size_t i = 0; i < calls->count; i++)
+        compared += calls->answers[i] != NO_ANSWER;
+    printf("  calls made %u, boxes made %u; ", (unsigned)calls->count, session.made);
+    if (others > 0)
+        printf("answers not as in the file: %u\n", others);
+    else if (compared == 0)
+        printf("the file has no answers to compare\n");
+    else if (compared < calls->count)
+        printf("answers as in the file: %u\n", (unsigned)compared);
+    else
+        printf("all answers are as in the file\n");
+}
+
+/* Says of a list of calls that it is of another graph or other weights; whether
+   it is of other weights alone, which draws can set. */
+static int explain_origin(const struct calls *calls)
+{
+    if (!calls->named)
+        return 0;
+    if (calls->n != session.n || calls->edges != session.edges || calls->seed > UINT32_MAX) {
+        printf("  The file is of another sheet: sleeves %" PRIu64 " links %" PRIu64
+               "\n  seed %" PRIu64 ". Here: sleeves %u links %u seed %u.\n"
+               "  what to do: ask for that sheet; cmp compares it with yours.\n",
+               calls->n, calls->edges, calls->seed, session.n, session.edges,
+               (unsigned)session.seed);
+        return 0;
+    }
+    if (calls->seed == session.seed)
+        return 0;
+    printf("  The file is of seed %u, and the draws here are those of seed %u.\n"
+           "  what to do: %sdraws %u, and then replay.\n",
+           (unsigned)calls->seed, (unsigned)session.seed, session.made > 0 ? "clear, " : "",
+           (unsigned)calls->seed);
+    return 1;
 }
 
 static void do_replay(const struct word *words)
 {
-    static uint64_t numbers[MOST_NUMBERS], answers[MOST_CALLS];
-    static struct session followed;
-    size_t count;
-    if (!is_name(&words[1]) || !log_read(words[1].text, numbers, &count))
+    static struct calls calls;
+    static uint64_t answers[MOST_CALLS];
+    if (!is_name(&words[1]))
         return;
-    followed = session;
-    const uint64_t number = session_replay(&session, numbers, count, answers, MOST_CALLS);
-    if (saszvigom_cause_of(number) != SASZVIGOM_NO_CAUSE) {
-        explain_list(&session, number);
+    if (session.made > 0) {
+        printf("  not done: a replay begins with no boxes; boxes made %u.\n"
+               "  what to do: keep them with log FILE, and take them all back with clear.\n",
+               session.made);
         return;
     }
-    explain_answers(&followed, numbers, count / SASZVIGOM_NUMBERS_A_CALL, answers);
-    printf("  replayed: calls %u, boxes made %u\n", (unsigned)(count / SASZVIGOM_NUMBERS_A_CALL),
-           session.made);
+    if (!log_read(words[1].text, &calls))
+        return;
+    const uint64_t number = session_replay(
+        &session, calls.numbers, SASZVIGOM_NUMBERS_A_CALL * calls.count, answers, MOST_CALLS);
+    const int redraw = explain_origin(&calls);
+    if (saszvigom_cause_of(number) != SASZVIGOM_NO_CAUSE) {
+        explain_list(&session, number, !redraw);
+        return;
+    }
+    print_comparison(&calls, explain_calls(&calls, answers));
 }
 
+/* Leaves; but a person is asked first where the pairs are in no log. */
 static void do_quit(const struct word *words)
 {
     (void)words;
+    if (person && session.made > 0 && calls_log.fd < 0 && !asked) {
+        printf("  not left yet: boxes made %u, and no log is kept.\n"
+               "  what to do: keep them with log FILE; or quit once more, and they are gone.\n",
+               session.made);
+        asked = 1;
+        return;
+    }
     leave = 1;
 }
 
@@ -201,15 +307,17 @@ struct command {
 };
 
 static const struct command commands[] = {
-    {"pick", "A B", 3, do_pick, "box sleeves A and B"},
-    {"auto", "", 1, do_auto, "box the lowest loose sleeve with its lowest open partner"},
+    {"show", "", 1, do_show, "the picture: boxes, loose sleeves and their open partners"},
+    {"row", "A", 2, do_row, "the open row of sleeve A: with whom it may be picked"},
+    {"why", "A B", 3, do_why, "would a pick of A and B be accepted? nothing is changed"},
+    {"pick", "A B", 3, do_pick, "hand pick: box sleeves A and B"},
+    {"auto", "", 1, do_auto, "automatic pick: the lowest loose sleeve, its lowest open partner"},
     {"all", "", 1, do_all, "automatic picks to the end"},
-    {"undo", "", 1, do_undo, "take back the last box"},
-    {"row", "A", 2, do_row, "the open row of A: with whom it may be picked"},
-    {"show", "", 1, do_show, "boxes, loose sleeves and their open partners"},
+    {"undo", "", 1, do_undo, "take-back: the last box"},
+    {"clear", "", 1, do_clear, "take-back of every box, the last one first"},
     {"draws", "SEED", 2, do_draws, "open again with the draws of a seed, while no box is made"},
-    {"log", "FILE", 2, do_log, "write each call from now on to a new file"},
-    {"replay", "FILE", 2, do_replay, "make the calls of such a file"},
+    {"log", "FILE", 2, do_log, "keep the boxes, and each call from now on, in a new file"},
+    {"replay", "FILE", 2, do_replay, "make the calls of such a file again, and compare the answers"},
     {"help", "", 1, do_help, "this list"},
     {"quit", "", 1, do_quit, "leave the desk"},
 };
@@ -220,7 +328,68 @@ static void do_help(const struct word *words)
     (void)words;
     for (size_t i = 0; i < COMMANDS; i++)
         printf("  %-6s %-4s  %s\n", commands[i].name, commands[i].rest, commands[i].help);
-    printf("  A line that begins with # is a remark.\n");
+    printf("  A line that begins with # is a remark. A refused call changes nothing.\n");
+}
+
+static void print_usage(const struct command *command)
+{
+    printf("%s%s%s", command->name, command->rest[0] ? " " : "", command->rest);
+}
+
+/* Says what a command takes. */
+static void explain_usage(const struct command *command)
+{
+    printf("  not understood: write ");
+    if (strcmp(command->rest, "A B") == 0)
+        printf("two numbers with a blank between, such as %s 0 1.\n", command->name);
+    else if (strcmp(command->rest, "FILE") == 0)
+        printf("%s FILE, a name without blanks.\n", command->name);
+    else if (command->rest[0])
+        printf("one number, such as %s 1.\n", command->name);
+    else if (command->run == do_undo)
+        printf("undo alone: it takes one box back; repeat it for more.\n");
+    else
+        printf("%s alone.\n", command->name);
+}
+
+static void explain_unknown(const struct word *word)
+{
+    if (word->text[0] == '>') {
+        printf("  not understood: the desk prints the > itself.\n"
+               "  what to do: leave the > out.\n");
+        return;
+    }
+    if (word->text[0] == '$') {
+        printf("  not understood: lines after $ are for the terminal, and not for the desk.\n"
+               "  what to do: leave with quit, and leave the $ out.\n");
+        return;
+    }
+    if (word->text[0] == '\x1b') {
+        printf("  not understood: arrow keys and the like do nothing at the desk.\n"
+               "  what to do: type the whole line.\n");
+        return;
+    }
+    const char *const other = other_word(word);
+    const struct command *meant = NULL;
+    uint64_t number;
+    for (size_t i = 0; i < COMMANDS && meant == NULL; i++)
+        if (other != NULL ? strcmp(commands[i].name, other) == 0
+                          : nearly(word, commands[i].name) ||
+                                (is_number(word, &number) && commands[i].run == do_pick))
+            meant = &commands[i];
+    printf("  not understood: ");
+    print_word(word->text, word->length);
+    printf(" is no command of the desk.\n  what to do: ");
+    if (meant != NULL) {
+        printf("write ");
+        print_usage(meant);
+        printf(in_capitals(word, meant->name) ? ", in small letters; " : ", if you mean that; ");
+    } else if (!is_plain(word)) {
+        printf("use the letters a to z; ");
+    } else if (outside(word)) {
+        printf("leave with quit; ./desk SHEET then opens another sheet;\n  ");
+    }
+    printf("help lists the commands.\n");
 }
 
 static void carry_out(struct line *line)
@@ -236,16 +405,21 @@ static void carry_out(struct line *line)
     for (size_t i = 0; i < COMMANDS; i++) {
         if (!is_word(&words[0], commands[i].name))
             continue;
-        if (count == commands[i].words)
+        if (commands[i].run != do_quit)
+            asked = 0;
+        if (count == commands[i].words) {
             commands[i].run(words);
-        else
-            printf("  not understood: write %s%s%s\n", commands[i].name,
-                   commands[i].rest[0] ? " " : "", commands[i].rest);
+            return;
+        }
+        explain_usage(&commands[i]);
         return;
     }
-    printf("  not understood: ");
-    print_word(words[0].text, words[0].length);
-    printf(" is no command; help lists them\n");
+    explain_unknown(&words[0]);
+}
+
+static void print_start_failure(const char *what, const char *name)
+{
+    fprintf(stderr, "desk: cannot %s the sheet %s: %s\n", what, name, strerror(errno));
 }
 
 /* Reads the file of a sheet and opens it; 0 if it cannot start. */
@@ -255,12 +429,12 @@ static int start(const char *name)
     errno = 0;
     FILE *file = fopen(name, "rb");
     if (file == NULL) {
-        fprintf(stderr, "desk: cannot open the sheet: %s\n", strerror(errno));
+        print_start_failure("open", name);
         return 0;
     }
     const size_t length = fread(sheet, 1, sizeof sheet, file);
     if (ferror(file)) {
-        fprintf(stderr, "desk: cannot read the sheet: %s\n", strerror(errno));
+        print_start_failure("read", name);
         fclose(file);
         return 0;
     }
@@ -276,35 +450,131 @@ static int start(const char *name)
     return 1;
 }
 
-int main(int argc, char **argv)
+/* Makes sure that no file that is opened later takes the place of a standard
+   stream that is closed, and that a write waits. */
+static int hold_streams(void)
+{
+    for (int fd = STDIN_FILENO; fd <= STDERR_FILENO; fd++) {
+        if (fcntl(fd, F_GETFD) >= 0)
+            continue;
+        if (fd == STDOUT_FILENO) {
+            fprintf(stderr, "desk: there is no output\n");
+            return 0;
+        }
+        if (open("/dev/null", O_RDWR) != fd)
+            return 0;
+    }
+    const int flags = fcntl(STDOUT_FILENO, F_GETFL);
+    if (flags >= 0 && (flags & O_NONBLOCK) != 0)
+        fcntl(STDOUT_FILENO, F_SETFL, flags & ~O_NONBLOCK);
+    return 1;
+}
+
+static sigset_t interrupts; /* what interrupts a person's line */
+
+static void interrupt(int signal_number)
+{
+    (void)signal_number;
+    interrupted = 1;
+}
+
+/* A failed write is told by its answer. Where a person types, an interrupt gives
+   up the line that is read, and waits while a command is carried out. */
+static void set_signals(void)
+{
+    struct sigaction action;
+    memset(&action, 0, sizeof action);
+    sigemptyset(&action.sa_mask);
+    action.sa_handler = SIG_IGN;
+    sigaction(SIGXFSZ, &action, NULL);
+    sigaction(SIGPIPE, &action, NULL);
+    sigemptyset(&interrupts);
+    if (person) {
+        sigaddset(&interrupts, SIGINT);
+        sigaddset(&interrupts, SIGQUIT);
+        sigprocmask(SIG_BLOCK, &interrupts, NULL);
+        action.sa_handler = interrupt; /* no SA_RESTART: the read is to end */
+        sigaction(SIGINT, &action, NULL);
+        sigaction(SIGQUIT, &action, NULL);
+    }
+}
+
+/* Reads a command, which may be interrupted. */
+static enum reading read_command(struct line *line)
+{
+    sigprocmask(SIG_UNBLOCK, &interrupts, NULL);
+    const enum reading result = read_line(stdin, line);
+    const int error = errno;
+    sigprocmask(SIG_BLOCK, &interrupts, NULL);
+    errno = error;
+    return result;
+}
+
+/* Whether what was printed could be written; said once if not. */
+static int written(void)
+{
+    static int failed;
+    errno = 0;
+    if (!failed && (fflush(stdout) != 0 || ferror(stdout))) {
+        failed = 1;
+        fprintf(stderr, "desk: cannot write the answers: %s\n",
+                errno != 0 ? strerror(errno) : "some are lost");
+    }
+    return !failed;
+}
+
+/* Carries out commands to the end; 0 if they cannot be read, or the answers not
+   be written. The log, if one is kept, then has every call that was made. */
+static int serve(void)
 {
     static struct line line;
-    if (argc != 2) {
-        fprintf(stderr, "usage: desk SHEET\n");
-        return 2;
-    }
-    if (fcntl(STDOUT_FILENO, F_GETFD) < 0)
-        return 1; /* a log would take the place of the output */
-    signal(SIGXFSZ, SIG_IGN); /* a log that grows too large is a failed write */
-    if (!start(argv[1]))
-        return 1;
-    const int terminal = isatty(STDIN_FILENO);
     while (!leave) {
-        if (terminal) {
+        if (typed)
             printf("> ");
-            fflush(stdout);
-        }
-        if (!read_line(stdin, &line))
+        if (!written())
+            return 0;
+        switch (read_command(&line)) {
+        case READ_FAILED:
+            fprintf(stderr, "desk: cannot read the commands: %s\n", strerror(errno));
+            return 0;
+        case READ_INTERRUPTED:
+            printf("\n  The line is given up; quit leaves the desk.\n");
+            continue;
+        case READ_END:
+            if (typed)
+                printf("\n");
+            do_quit(NULL);
+            clearerr(stdin);
+            continue;
+        case READ_LINE:
+            if (!line.ended) /* the end of input is to be met again */
+                clearerr(stdin);
             break;
-        if (!terminal) {
+        }
+        if (!typed) {
             printf("> ");
             print_line(&line);
             printf("\n");
         }
         carry_out(&line);
     }
-    log_end(&calls_log);
-    printf("%sleft with boxes made %u, sleeves loose %u\n", terminal && !leave ? "\n" : "",
-           session.made, session.n - 2 * session.made);
-    return 0;
+    printf("left with boxes made %u, sleeves loose %u\n", session.made,
+           session.n - 2 * session.made);
+    return 1;
+}
+
+int main(int argc, char **argv)
+{
+    if (argc != 2) {
+        fprintf(stderr, "usage: desk SHEET\n");
+        return 2;
+    }
+    if (!hold_streams())
+        return 1;
+    person = isatty(STDIN_FILENO);
+    typed = person && isatty(STDOUT_FILENO);
+    set_signals();
+    const int done = start(argv[1]) && serve();
+    const int kept = log_end(&calls_log);
+    return written() && done && kept ? 0 : 1;
 }

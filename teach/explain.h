@@ -4,19 +4,16 @@
 
 #include "session.h"
 
-/* A call as it stands in a list of saszvigom_replay; row is not in such a list. */
-enum { CALL_ROW = 4 };
-struct call {
-    uint64_t kind, a, b;
-};
-
 /* Says what a session call returned, and what to do if it was refused. Of the
    session only the graph, sequence and made are looked at; made and sequence are
    those after the call. */
 void explain_call(const struct session *s, const struct call *call, uint64_t number);
 
-/* Says that a whole list was refused, and why. */
-void explain_list(const struct session *s, uint64_t number);
+/* Says in one line, after the call itself, what a call of a list returned. */
+void explain_briefly(const struct call *call, uint64_t number);
+
+/* Says why a whole list was refused, and what to do if that is asked for. */
+void explain_list(const struct session *s, uint64_t number, int advise);
 
 /* Says what opening found. */
 void explain_opening(const struct session *s);

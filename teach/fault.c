@@ -42,13 +42,13 @@ static const char *name_of(uint8_t kind)
     case SASZVIGOM_RECORD_SIZE:
         return "a size";
     case SASZVIGOM_RECORD_EDGE:
-        return "a may share";
+        return "a share";
     case SASZVIGOM_RECORD_SEED:
         return "a seed";
     case SASZVIGOM_RECORD_END:
         return "an end";
     default:
-        return "no kind of record";
+        return "of no known kind";
     }
 }
 
@@ -56,31 +56,51 @@ static const char *name_of(uint8_t kind)
 static const char *due(const uint8_t *sheet, struct record r)
 {
     if (r.before == 0)
-        return "the size record, kind 1, is due";
+        return "the size must stand there";
     if (r.before == 1)
-        return "the seed record, kind 3, is due";
+        return "the seed must stand there";
     for (size_t at = 0; at < r.offset; at += length_of(sheet[at]))
         if (sheet[at] == SASZVIGOM_RECORD_END)
-            return "nothing is due, for the end record stands before it";
-    return "a may share record, kind 2, or the end record, kind 4, is due";
+            return "nothing may follow the end";
+    return "a share or the end must stand there";
+}
+
+static int is_blank(uint8_t byte)
+{
+    return byte == ' ' || byte == '\n' || byte == '\r' || byte == '\t';
+}
+
+/* Whether bytes are a text: it begins with ASCII, perhaps after a byte-order mark,
+   and its remarks may have any letters. No sheet is one: it begins with the byte 1. */
+static int is_text(const uint8_t *bytes, size_t length)
+{
+    const size_t mark =
+        length >= 3 && bytes[0] == 0xef && bytes[1] == 0xbb && bytes[2] == 0xbf ? 3 : 0;
+    if (mark == length || bytes[mark] > '~')
+        return 0;
+    for (size_t i = mark; i < length; i++)
+        if ((bytes[i] < ' ' && !is_blank(bytes[i])) || bytes[i] == 0x7f)
+            return 0;
+    return 1;
 }
 
 static void explain_cut(const uint8_t *sheet, size_t length)
 {
     const struct record r = find(sheet, length, length);
-    printf("the data stops after %u bytes, ", (unsigned)length);
+    printf("the sheet stops after %u bytes, ", (unsigned)length);
     if (r.offset < length)
-        printf("inside record %u,\n  %s record that begins at offset %u.\n", r.before + 1,
+        printf("inside record %u,\n  %s that begins at offset %u.\n", r.before + 1,
                name_of(sheet[r.offset]), (unsigned)r.offset);
     else
-        printf("before the end record;\n  there %s.\n", due(sheet, r));
-    printf("  what to do: have the sheet sent again whole, or add what is missing.\n");
+        printf("before its end;\n  %s.\n", due(sheet, r));
+    printf("  what to do: add what is missing to the text, such as the end; or have the\n"
+           "  sheet sent again whole.\n");
 }
 
-static void explain_sleeves(const uint8_t *sheet, struct record r)
+static void explain_vertices(const uint8_t *sheet, struct record r)
 {
     const unsigned a = sheet[r.offset + 1], b = sheet[r.offset + 2], n = sheet[1];
-    printf("record %u, may share %u %u, ", r.before + 1, a, b);
+    printf("record %u, share %u %u, ", r.before + 1, a, b);
     if (a >= n || b >= n) {
         printf("names sleeve %u, but ", a >= n ? a : b);
         if (n == 0)
@@ -103,17 +123,24 @@ static void explain_repeated(const uint8_t *sheet, struct record r)
         first.offset += 3;
         first.before++;
     }
-    printf("record %u, may share %u %u, names two sleeves that\n"
+    printf("record %u, share %u %u, names two sleeves that\n"
            "  record %u, at offset %u, has named already.\n",
            r.before + 1, a, b, first.before + 1, (unsigned)first.offset);
     printf("  what to do: take one of the two records out.\n");
+}
+
+/* Prints the name of a file as it can be typed in a command, or else FILE. */
+static void print_argument(const char *name)
+{
+    const char *const plain = "ABCDEFGHIJKLMNOPQRSTUVWXYZabcdefghijklmnopqrstuvwxyz0123456789._/-";
+    printf("%s", strspn(name, plain) == strlen(name) ? name : "FILE");
 }
 
 void explain_sheet(const char *name, const uint8_t *sheet, size_t length, uint64_t number)
 {
     const unsigned place = saszvigom_place_of(number);
     const struct record r = find(sheet, length, place);
-    printf("  refused %u at %u: ", saszvigom_cause_of(number), place);
+    printf("  refused %u at %u: ", (unsigned)saszvigom_cause_of(number), place);
     switch (saszvigom_cause_of(number)) {
     case SASZVIGOM_SIZE_TOO_LARGE:
         printf("the size record says %u sleeves; a sheet has 96 at most.\n"
@@ -121,15 +148,27 @@ void explain_sheet(const char *name, const uint8_t *sheet, size_t length, uint64
                sheet[1]);
         break;
     case SASZVIGOM_RECORD_NOT_DUE:
-        printf("the byte at offset %u, %u, begins record %u, %s;\n  there %s.\n", place,
-               sheet[place], r.before + 1, name_of(sheet[place]), due(sheet, r));
-        printf("  what to do: put what is due there, or take this byte and its record out.\n");
+        if (is_text(sheet, length)) {
+            printf("no record begins there; the file is a text, and no sheet.\n"
+                   "  what to do: make a sheet of the text, and open that:\n    ./sheet make ");
+            print_argument(name);
+            printf(" >NAME.sheet\n");
+            return;
+        }
+        printf("record %u, at offset %u, is %s;\n  %s.\n", r.before + 1, place,
+               name_of(sheet[place]), due(sheet, r));
+        printf("  what to do: put the size first, the seed second, then the shares and the end.\n");
         break;
     case SASZVIGOM_SHEET_CUT:
+        if (length == 0) {
+            printf("the file is empty; ./sheet make may have refused the text.\n"
+                   "  what to do: make the sheet again, and correct the line that is named.\n");
+            return;
+        }
         explain_cut(sheet, length);
         break;
     case SASZVIGOM_RECORD_VERTEX_INVALID:
-        explain_sleeves(sheet, r);
+        explain_vertices(sheet, r);
         break;
     case SASZVIGOM_EDGE_REPEATED:
         explain_repeated(sheet, r);
@@ -138,6 +177,6 @@ void explain_sheet(const char *name, const uint8_t *sheet, size_t length, uint64
         printf("a lent buffer is too short.\n");
     }
     printf("  Nothing was opened. ./sheet show lists the records with their offsets:\n    ./sheet show ");
-    print_word(name, strlen(name));
+    print_argument(name);
     printf("\n");
 }

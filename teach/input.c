@@ -1,42 +1,89 @@
+#define _XOPEN_SOURCE 700
+
 #include "input.h"
 
+#include <errno.h>
+#include <poll.h>
 #include <string.h>
 
-#define MOST_SHOWN 160
+#define LINE_COLUMNS 160
+#define WORD_COLUMNS 40
 
-int read_line(FILE *file, struct line *line)
+volatile sig_atomic_t interrupted;
+
+/* The next byte. EOF at the end of the file, after an error, which is left in
+   errno, and after an interrupt. */
+static int next_byte(FILE *file)
 {
-    int c = getc(file);
-    if (c == EOF)
-        return 0;
+    for (;;) {
+        errno = 0;
+        const int c = getc(file);
+        if (c != EOF || !ferror(file) || interrupted)
+            return c;
+        if (errno == EAGAIN || errno == EWOULDBLOCK) {
+            struct pollfd wait = {fileno(file), POLLIN, 0};
+            poll(&wait, 1, -1);
+        } else if (errno != EINTR) {
+            return c;
+        }
+        clearerr(file);
+    }
+}
+
+enum reading read_line(FILE *file, struct line *line)
+{
     line->length = 0;
     line->cut = 0;
-    for (; c != EOF && c != '\n'; c = getc(file)) {
+    line->text[0] = 0;
+    interrupted = 0;
+    int c = next_byte(file);
+    const int any = c != EOF;
+    for (; c != EOF && c != '\n'; c = next_byte(file)) {
         if (line->length < LINE_BYTES)
             line->text[line->length++] = (char)c;
         else
             line->cut = 1;
     }
+    line->ended = c == '\n';
     line->text[line->length] = 0;
-    return 1;
+    if (interrupted) {
+        clearerr(file);
+        return READ_INTERRUPTED;
+    }
+    if (c == EOF && ferror(file))
+        return READ_FAILED;
+    return any ? READ_LINE : READ_END;
+}
+
+/* Prints bytes in at most so many columns, and dots for what is left out. */
+static void print_bytes(const char *bytes, size_t length, size_t most)
+{
+    size_t column = 0;
+    for (size_t i = 0; i < length; i++) {
+        const unsigned char c = (unsigned char)bytes[i];
+        const int printable = c >= ' ' && c <= '~';
+        column += printable ? 1 : 4;
+        if (column > most) {
+            printf("...");
+            return;
+        }
+        printf(printable ? "%c" : "\\x%02x", c);
+    }
 }
 
 void print_word(const char *word, size_t length)
 {
-    for (size_t i = 0; i < length && i < MOST_SHOWN; i++) {
-        const unsigned char c = (unsigned char)word[i];
-        if (c >= ' ' && c <= '~')
-            putchar(c);
-        else
-            printf("\\x%02x", (unsigned)c);
-    }
-    if (length > MOST_SHOWN)
-        printf("...");
+    print_bytes(word, length, WORD_COLUMNS);
+}
+
+void print_name(const char *name)
+{
+    print_bytes(name, strlen(name), SIZE_MAX);
 }
 
 void print_line(const struct line *line)
 {
-    print_word(line->text, line->length);
+    print_bytes(line->text, line->length, LINE_COLUMNS);
 }
 
 static int blank(char c)
@@ -70,18 +117,25 @@ int is_word(const struct word *word, const char *letters)
     return word->length == strlen(letters) && memcmp(word->text, letters, word->length) == 0;
 }
 
+int is_digits(const struct word *word)
+{
+    for (size_t i = 0; i < word->length; i++)
+        if (word->text[i] < '0' || word->text[i] > '9')
+            return 0;
+    return word->length > 0;
+}
+
 int is_number(const struct word *word, uint64_t *number)
 {
     uint64_t value = 0;
+    if (!is_digits(word))
+        return 0;
     for (size_t i = 0; i < word->length; i++) {
-        const char c = word->text[i];
-        if (c < '0' || c > '9')
-            return 0;
-        const uint64_t digit = (uint64_t)(c - '0');
+        const uint64_t digit = (uint64_t)(word->text[i] - '0');
         if (value > (UINT64_MAX - digit) / 10)
             return 0;
         value = 10 * value + digit;
     }
     *number = value;
-    return word->length > 0;
+    return 1;
 }

@@ -2,27 +2,39 @@
 #ifndef TEACH_INPUT_H
 #define TEACH_INPUT_H
 
+#include <signal.h>
 #include <stddef.h>
 #include <stdint.h>
 #include <stdio.h>
 
 #define LINE_BYTES 4096
-#define MOST_WORDS 4
+#define MOST_WORDS 8
 
 struct line {
     size_t length; /* of the bytes that are kept */
     int cut;       /* whether the line had more */
+    int ended;     /* whether a line feed ended it, and not the end of the file */
     char text[LINE_BYTES + 1];
 };
 
-/* Reads a line of any length and any bytes; 0 if there is none. */
-int read_line(FILE *file, struct line *line);
+enum reading { READ_LINE, READ_END, READ_FAILED, READ_INTERRUPTED };
 
-/* Prints a line with every byte that is no printable ASCII as \xNN. */
+/* Set by a signal to give up the line that is being read. */
+extern volatile sig_atomic_t interrupted;
+
+/* Reads a line of any length and any bytes. A read that is interrupted by
+   another signal, or would block, is made again. */
+enum reading read_line(FILE *file, struct line *line);
+
+/* Prints a line with every byte that is no printable ASCII as \xNN, and of one
+   that is too long for two rows of a screen the beginning. */
 void print_line(const struct line *line);
 
-/* Prints a word in the same way. */
+/* Prints a word in the same way, in less than half a row. */
 void print_word(const char *word, size_t length);
+
+/* Prints the name of a file in the same way, whole. */
+void print_name(const char *name);
 
 struct word {
     char *text; /* ends with a 0 byte, and may have others */
@@ -36,7 +48,10 @@ size_t split(struct line *line, struct word words[MOST_WORDS]);
 /* Whether a word is these letters. */
 int is_word(const struct word *word, const char *letters);
 
-/* Whether a word is digits alone, of a number of at most 64 bits. */
+/* Whether a word is digits alone. */
+int is_digits(const struct word *word);
+
+/* Whether it is, and the number has at most 64 bits. */
 int is_number(const struct word *word, uint64_t *number);
 
 #endif

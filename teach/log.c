@@ -3,123 +3,281 @@
 #include "log.h"
 
 #include <errno.h>
+#include <fcntl.h>
 #include <inttypes.h>
+#include <stdlib.h>
 #include <string.h>
 #include <sys/stat.h>
+#include <unistd.h>
 
-/* The longest run of digits that is read: a number has at most 20. */
-#define MOST_DIGITS 32
+#define LOG_LINE_BYTES 128
 
 static void print_failure(const char *what, const char *name, int error)
 {
     printf("  %s ", what);
-    print_word(name, strlen(name));
+    print_name(name);
     printf(": %s\n", strerror(error));
 }
 
-int log_begin(struct log *log, const char *name)
+/* Appends a text to a log, whole or not at all; else 0, with errno. */
+static int append(struct log *log, const char *text)
 {
-    errno = 0;
-    FILE *file = fopen(name, "wx"); /* a file that is there is left as it is */
-    if (file == NULL) {
+    const size_t length = strlen(text);
+    for (size_t done = 0; done < length;) {
+        const ssize_t count = write(log->fd, text + done, length - done);
+        if (count > 0) {
+            done += (size_t)count;
+        } else if (count == 0 || errno != EINTR) {
+            const int error = count == 0 ? EIO : errno;
+            if (ftruncate(log->fd, (off_t)log->written) != 0)
+                printf("  The last line of the log may be cut.\n");
+            errno = error;
+            return 0;
+        }
+    }
+    log->written += (long long)length;
+    return 1;
+}
+
+/* Writes the answer of a call into a text. */
+static void answer_text(char text[LOG_LINE_BYTES], uint64_t number, int undo)
+{
+    if (saszvigom_cause_of(number) != SASZVIGOM_NO_CAUSE)
+        snprintf(text, LOG_LINE_BYTES, "refused %u", (unsigned)saszvigom_cause_of(number));
+    else
+        snprintf(text, LOG_LINE_BYTES, "%s %u %u", undo ? "back" : "box",
+                 saszvigom_smaller_of(number), saszvigom_larger_of(number));
+}
+
+void print_answer(uint64_t answer, int undo)
+{
+    char text[LOG_LINE_BYTES];
+    answer_text(text, answer, undo);
+    printf("%s", text);
+}
+
+int log_begin(struct log *log, const char *name, const struct session *s)
+{
+    struct log new = {-1, 0, s->made, ""};
+    char text[LOG_LINE_BYTES];
+    new.fd = open(name, O_WRONLY | O_CREAT | O_EXCL | O_NOCTTY, 0666);
+    if (new.fd < 0) {
         print_failure("no log: cannot make", name, errno);
+        if (log->fd >= 0)
+            printf("  The log kept so far goes on.\n");
         printf("  what to do: name a new file, in a folder that is there; none is overwritten.\n");
         return 0;
     }
+    snprintf(text, sizeof text, "sleeves %u links %u seed %u\n", s->n, s->edges,
+             (unsigned)s->seed);
+    int done = append(&new, text);
+    for (unsigned k = 0; done && k < s->made; k++) {
+        const unsigned a = s->sequence[2 * k], b = s->sequence[2 * k + 1];
+        snprintf(text, sizeof text, "pick %u %u = box %u %u\n", a, b, a, b);
+        done = append(&new, text);
+    }
+    if (!done) {
+        print_failure("no log: cannot write", name, errno);
+        printf("  what to do: name a file in a folder with room.\n");
+        close(new.fd);
+        unlink(name); /* it was made here */
+        return 0;
+    }
     log_end(log);
-    log->file = file;
+    *log = new;
     strcpy(log->name, name);
     return 1;
 }
 
-void log_call(struct log *log, uint64_t kind, uint64_t a, uint64_t b)
+void log_call(struct log *log, const struct call *call, uint64_t number)
 {
-    if (log->file == NULL)
+    char text[2 * LOG_LINE_BYTES], answer[LOG_LINE_BYTES];
+    if (log->fd < 0)
         return;
-    errno = 0;
-    if (fprintf(log->file, "%" PRIu64 " %" PRIu64 " %" PRIu64 "\n", kind, a, b) < 0 ||
-        fflush(log->file) != 0) {
+    if (log->count == MOST_CALLS) {
+        printf("  the log ends before this call: it has %u calls, as many as a replay takes.\n"
+               "  The session goes on, and no log is kept.\n"
+               "  what to do: log to a new file.\n",
+               (unsigned)MOST_CALLS);
+        log_end(log);
+        return;
+    }
+    answer_text(answer, number, call->kind == SASZVIGOM_CALL_UNDO);
+    if (call->kind == SASZVIGOM_CALL_PICK)
+        snprintf(text, sizeof text, "pick %" PRIu64 " %" PRIu64 " = %s\n", call->a, call->b,
+                 answer);
+    else
+        snprintf(text, sizeof text, "%s = %s\n",
+                 call->kind == SASZVIGOM_CALL_UNDO ? "undo" : "auto", answer);
+    if (!append(log, text)) {
         print_failure("the log ends before this call: cannot write", log->name, errno);
-        printf("  The boxes are as the call left them.\n");
-        fclose(log->file);
-        log->file = NULL;
+        printf("  The session goes on, and no log is kept.\n"
+               "  what to do: log to a new file, in a folder with room.\n");
+        log_end(log);
+        return;
     }
+    log->count++;
 }
 
-void log_end(struct log *log)
+int log_end(struct log *log)
 {
-    if (log->file != NULL)
-        fclose(log->file);
-    log->file = NULL;
+    const int whole = log->fd < 0 || close(log->fd) == 0;
+    if (!whole)
+        print_failure("the log may not be whole: cannot close", log->name, errno);
+    log->fd = -1;
+    return whole;
 }
 
-/* Reads the next run of bytes that are no blanks, cut to MOST_DIGITS; its length. */
-static size_t read_word(FILE *file, char text[MOST_DIGITS + 1], unsigned *line)
+/* The call that begins a line, in words; the number of these, or 0. */
+static size_t find_call(const struct word *words, size_t count, struct call *call)
 {
-    int c = getc(file);
-    while (c == ' ' || c == '\t' || c == '\r' || c == '\n') {
-        *line += c == '\n';
-        c = getc(file);
+    call->a = call->b = 0;
+    if (is_word(&words[0], "pick")) {
+        call->kind = SASZVIGOM_CALL_PICK;
+        return count >= 3 && is_number(&words[1], &call->a) && is_number(&words[2], &call->b) ? 3
+                                                                                               : 0;
     }
-    size_t length = 0;
-    while (c != EOF && c != ' ' && c != '\t' && c != '\r' && c != '\n' && length < MOST_DIGITS) {
-        text[length++] = (char)c;
-        c = getc(file);
-    }
-    if (c != EOF)
-        ungetc(c, file);
-    text[length] = 0;
-    return length;
+    call->kind = is_word(&words[0], "undo") ? SASZVIGOM_CALL_UNDO : SASZVIGOM_CALL_AUTOMATIC;
+    return is_word(&words[0], "undo") || is_word(&words[0], "auto") ? 1 : 0;
 }
 
-static int read_numbers(FILE *file, const char *name, uint64_t *numbers, size_t *count)
+/* Whether words are the answer of a call, and which. */
+static int find_answer(const struct word *words, size_t count, int undo, uint64_t *answer)
 {
-    char text[MOST_DIGITS + 1];
-    unsigned line = 1;
-    *count = 0;
-    for (;;) {
-        struct word word = {text, 0};
-        uint64_t number;
-        word.length = read_word(file, text, &line);
-        if (ferror(file)) {
+    uint64_t a, b;
+    if (count == 2 && is_word(&words[0], "refused") && is_number(&words[1], &a) && a > 0 &&
+        a <= 255) {
+        *answer = a;
+        return 1;
+    }
+    if (count == 3 && is_word(&words[0], undo ? "back" : "box") && is_number(&words[1], &a) &&
+        is_number(&words[2], &b) && a <= 255 && b <= 255) {
+        *answer = (uint64_t)SASZVIGOM_PAIR << 8 | a << 16 | b << 24;
+        return 1;
+    }
+    return 0;
+}
+
+static int is_graph(const struct word *words, size_t count, struct calls *calls)
+{
+    return count == 6 && is_word(&words[0], "sleeves") && is_number(&words[1], &calls->n) &&
+           is_word(&words[2], "links") && is_number(&words[3], &calls->edges) &&
+           is_word(&words[4], "seed") && is_number(&words[5], &calls->seed);
+}
+
+/* Takes a line; 0 if it is none of a log. */
+static int take(struct line *line, struct calls *calls)
+{
+    struct word words[MOST_WORDS];
+    struct call call;
+    const size_t count = split(line, words);
+    if (line->cut || count > MOST_WORDS)
+        return count > 0 && words[0].text[0] == '#';
+    if (count == 0 || words[0].text[0] == '#')
+        return 1;
+    if (!calls->named && calls->count == 0 && is_graph(words, count, calls)) {
+        calls->named = 1;
+        return 1;
+    }
+    const size_t used = find_call(words, count, &call);
+    uint64_t answer = NO_ANSWER;
+    if (used == 0)
+        return 0;
+    if (count > used &&
+        !(is_word(&words[used], "=") &&
+          find_answer(words + used + 1, count - used - 1, call.kind == SASZVIGOM_CALL_UNDO,
+                      &answer)))
+        return 0;
+    if (calls->count < MOST_CALLS) {
+        uint64_t *const numbers = calls->numbers + SASZVIGOM_NUMBERS_A_CALL * calls->count;
+        numbers[0] = call.kind;
+        numbers[1] = call.a;
+        numbers[2] = call.b;
+        calls->answers[calls->count] = answer;
+    }
+    calls->count++;
+    return 1;
+}
+
+static int read_calls(FILE *file, const char *name, struct calls *calls)
+{
+    static struct line line, shown;
+    calls->named = 0;
+    calls->count = 0;
+    for (unsigned long number = 1;; number++) {
+        switch (read_line(file, &line)) {
+        case READ_FAILED:
             print_failure("no replay: cannot read", name, errno);
             return 0;
-        }
-        if (word.length == 0)
+        case READ_INTERRUPTED:
+            printf("  no replay: interrupted\n");
+            return 0;
+        case READ_END:
             return 1;
-        if (!is_number(&word, &number)) {
-            printf("  no replay: line %u of the log has no number where one is due: ", line);
-            print_word(word.text, word.length);
-            printf("\n  what to do: a log has three numbers a call, its kind and two sleeves.\n");
+        case READ_LINE:
+            break;
+        }
+        shown = line;
+        if (number == 1 && line.text[0] == SASZVIGOM_RECORD_SIZE) {
+            printf("  no replay: ");
+            print_name(name);
+            printf(" is a sheet, and no log.\n  what to do: name a file that log has made.\n");
             return 0;
         }
-        if (*count == MOST_NUMBERS) {
-            printf("  no replay: the log has more than %u calls.\n", (unsigned)MOST_CALLS);
-            printf("  what to do: replay it in parts.\n");
+        if (!take(&line, calls)) {
+            printf("  no replay: line %lu is no call: ", number);
+            print_word(shown.text, shown.length);
+            printf("\n  what to do: write pick A B, auto or undo, each in a line of its own.\n");
             return 0;
         }
-        numbers[(*count)++] = number;
+        if (!line.ended) {
+            printf("  no replay: the file stops inside line %lu.\n"
+                   "  what to do: get it again, whole; its last line ends like the others.\n",
+                   number);
+            return 0;
+        }
+        if (calls->count > MOST_CALLS) {
+            printf("  no replay: the file has more than %u calls.\n"
+                   "  what to do: leave out boxes that were made and taken back.\n",
+                   (unsigned)MOST_CALLS);
+            return 0;
+        }
     }
 }
 
-int log_read(const char *name, uint64_t numbers[MOST_NUMBERS], size_t *count)
+int log_read(const char *name, struct calls *calls)
 {
     struct stat about;
-    FILE *file = NULL;
-    errno = 0;
-    /* A pipe or a terminal may never end, or be the one that commands come from. */
-    if (stat(name, &about) == 0 && !S_ISREG(about.st_mode)) {
-        printf("  no replay: ");
-        print_word(name, strlen(name));
-        printf(" is no plain file.\n");
+    /* Not blocking: a pipe may have no writer. */
+    const int fd = open(name, O_RDONLY | O_NONBLOCK | O_NOCTTY);
+    if (fd < 0) {
+        print_failure("no replay: cannot open", name, errno);
+        printf("  what to do: name a file that log has made, as it was named there.\n");
         return 0;
     }
-    file = fopen(name, "r");
+    /* A pipe or a terminal may never end, or be the one that commands come from. */
+    if (fstat(fd, &about) != 0 || !S_ISREG(about.st_mode)) {
+        printf("  no replay: ");
+        print_name(name);
+        printf(" is no plain file.\n  what to do: name a file that log has made.\n");
+        close(fd);
+        return 0;
+    }
+    if (about.st_size > (off_t)MOST_CALLS * LINE_BYTES) {
+        printf("  no replay: ");
+        print_name(name);
+        printf(" is larger than a log of %u calls.\n  what to do: name a file that log has made.\n",
+               (unsigned)MOST_CALLS);
+        close(fd);
+        return 0;
+    }
+    FILE *file = fdopen(fd, "r");
     if (file == NULL) {
         print_failure("no replay: cannot open", name, errno);
+        close(fd);
         return 0;
     }
-    const int done = read_numbers(file, name, numbers, count);
+    const int done = read_calls(file, name, calls);
     fclose(file);
     return done;
 }

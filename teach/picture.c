@@ -4,7 +4,12 @@
 #include <string.h>
 
 #define WIDTH 78
-#define MOST_IN_GRID 12 /* vertices, for a table with a column for each */
+#define MOST_IN_LINE 16 /* vertices, for a table with a column each, and for the sequence */
+#define MOST_DRAWN 12   /* pairs that are drawn, and not listed */
+#define DRAWN_IN_LINE 6
+
+/* Room for the numbers of all vertices in two lists, each after a blank. */
+#define TEXT_BYTES 512
 
 /* A paragraph: items after a heading, wrapped under the first one. */
 struct paragraph {
@@ -18,37 +23,52 @@ static struct paragraph begin(const char *heading)
     return p;
 }
 
-static void put(struct paragraph *p, const char *item)
+static void put(struct paragraph *p, const char *item, size_t length)
 {
-    if (p->column + 1 + strlen(item) > WIDTH) {
+    if (p->column + 1 + length > WIDTH) {
         printf("\n%*s", (int)p->indent, "");
         p->column = p->indent;
     }
-    printf(" %s", item);
-    p->column += 1 + strlen(item);
+    printf(" %.*s", (int)length, item);
+    p->column += 1 + length;
 }
 
-void print_vertices(const char *heading, const uint8_t *marks, unsigned n)
+/* Puts the items of a text, each after one blank. */
+static void put_all(struct paragraph *p, const char *text)
 {
-    struct paragraph p = begin(heading);
-    char item[32];
-    int any = 0;
+    while (*text == ' ') {
+        const size_t length = strcspn(text + 1, " ");
+        put(p, text + 1, length);
+        text += 1 + length;
+    }
+}
+
+/* Appends the vertices that are marked with 1, each after a blank. */
+static void append_vertices(char text[TEXT_BYTES], const uint8_t *marks, unsigned n)
+{
+    size_t length = strlen(text);
     for (unsigned a = 0; a < n; a++) {
         unsigned last = a;
         if (marks[a] != 1)
             continue;
         while (last + 1 < n && marks[last + 1] == 1)
             last++;
-        if (last - a >= 2 && n > MOST_IN_GRID) {
-            snprintf(item, sizeof item, "%u-%u", a, last);
+        if (last - a >= 2 && n > MOST_IN_LINE) {
+            length += (size_t)snprintf(text + length, TEXT_BYTES - length, " %u-%u", a, last);
             a = last;
         } else {
-            snprintf(item, sizeof item, "%u", a);
+            length += (size_t)snprintf(text + length, TEXT_BYTES - length, " %u", a);
         }
-        put(&p, item);
-        any = 1;
     }
-    printf(any ? "\n" : " none\n");
+}
+
+void print_vertices(const char *heading, const uint8_t *marks, unsigned n)
+{
+    char text[TEXT_BYTES] = "";
+    struct paragraph p = begin(heading);
+    append_vertices(text, marks, n);
+    put_all(&p, text[0] != 0 ? text : " none");
+    printf("\n");
 }
 
 void print_witness(const struct session *s)
@@ -58,34 +78,46 @@ void print_witness(const struct session *s)
             printf("  witness %u %u\n", a, (unsigned)saszvigom_word(s->witness, a));
 }
 
-/* The pairs drawn side by side. */
-static void print_boxes(const struct session *s)
+/* The pairs from a first one to a last, drawn side by side. */
+static void draw_pairs(const struct session *s, unsigned first, unsigned last)
 {
-    printf("boxes  ");
-    for (unsigned k = 0; k < s->made; k++)
+    printf(first == 0 ? "boxes  " : "       ");
+    for (unsigned k = first; k <= last; k++)
         printf("  +-------+");
     printf("\n       ");
-    for (unsigned k = 0; k < s->made; k++)
-        printf("  |%2u  %2u |", s->sequence[2 * k], s->sequence[2 * k + 1]);
+    for (unsigned k = first; k <= last; k++)
+        printf("  | %2u %2u |", s->sequence[2 * k], s->sequence[2 * k + 1]);
     printf("\n       ");
-    for (unsigned k = 0; k < s->made; k++)
-        printf("  +--(%u)--+", k + 1);
+    for (unsigned k = first; k <= last; k++)
+        printf("  +--(%u)-%s+", k + 1, k + 1 < 10 ? "-" : "");
     printf("\n");
 }
 
 static void print_pairs(const struct session *s)
 {
     char item[32];
-    if (s->made > 0 && s->n <= MOST_IN_GRID) {
-        print_boxes(s);
+    if (s->made > 0 && s->made <= MOST_DRAWN) {
+        for (unsigned k = 0; k < s->made; k += DRAWN_IN_LINE)
+            draw_pairs(s, k, (k + DRAWN_IN_LINE < s->made ? k + DRAWN_IN_LINE : s->made) - 1);
         return;
     }
     struct paragraph p = begin("boxes  ");
     for (unsigned k = 0; k < s->made; k++) {
-        snprintf(item, sizeof item, "[%u %u]", s->sequence[2 * k], s->sequence[2 * k + 1]);
-        put(&p, item);
+        snprintf(item, sizeof item, "[%2u %2u]", s->sequence[2 * k], s->sequence[2 * k + 1]);
+        put(&p, item, strlen(item));
     }
     printf(s->made > 0 ? "\n" : " none\n");
+}
+
+static void print_sequence(const struct session *s)
+{
+    char item[32];
+    struct paragraph p = begin("strip  ");
+    for (unsigned i = 0; i < s->n; i++) {
+        snprintf(item, sizeof item, "%u", s->sequence[i]);
+        put(&p, item, strlen(item));
+    }
+    printf("\n");
 }
 
 /* The partners of a vertex, or no vertex if the graph is singular. */
@@ -121,42 +153,78 @@ static void print_grid(const struct session *s, const uint8_t unmatched[MOST])
         printf("\n  - may share   . may not share\n");
 }
 
-/* A list for every unmatched vertex: its partners, or its neighbours if the
-   graph is singular. */
+/* The list of an unmatched vertex: its partners, and those neighbours with which
+   a pick is refused; of a singular graph its neighbours. */
+static void make_list(const struct session *s, unsigned a, const uint8_t unmatched[MOST],
+                      char text[TEXT_BYTES])
+{
+    uint8_t row[MOST], closed[MOST] = {0};
+    int any = 0;
+    find_partners(s, a, row);
+    text[0] = 0;
+    for (unsigned b = 0; b < s->n; b++) {
+        closed[b] = unmatched[b] && adjacent(s, a, b) && !row[b];
+        any |= closed[b];
+    }
+    append_vertices(text, row, s->n);
+    if (any && s->opened)
+        strcat(text, " -");
+    append_vertices(text, closed, s->n);
+}
+
+/* A list for every unmatched vertex, in as many columns as there is room for. */
 static void print_lists(const struct session *s, const uint8_t unmatched[MOST])
 {
-    uint8_t row[MOST];
-    char heading[32];
-    printf(s->opened ? "open partners\n" : "links\n");
+    static char texts[MOST][TEXT_BYTES];
+    unsigned vertices[MOST], count = 0;
+    size_t longest = 0;
+    char heading[16];
     for (unsigned a = 0; a < s->n; a++) {
         if (!unmatched[a])
             continue;
-        find_partners(s, a, row);
-        if (!s->opened)
-            for (unsigned b = 0; b < s->n; b++)
-                row[b] = (uint8_t)adjacent(s, a, b);
-        snprintf(heading, sizeof heading, "  %3u  ", a);
-        print_vertices(heading, row, s->n);
+        make_list(s, a, unmatched, texts[count]);
+        if (strlen(texts[count]) > longest)
+            longest = strlen(texts[count]);
+        vertices[count++] = a;
+    }
+    const unsigned columns = longest <= 18 ? 3 : longest <= 31 ? 2 : 1;
+    const unsigned lines = (count + columns - 1) / columns, width = WIDTH / columns;
+    printf(s->opened ? "open partners; after a - those that may share, but are refused 10\n"
+                     : "links\n");
+    for (unsigned line = 0; line < lines; line++) {
+        for (unsigned i = line; i < count; i += lines) {
+            snprintf(heading, sizeof heading, "  %3u :", vertices[i]);
+            if (columns == 1) {
+                struct paragraph p = begin(heading);
+                put_all(&p, texts[i]);
+            } else {
+                printf("%s%-*s", heading, i + lines < count ? (int)(width - strlen(heading)) : 0,
+                       texts[i]);
+            }
+        }
+        printf("\n");
     }
 }
 
 void print_picture(const struct session *s)
 {
     uint8_t unmatched[MOST] = {0};
-    printf("%u sleeves, %u links, draws of seed %u; boxes made %u, sleeves loose %u\n", s->n,
+    printf("%u sleeves, %u links, seed %u; boxes made %u, sleeves loose %u\n", s->n,
            s->edges, (unsigned)s->seed, s->made, s->n - 2 * s->made);
     for (unsigned a = 0; a < s->n; a++)
         unmatched[a] = place_of(s, a) == SASZVIGOM_UNUSED;
     print_pairs(s);
+    if (s->n > 0 && s->n <= MOST_IN_LINE)
+        print_sequence(s);
     print_vertices("loose  ", unmatched, s->n);
     if (s->n > 2 * s->made) {
-        if (s->n <= MOST_IN_GRID)
+        if (s->n - 2 * s->made <= MOST_IN_LINE)
             print_grid(s, unmatched);
         else
             print_lists(s, unmatched);
     }
     if (!s->opened) {
-        printf("no session: the sheet has a witness under these draws, f = %u\n", s->column);
+        printf("no session: there is a witness with these draws\n");
         print_witness(s);
     }
 }

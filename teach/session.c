@@ -8,7 +8,6 @@ static void open_graph(struct session *s)
         sizeof s->inverse, s->sequence, sizeof s->sequence, s->witness, sizeof s->witness, work,
         sizeof work);
     s->opened = saszvigom_kind_of(number) == SASZVIGOM_OPENED;
-    s->column = saszvigom_column_of(number);
     s->made = 0;
 }
 

@@ -10,13 +10,18 @@ struct session {
     unsigned n, edges;
     uint32_t seed; /* of the weights */
     int opened;    /* else the graph is singular with these weights */
-    unsigned column;
     unsigned made;
     uint8_t adjacency[SASZVIGOM_ADJACENCY_BYTES(MOST)];
     uint8_t weights[SASZVIGOM_WEIGHTS_BYTES(MOST)];
     uint8_t inverse[SASZVIGOM_INVERSE_BYTES(MOST)];
     uint8_t sequence[SASZVIGOM_SEQUENCE_BYTES(MOST)];
     uint8_t witness[SASZVIGOM_WITNESS_BYTES(MOST)];
+};
+
+/* A call as it stands in a list of saszvigom_replay; row is not in such a list. */
+enum { CALL_ROW = 4 };
+struct call {
+    uint64_t kind, a, b;
 };
 
 /* Reads a sheet and opens its graph; the number of saszvigom_read. */

@@ -3,7 +3,8 @@
 //!
 //! A line is `size N`, `seed N`, `share N N`, `end`, or `bytes` and bytes in
 //! hexadecimal; `#` begins a comment, and a line may be empty. The lines may
-//! stand in any order, so that damaged sheets can be written too.
+//! stand in any order, so that damaged sheets can be written too. A byte-order
+//! mark at the beginning, which some editors write, does not count.
 
 use crate::records::{EdgeBody, Record};
 
@@ -21,6 +22,13 @@ const BYTES_A_LINE: usize = 16;
 /// The bytes of a text.
 pub fn make(text: &[u8]) -> Result<Vec<u8>, Fault> {
     let mut bytes = Vec::new();
+    let text = text.strip_prefix(b"\xef\xbb\xbf").unwrap_or(text);
+    if text.first() == Some(&1) {
+        return Err(Fault {
+            line: 1,
+            what: "this is a sheet already, and no text".to_string(),
+        });
+    }
     for (index, line) in text.split(|&byte| byte == b'\n').enumerate() {
         let made = make_line(line).map_err(|what| Fault {
             line: index + 1,
@@ -33,44 +41,51 @@ pub fn make(text: &[u8]) -> Result<Vec<u8>, Fault> {
 
 fn make_line(line: &[u8]) -> Result<Vec<u8>, String> {
     let code = line.split(|&byte| byte == b'#').next().unwrap_or_default();
-    let code = std::str::from_utf8(code).map_err(|_| "this is no text".to_string())?;
+    let code = std::str::from_utf8(code).map_err(|_| "this is no plain text".to_string())?;
     let words: Vec<&str> = code.split_whitespace().collect();
     match words[..] {
         [] => Ok(Vec::new()),
-        ["size", size] => Ok(vec![1, byte(size)?]),
-        ["share", first, second] => Ok(vec![2, byte(first)?, byte(second)?]),
+        ["size", size] => Ok(vec![1, byte(size, SIZES)?]),
+        ["share", first, second] => Ok(vec![2, byte(first, SLEEVES)?, byte(second, SLEEVES)?]),
         ["seed", seed] => {
-            let seed = number(seed, u32::MAX)?;
+            let seed = number(seed, u32::MAX, "a seed is at most 4294967295")?;
             Ok([&[3][..], &seed.to_le_bytes()].concat())
         }
         ["end"] => Ok(vec![4]),
         ["bytes", ref bytes @ ..] if !bytes.is_empty() => {
             bytes.iter().map(|digits| hexadecimal(digits)).collect()
         }
-        ["size", ..] => Err("size takes one number".to_string()),
-        ["share", ..] => Err("share takes two numbers".to_string()),
-        ["seed", ..] => Err("seed takes one number".to_string()),
-        ["end", ..] => Err("end takes nothing".to_string()),
+        ["size", ..] => Err("write size and one number, such as size 4".to_string()),
+        ["share", ..] => {
+            Err("write share and two numbers with a blank between, such as share 0 1".to_string())
+        }
+        ["seed", ..] => Err("write seed and one number, such as seed 7".to_string()),
+        ["end", ..] => Err("write end alone".to_string()),
         ["bytes"] => Err("bytes takes one byte or more".to_string()),
         [word, ..] => Err(format!(
-            "'{word}' is none of size, seed, share, end and bytes"
+            "a line begins with size, seed, share or end, and not with '{word}'"
         )),
     }
 }
 
+/// What is said of a size or a sleeve for which there is no byte; a smaller one
+/// may be too large for a sheet all the same, which its reader then refuses.
+const SIZES: &str = "a sheet has at most 96 sleeves";
+const SLEEVES: &str = "the last of 96 sleeves is 95";
+
 /// A number from 0 to 255.
-fn byte(digits: &str) -> Result<u8, String> {
-    number(digits, u32::from(u8::MAX)).map(|number| number as u8)
+fn byte(digits: &str, limit: &str) -> Result<u8, String> {
+    number(digits, u32::from(u8::MAX), limit).map(|number| number as u8)
 }
 
-/// A number from 0 to the largest.
-fn number(digits: &str, largest: u32) -> Result<u32, String> {
+/// A number from 0 to the largest; the limit is said of one above it.
+fn number(digits: &str, largest: u32, limit: &str) -> Result<u32, String> {
     if !digits.bytes().all(|digit| digit.is_ascii_digit()) {
-        return Err(format!("'{digits}' is no number"));
+        return Err(format!("'{digits}' is no number in digits alone"));
     }
     match digits.parse() {
         Ok(number) if number <= largest => Ok(number),
-        _ => Err(format!("{digits} is above {largest}")),
+        _ => Err(format!("{digits} is too large: {limit}")),
     }
 }
 

@@ -27,6 +27,10 @@ fn a_text_gives_its_bytes() {
     assert_eq!(make(unended.as_bytes()), Ok(LISTED.to_vec()));
     assert_eq!(make(b""), Ok(Vec::new()));
     assert_eq!(make(b"# end"), Ok(Vec::new()));
+    let marked = [b"\xef\xbb\xbf", TEXT.as_bytes()].concat();
+    assert_eq!(make(&marked), Ok(LISTED.to_vec()));
+    let first = [b"\xef\xbb\xbfsize 4\n", &LISTED[..0]].concat();
+    assert_eq!(make(&first), Ok(vec![1, 4]));
 }
 
 #[test]
@@ -71,22 +75,37 @@ fn what_is_no_record_is_shown_as_bytes() {
 #[test]
 fn faults_name_their_line() {
     let faults = [
-        ("size", "size takes one number"),
-        ("size 1 2", "size takes one number"),
-        ("size 256", "256 is above 255"),
-        ("size -1", "'-1' is no number"),
-        ("size +1", "'+1' is no number"),
-        ("size 0x4", "'0x4' is no number"),
+        ("size", "write size and one number, such as size 4"),
+        ("size 1 2", "write size and one number, such as size 4"),
+        (
+            "size 256",
+            "256 is too large: a sheet has at most 96 sleeves",
+        ),
+        ("size -1", "'-1' is no number in digits alone"),
+        ("size +1", "'+1' is no number in digits alone"),
+        ("size 0x4", "'0x4' is no number in digits alone"),
         (
             "size 99999999999999999999",
-            "99999999999999999999 is above 255",
+            "99999999999999999999 is too large: a sheet has at most 96 sleeves",
         ),
-        ("share 1", "share takes two numbers"),
-        ("share 1 2 3", "share takes two numbers"),
-        ("share 1 300", "300 is above 255"),
-        ("seed", "seed takes one number"),
-        ("seed 4294967296", "4294967296 is above 4294967295"),
-        ("end 4", "end takes nothing"),
+        (
+            "share 1",
+            "write share and two numbers with a blank between, such as share 0 1",
+        ),
+        (
+            "share 1 2 3",
+            "write share and two numbers with a blank between, such as share 0 1",
+        ),
+        (
+            "share 1 300",
+            "300 is too large: the last of 96 sleeves is 95",
+        ),
+        ("seed", "write seed and one number, such as seed 7"),
+        (
+            "seed 4294967296",
+            "4294967296 is too large: a seed is at most 4294967295",
+        ),
+        ("end 4", "write end alone"),
         ("bytes", "bytes takes one byte or more"),
         ("bytes 0", "'0' is no byte of two hexadecimal digits"),
         ("bytes 0ff", "'0ff' is no byte of two hexadecimal digits"),
@@ -94,7 +113,7 @@ fn faults_name_their_line() {
         ("bytes zz", "'zz' is no byte of two hexadecimal digits"),
         (
             "Size 4",
-            "'Size' is none of size, seed, share, end and bytes",
+            "a line begins with size, seed, share or end, and not with 'Size'",
         ),
     ];
     for (line, what) in faults {
@@ -106,8 +125,13 @@ fn faults_name_their_line() {
         }
     }
     let fault = make(b"end\nsize \xff\n").expect_err("no text");
-    assert_eq!((fault.line, &fault.what[..]), (2, "this is no text"));
+    assert_eq!((fault.line, &fault.what[..]), (2, "this is no plain text"));
     assert_eq!(make(b"end # \xff\n"), Ok(vec![4]));
+    let fault = make(&LISTED).expect_err("a sheet");
+    assert_eq!(
+        (fault.line, &fault.what[..]),
+        (1, "this is a sheet already, and no text")
+    );
 }
 
 /// Good records, damaged in up to four places, or any bytes.
@@ -188,7 +212,9 @@ fn the_program_says_what_is_wrong_and_writes_nothing() {
     let made = run(&["make"], b"size 4\nshare 0\n");
     assert_eq!(made.status.code(), Some(1));
     assert!(made.stdout.is_empty());
-    assert_eq!(made.stderr, b"sheet: line 2: share takes two numbers\n");
+    let said = "sheet: line 2 of the text: write share and two numbers with a blank between, such as share 0 1\n\
+        sheet: no sheet is made; correct that line, and make it again\n";
+    assert_eq!(String::from_utf8_lossy(&made.stderr), said);
     for arguments in [&[][..], &["list"], &["make", "show"]] {
         let refused = run(arguments, b"");
         assert_eq!(refused.status.code(), Some(2));

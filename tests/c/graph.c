@@ -280,6 +280,9 @@ static void replays(void)
     open_ring(6);
     before = graph;
     check_number("null lists", saszvigom_graph_replay(&graph, NULL, 0, NULL, 0), 0x500);
+    check_number("null calls", saszvigom_graph_replay(&graph, NULL, 0, answers, 5), 0x500);
+    check_number("no calls, null answers", saszvigom_graph_replay(&graph, calls, 0, NULL, 0), 0x500);
+    check_number("no answers", saszvigom_graph_replay(&graph, calls, 12, NULL, 0), 0xA0002);
     check_number("null with lengths", saszvigom_graph_replay(&graph, NULL, 12, NULL, 4), 13);
     check_number("null calls with a length", saszvigom_graph_replay(&graph, NULL, 12, answers, 4), 13);
     check_number("null answers", saszvigom_graph_replay(&graph, calls, 12, NULL, 4), 0xA0002);

@@ -232,6 +232,16 @@ static void weight_faults(void)
     run("the last weight of 96 vertices");
 }
 
+static void check_that(const char *name, bool right)
+{
+    if (!right) {
+        printf("FAIL %s\n", name);
+        exit(1);
+    }
+    cases++;
+    printf("ok   %s\n", name);
+}
+
 /* The accessors, on numbers that a call returns. */
 static void accessors(void)
 {
@@ -245,13 +255,39 @@ static void accessors(void)
                        && saszvigom_cause_of(refused) == SASZVIGOM_ADJACENCY_FAULT
                        && saszvigom_kind_of(refused) == SASZVIGOM_REFUSED
                        && saszvigom_place_of(refused) == 9215
-                       && saszvigom_weight_index(96, 94, 95) == 4559;
-    if (!right) {
-        printf("FAIL accessors\n");
-        exit(1);
+                       && saszvigom_buffer_of(0xA0002) == SASZVIGOM_BUFFER_ANSWERS
+                       && saszvigom_weight_index(96, 94, 95) == 4559
+                       && saszvigom_weight_index(96, 95, 94) == 4559;
+    check_that("accessors", right);
+}
+
+/* Words that are stored, and those that are refused with nothing written. */
+static void words(void)
+{
+    const uint64_t refused[] = {65521, 65535, 65536, 65537, 131072, 4294967297u, (uint64_t)-1};
+    static uint8_t buffer[SASZVIGOM_INVERSE_BYTES(96)], before[sizeof buffer];
+    bool right = true;
+    for (uint64_t word = 0; word < SASZVIGOM_MODULUS; word++) {
+        const size_t index = (size_t)(word % 9216);
+        right = right && saszvigom_store_word(buffer, index, word)
+                && saszvigom_word(buffer, index) == word
+                && buffer[2 * index] + 256 * buffer[2 * index + 1] == (int)word;
     }
-    cases++;
-    printf("ok   accessors\n");
+    check_that("every word below the modulus is stored", right);
+    memcpy(before, buffer, sizeof buffer);
+    for (size_t i = 0; i < sizeof refused / sizeof refused[0]; i++)
+        right = right && !saszvigom_store_word(buffer, 0, refused[i])
+                && !saszvigom_store_word(buffer, 9215, refused[i]);
+    check_that("no other word is stored", right && memcmp(before, buffer, sizeof buffer) == 0);
+
+    const size_t far[] = {9216, SIZE_MAX / 2, SIZE_MAX / 2 + 1, SASZVIGOM_NO_INDEX};
+    for (size_t i = 0; i < sizeof far / sizeof far[0]; i++)
+        right = right && !saszvigom_store_word(buffer, far[i], 1)
+                && saszvigom_word(buffer, far[i]) == 0;
+    right = right && !saszvigom_store_word(NULL, SASZVIGOM_NO_INDEX, 1)
+            && saszvigom_word(NULL, SASZVIGOM_NO_INDEX) == 0;
+    check_that("no word is stored too far on",
+               right && memcmp(before, buffer, sizeof buffer) == 0);
 }
 
 static void *run_largest_graphs(void *unused)
@@ -270,6 +306,7 @@ int main(void)
     adjacency_faults();
     weight_faults();
     accessors();
+    words();
     run_on_small_stack(run_largest_graphs);
     printf("%zu cases\n", cases);
     return 0;

@@ -33,8 +33,9 @@ static void bytes(unsigned most)
 
 static void command(unsigned n)
 {
-    static const char *const words[] = {"pick", "auto", "all",    "undo", "row",   "show",
-                                        "help", "log",  "replay", "#",    "draws", "box"};
+    static const char *const words[] = {"pick",   "auto", "all",   "undo", "clear", "row",  "why",
+                                        "show",   "help", "log",   "#",    "draws", "box",  "pikc",
+                                        "replay"};
     switch (below(40)) {
     case 0:
         bytes(40);
@@ -67,8 +68,16 @@ static void command(unsigned n)
             printf("row %u", below(n + 1));
         break;
     case 7: /* take many back */
+        if (below(3) == 0)
+            printf("clear\nreplay %u.log\n", below(6));
         for (unsigned i = below(n + 2); i > 0; i--)
             printf("undo\n");
+        break;
+    case 8:
+        printf("why ");
+        number(n);
+        printf(" ");
+        number(n);
         break;
     default:
         if (below(6) == 0) {

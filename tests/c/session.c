@@ -352,7 +352,7 @@ static void faulty_inverses(void)
     for (size_t e = 0; e < COUNT(session_entries); e++) {
         for (size_t f = 0; f < COUNT(faults); f++) {
             open_four();
-            saszvigom_store_word(call.bytes[INVERSE], faults[f].index, faults[f].word);
+            store_any(call.bytes[INVERSE], faults[f].index, faults[f].word);
             run_refused(session_entries[e], SASZVIGOM_INVERSE_WRONG, 0, faults[f].what);
         }
         open_four();

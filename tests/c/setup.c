@@ -66,6 +66,12 @@ void set_edges(size_t n, const char *edges)
         link_vertices((size_t)(edge[0] - '0'), (size_t)(edge[1] - '0'));
 }
 
+void store_any(uint8_t *words, size_t index, uint16_t word)
+{
+    words[2 * index] = (uint8_t)(word & 0xFF);
+    words[2 * index + 1] = (uint8_t)(word >> 8);
+}
+
 void set_cell(size_t i, size_t j, uint8_t value)
 {
     call.bytes[ADJACENCY][i * (size_t)call.n + j] = value;
@@ -73,7 +79,7 @@ void set_cell(size_t i, size_t j, uint8_t value)
 
 void set_weight(size_t index, uint16_t weight)
 {
-    saszvigom_store_word(call.bytes[WEIGHTS], index, weight);
+    store_any(call.bytes[WEIGHTS], index, weight);
 }
 
 void link_vertices(size_t i, size_t j)

@@ -25,6 +25,10 @@ void set_edges(size_t n, const char *edges);
 /* Makes the buffers as long as the vertices need. */
 void set_lengths_as_needed(void);
 
+/* Stores any word, also one that is no residue, which saszvigom_store_word would
+   refuse. */
+void store_any(uint8_t *words, size_t index, uint16_t word);
+
 void set_cell(size_t i, size_t j, uint8_t value);
 void set_weight(size_t index, uint16_t weight);
 void link_vertices(size_t i, size_t j);

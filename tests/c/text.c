@@ -45,14 +45,19 @@ static const char *const causes[] = {
     "a buffer is too short",
     "an adjacency byte is not 0 or 1, is not 0 on the diagonal, or differs from its mirror image",
     "a weight is 0 or above 65520",
-    "the sequence does not hold so many matched pairs",
-    "the inverse is not that of the unmatched vertices",
+    "the sequence does not hold so many pairs of adjacent vertices",
+    "the unmatched vertices have no inverse, or it is not the one sent",
     "there is no such vertex, or both vertices are the same",
     "a vertex is matched already",
     "the two vertices are not adjacent",
     "the vertices left unmatched would have no inverse",
     "no vertex is left to match, or no pair to undo",
 };
+
+static const char *cause_text(unsigned cause, enum saszvigom_from from)
+{
+    return saszvigom_cause_text((enum saszvigom_cause)cause, from);
+}
 
 static void texts(void)
 {
@@ -65,34 +70,35 @@ static void texts(void)
                                          SASZVIGOM_FROM_SHEET};
     for (size_t from = 0; from < COUNT(froms); from++) {
         for (unsigned cause = 0; cause < COUNT(causes); cause++)
-            check_text("cause", saszvigom_cause_text(cause, froms[from]), causes[cause]);
-        check_text("cause 16", saszvigom_cause_text(16, froms[from]), unknown);
-        check_text("cause 255", saszvigom_cause_text(255, froms[from]), unknown);
-        check_text("largest cause", saszvigom_cause_text(~0u, froms[from]), unknown);
+            check_text("cause", cause_text(cause, froms[from]), causes[cause]);
+        check_text("cause 16", cause_text(16, froms[from]), unknown);
+        check_text("cause 255", cause_text(255, froms[from]), unknown);
+        check_text("largest cause", cause_text(~0u, froms[from]), unknown);
     }
     for (unsigned cause = 12; cause < 16; cause++)
-        check_text("no cause of a call", saszvigom_cause_text(cause, SASZVIGOM_FROM_CALL), unknown);
-    check_text("12 of a list", saszvigom_cause_text(12, SASZVIGOM_FROM_LIST),
+        check_text("no cause of a call", cause_text(cause, SASZVIGOM_FROM_CALL), unknown);
+    check_text("12 of an unknown call", cause_text(12, (enum saszvigom_from)9), unknown);
+    check_text("12 of a list", cause_text(12, SASZVIGOM_FROM_LIST),
                "a call of the list is of no known kind");
-    check_text("13 of a list", saszvigom_cause_text(13, SASZVIGOM_FROM_LIST),
+    check_text("13 of a list", cause_text(13, SASZVIGOM_FROM_LIST),
                "the list ends within a call");
-    check_text("14 of a list", saszvigom_cause_text(14, SASZVIGOM_FROM_LIST), unknown);
-    check_text("15 of a list", saszvigom_cause_text(15, SASZVIGOM_FROM_LIST), unknown);
-    check_text("12 of a sheet", saszvigom_cause_text(12, SASZVIGOM_FROM_SHEET),
+    check_text("14 of a list", cause_text(14, SASZVIGOM_FROM_LIST), unknown);
+    check_text("15 of a list", cause_text(15, SASZVIGOM_FROM_LIST), unknown);
+    check_text("12 of a sheet", cause_text(12, SASZVIGOM_FROM_SHEET),
                "a byte of the sheet is no record that may stand there");
-    check_text("13 of a sheet", saszvigom_cause_text(13, SASZVIGOM_FROM_SHEET),
+    check_text("13 of a sheet", cause_text(13, SASZVIGOM_FROM_SHEET),
                "the sheet ends within a record, or before its end record");
-    check_text("14 of a sheet", saszvigom_cause_text(14, SASZVIGOM_FROM_SHEET),
+    check_text("14 of a sheet", cause_text(14, SASZVIGOM_FROM_SHEET),
                "a record has a vertex that is not there, or the same vertex twice");
-    check_text("15 of a sheet", saszvigom_cause_text(15, SASZVIGOM_FROM_SHEET),
+    check_text("15 of a sheet", cause_text(15, SASZVIGOM_FROM_SHEET),
                "an earlier record has the same edge");
 
     for (unsigned buffer = 0; buffer < COUNT(buffers); buffer++)
-        check_text("buffer", saszvigom_buffer_text(buffer), buffers[buffer]);
-    check_text("largest buffer", saszvigom_buffer_text(~0u), "unknown");
+        check_text("buffer", saszvigom_buffer_text((enum saszvigom_buffer)buffer), buffers[buffer]);
+    check_text("largest buffer", saszvigom_buffer_text((enum saszvigom_buffer)~0u), "unknown");
     for (unsigned kind = 0; kind < COUNT(kinds); kind++)
-        check_text("kind", saszvigom_kind_text(kind), kinds[kind]);
-    check_text("largest kind", saszvigom_kind_text(~0u), "unknown");
+        check_text("kind", saszvigom_kind_text((enum saszvigom_kind)kind), kinds[kind]);
+    check_text("largest kind", saszvigom_kind_text((enum saszvigom_kind)~0u), "unknown");
 }
 
 /* Whether n vertices have no weight at an index, and the outputs are left. */
@@ -104,8 +110,7 @@ static bool no_vertices(uint64_t n, uint64_t index)
 
 static bool no_index(uint64_t n, uint64_t i, uint64_t j)
 {
-    size_t index = 77;
-    return !saszvigom_find_weight(n, i, j, &index) && index == 77;
+    return saszvigom_weight_index(n, i, j) == SASZVIGOM_NO_INDEX;
 }
 
 static void indices(void)
@@ -115,10 +120,9 @@ static void indices(void)
         bool same = true;
         for (unsigned i = 0; i < n; i++)
             for (unsigned j = i + 1; j < n; j++) {
-                size_t index = SIZE_MAX, swapped = SIZE_MAX;
                 unsigned first = 99, second = 99;
-                same = same && saszvigom_find_weight(n, i, j, &index) && index == expected &&
-                       saszvigom_find_weight(n, j, i, &swapped) && swapped == expected &&
+                same = same && saszvigom_weight_index(n, i, j) == expected &&
+                       saszvigom_weight_index(n, j, i) == expected &&
                        saszvigom_weight_vertices(n, expected, &first, &second) && first == i &&
                        second == j;
                 expected++;
@@ -143,20 +147,79 @@ static void indices(void)
     }
 }
 
-static void faults(void)
+/* The number of a fault, as it is today and as it is announced. */
+static uint64_t fault_now(unsigned n, unsigned i, unsigned j)
+{
+    return 3 | (uint64_t)(i * n + j) << 16;
+}
+
+static uint64_t fault_later(unsigned i, unsigned j, unsigned fault)
+{
+    return 3 | i << 16 | (uint64_t)j << 24 | (uint64_t)fault << 32;
+}
+
+static void places_of_faults(void)
 {
     for (unsigned n = 1; n <= SASZVIGOM_MAX_VERTICES; n++) {
         bool same = true;
         for (unsigned i = 0; i < n; i++)
             for (unsigned j = 0; j < n; j++) {
-                const uint64_t number = 3 | (uint64_t)(i * n + j) << 16;
-                same = same && saszvigom_fault_row(number, n) == i &&
-                       saszvigom_fault_column(number, n) == j;
+                const uint64_t now = fault_now(n, i, j), later = fault_later(i, j, 1 + (i + j) % 3);
+                same = same && saszvigom_fault_row(now, n) == i &&
+                       saszvigom_fault_column(now, n) == j && saszvigom_fault_row(later, n) == i &&
+                       saszvigom_fault_column(later, n) == j;
             }
         check("row and column", same);
     }
     check("row of no vertices", saszvigom_fault_row(0x90003, 0) == 0);
     check("column of no vertices", saszvigom_fault_column(0x90003, 0) == 0);
+}
+
+/* What opening refuses of a table of three vertices, and the fault. */
+static void check_fault(const char *what, const uint8_t table[9], unsigned i, unsigned j,
+                        enum saszvigom_fault fault)
+{
+    const uint8_t weights[6] = {1, 0, 1, 0, 1, 0};
+    uint8_t inverse[18], sequence[3], witness[6], work[18];
+    const uint64_t number = saszvigom_open(3, table, 9, weights, 6, inverse, 18, sequence, 3,
+                                           witness, 6, work, 18);
+    check(what, saszvigom_cause_of(number) == SASZVIGOM_ADJACENCY_FAULT &&
+                    saszvigom_fault_row(number, 3) == i && saszvigom_fault_column(number, 3) == j);
+    check(what, saszvigom_fault_of(number, 3, table, 9) == fault);
+    check("a short table", saszvigom_fault_of(number, 3, table, 8) == SASZVIGOM_NO_FAULT);
+    check("no table", saszvigom_fault_of(number, 3, NULL, 9) == SASZVIGOM_NO_FAULT);
+    check("the fault in the number",
+          saszvigom_fault_of(fault_later(i, j, fault), 3, NULL, 0) == fault);
+}
+
+static void faults(void)
+{
+    const uint8_t good[9] = {0, 1, 0, 1, 0, 1, 0, 1, 0};
+    const uint64_t none[] = {0, 0x100, 0x102000300, 0x10002, 0x10004, 0x100000004, UINT64_MAX};
+    places_of_faults();
+    check_fault("2 above the diagonal", (const uint8_t[9]){0, 1, 2, 1, 0, 1, 0, 1, 0}, 0, 2,
+                SASZVIGOM_FAULT_VALUE);
+    check_fault("2 on both sides", (const uint8_t[9]){0, 2, 0, 2, 0, 1, 0, 1, 0}, 0, 1,
+                SASZVIGOM_FAULT_VALUE);
+    check_fault("255 on the diagonal", (const uint8_t[9]){0, 1, 0, 1, 255, 1, 0, 1, 0}, 1, 1,
+                SASZVIGOM_FAULT_VALUE);
+    check_fault("1 on the diagonal", (const uint8_t[9]){0, 1, 0, 1, 0, 1, 0, 1, 1}, 2, 2,
+                SASZVIGOM_FAULT_DIAGONAL);
+    check_fault("1 beside 0", (const uint8_t[9]){0, 1, 1, 1, 0, 1, 0, 1, 0}, 0, 2,
+                SASZVIGOM_FAULT_MIRROR);
+    check_fault("2 below the diagonal", (const uint8_t[9]){0, 1, 0, 1, 0, 1, 0, 2, 0}, 1, 2,
+                SASZVIGOM_FAULT_MIRROR);
+
+    for (size_t k = 0; k < COUNT(none); k++)
+        check("no fault", saszvigom_fault_of(none[k], 3, good, 9) == SASZVIGOM_NO_FAULT);
+    for (unsigned place = 0; place < 65536; place += 5)
+        if (saszvigom_fault_of(3 | (uint64_t)place << 16, 3, good, 9) != SASZVIGOM_NO_FAULT)
+            fail("the fault of a table that is in order");
+    check("a fault of no vertices", saszvigom_fault_of(3, 0, good, 9) == SASZVIGOM_NO_FAULT);
+    check("a fault of too many", saszvigom_fault_of(3, 97, good, 9) == SASZVIGOM_NO_FAULT);
+    check("far too many", saszvigom_fault_of(3, UINT64_MAX, good, 9) == SASZVIGOM_NO_FAULT);
+    check("an unknown fault",
+          saszvigom_fault_of(0xFF00000003, 3, good, 9) == (enum saszvigom_fault)255);
 }
 
 #define CALL SASZVIGOM_FROM_CALL
@@ -170,9 +233,10 @@ static const struct {
 } lines[] = {
     {0x100, 4, CALL, "opened: there is an inverse, and a perfect matching"},
     {0x20200, 3, CALL,
-     "singular: there is no inverse, first dependent column 2; the number of vertices is odd"},
+     "singular: there is no inverse, first dependent column 2; n is odd: no perfect matching"},
     {0x5F0200, 96, CALL,
-     "singular: there is no inverse, first dependent column 95; other weights may have one"},
+     "singular: there is no inverse, first dependent column 95; undecided: other weights may have "
+     "an inverse"},
     {0x102000300, 4, CALL, "pair: 0 and 2, pairs made 1"},
     {0x305F5E0300, 96, CALL, "pair: 94 and 95, pairs made 48"},
     {0x100000400, 4, CALL, "row: written, pairs made 1"},
@@ -187,22 +251,26 @@ static const struct {
     {0x90002, 4, CALL, "refused: the unknown buffer is too short (cause 2 at 9)"},
     {0xA0002, 4, LIST, "refused: the answers buffer is too short (cause 2 at 10)"},
     {0x23FF0003, 96, CALL,
-     "refused: the adjacency byte of row 95 and column 95 is not 0 (cause 3 at 9215)"},
+     "refused: the adjacency byte of row 95 and column 95 is not 0 (cause 3)"},
     {0x60003, 4, CALL,
      "refused: the adjacency byte of row 1 and column 2 is not 0 or 1, or differs from that of "
-     "row 2 and column 1 (cause 3 at 6)"},
+     "row 2 and column 1 (cause 3)"},
+    {0x302010003, 4, CALL,
+     "refused: the adjacency byte of row 1 and column 2 is not 0 or 1, or differs from that of "
+     "row 2 and column 1 (cause 3)"},
     {0x100003, 4, CALL,
      "refused: an adjacency byte is not 0 or 1, is not 0 on the diagonal, or differs from its "
-     "mirror image (cause 3 at 16)"},
+     "mirror image (cause 3)"},
     {0x000003, 0, CALL,
      "refused: an adjacency byte is not 0 or 1, is not 0 on the diagonal, or differs from its "
-     "mirror image (cause 3 at 0)"},
+     "mirror image (cause 3)"},
     {0x180004, 8, CALL, "refused: the weight of 4 and 7 is 0 or above 65520 (cause 4 at 24)"},
     {0x150004, 8, CALL, "refused: the weight of 3 and 7 is 0 or above 65520 (cause 4 at 21)"},
     {0x11CF0004, 96, LIST, "refused: the weight of 94 and 95 is 0 or above 65520 (cause 4 at 4559)"},
     {0x60004, 4, CALL, "refused: a weight is 0 or above 65520 (cause 4 at 6)"},
-    {5, 4, CALL, "refused: the sequence does not hold so many matched pairs (cause 5)"},
-    {6, 4, LIST, "refused: the inverse is not that of the unmatched vertices (cause 6)"},
+    {5, 4, CALL, "refused: the sequence does not hold so many pairs of adjacent vertices (cause 5)"},
+    {6, 4, LIST,
+     "refused: the unmatched vertices have no inverse, or it is not the one sent (cause 6)"},
     {7, 4, CALL, "refused: there is no such vertex, or both vertices are the same (cause 7)"},
     {8, 4, CALL, "refused: a vertex is matched already (cause 8)"},
     {9, 4, CALL, "refused: the two vertices are not adjacent (cause 9)"},

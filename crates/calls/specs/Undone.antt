@@ -19,7 +19,7 @@ use Rattle.matching.specs.Calls.{Handles, carries}
 use Rattle.laws.specs.Rules.{rule-step}
 use Rattle.laws.specs.History.{Fits, Valid, cons}
 use Rattle.laws.specs.Sequence.{length-pairs-on, length-sequence, pairs-on-sequence, fits-without, well-formed-sequence}
-use Rattle.laws.specs.Demand.{onto-front-same}
+use Rattle.laws.specs.Onto.{onto-front-same}
 use Rattle.sequence.specs.Formed.{Left, remarked}
 use Rattle.soundness.specs.Sound.{state}
 use Rattle.pairing.specs.Appended.{Room}

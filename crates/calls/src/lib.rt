@@ -29,12 +29,10 @@ pub fn number(answer: Answer, made: usize) -> u64
 {
     match answer {
         Answer::Done(e) => {
-            768
-                + 65536 * (e.smaller as u64)
-                + 16777216 * (e.larger as u64)
-                + 4294967296 * (made as u64)
+            let value = e.smaller as u64 + 256 * (e.larger as u64);
+            numbers::carried(3, value, made as u64)
         }
-        Answer::Denied(r) => r.cause as u64 + 65536 * (r.place as u64),
+        Answer::Denied(r) => numbers::refused(r),
     }
 }
 

@@ -3,7 +3,7 @@ use mathlib.Core.Path.{_≡_}
 use mathlib.Core.Logic.{_≢_}
 use Prim.Native.Nat.{ℕ, _+_, _*_, _≤_, _<_}
 use Rattle.matching.specs.Decision as decision
-use Rattle.matching.specs.Decision.{absent, at, because, accepted, refused}
+use Rattle.matching.specs.Decision.{Every, Lowest, absent, at, because, accepted, refused}
 use Rattle.matching.specs.Graph.{Graph, fault}
 use Rattle.matching.specs.Causes.{bad-cell}
 use Rattle.checks.specs.declared.Finding.{Finding}
@@ -17,6 +17,11 @@ use Rattle.checks.specs.declared.Cells.the-variants.{Faultless, Faulty}
 abbrev pub finding-of : Finding → decision.Finding
 finding-of Absent = absent
 finding-of (At x) = at x
+
+-- the lowest number below n with a property, or that there is none
+abbrev pub Finds : ℕ → (ℕ → Type 0) → Finding → Type 0
+Finds n P Absent = Every n (λ k. ¬ P k)
+Finds n P (At x) = Lowest n P x
 
 abbrev pub ruling-of : Ruling → decision.Ruling
 ruling-of Accepted = accepted

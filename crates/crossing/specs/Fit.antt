@@ -15,7 +15,7 @@ use Rattle.matching.specs.Host.{words, unpacked-state}
 use Rattle.checks.specs.Weights.{needed}
 use Rattle.checks.specs.Lengths.{lengths-refused, lengths-accepted}
 use Rattle.soundness.specs.Sound.{state}
-use Rattle.packing.specs.Words.{words-length, words-half}
+use Rattle.laws.specs.Words.{words-length, words-half}
 use Rattle.crossing.specs.Needed.{needed-weights, needed-agree, needed-counted, needed-fits}
 use Rattle.crossing.specs.Steps.{session-same}
 

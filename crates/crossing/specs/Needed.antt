@@ -9,7 +9,7 @@ use Rattle.matching.specs.Decision.{Every}
 use Rattle.matching.specs.Graph.{largest, pair-count}
 use Rattle.matching.specs.Host.{words}
 use Rattle.checks.specs.Weights.{needed, needed-all}
-use Rattle.packing.specs.Words.{words-length}
+use Rattle.laws.specs.Words.{words-length}
 
 abbrev pub needed-weights : ℕ → List ℕ → List ℕ
 needed-weights n weights = take (needed n) (words weights)

@@ -1,22 +1,22 @@
 -- Session calls over lent words, and through the host. Assumes nothing.
 use mathlib.Core.Path.{_≡_, refl, sym, ap, _∙_}
 use mathlib.Core.List.{List}
-use Prim.Native.Nat.{ℕ, _*_, _^_, _<_}
+use Prim.Native.Nat.{ℕ, _*_}
 use lib.ListN.{length, take}
 use Rattle.residue.specs.Modulus.{modulus, modulus-prime}
 use Rattle.matching.specs.Decision.{Refusal, accepted, refused}
 use Rattle.matching.specs.Graph.{over}
-use Rattle.matching.specs.Pairs.{Pair, everything, pairs-on}
+use Rattle.matching.specs.Pairs.{everything, pairs-on}
 use Rattle.matching.specs.Session.{State, with-pairs, onto}
 use Rattle.matching.specs.Causes.{session-ruling}
 use Rattle.matching.specs.Model as model
 use Rattle.matching.specs.Model.{Call, Answer, done, denied, step}
 use Rattle.matching.specs.Calls.{Handles, unsound, refuses, carries}
-use Rattle.matching.specs.Host.{words, bytes-of, answer-number, session-back, unpacked-state, HostHandles}
+use Rattle.matching.specs.Host.{words, Bytes, bytes-of, answer-number, session-back, unpacked-state, HostHandles}
 use Rattle.laws.specs.Sound.{session-accepted}
-use Rattle.laws.specs.Numbers.{handles-small, made-small, host-session}
+use Rattle.laws.specs.Numbers.{host-session}
 use Rattle.soundness.specs.Sound.{state}
-use Rattle.packing.specs.Words.{Bytes, stored-front}
+use Rattle.laws.specs.Words.{stored-front}
 use Rattle.crossing.specs.Same.{table-same}
 use Rattle.crossing.specs.Needed.{needed-weights, needed-agree}
 use Rattle.crossing.specs.Steps.{step-same}
@@ -44,17 +44,8 @@ pub record HandlesOver (s : State) (c : Call) (bytes : List ℕ) (answer : ℕ) 
   pub stored : bytes′ ≡ stored given (length (s .inverse)) (left .inverse) bytes
   pub sequence : sequence′ ≡ left .sequence
 
--- what an answer says of it, where it is a pair and where it is a refusal
+-- what is left to show of a call over lent words
 module _ {s left : State} {c : Call} {a : Answer} (h : Handles modulus-prime everything s c a left) where
-  pub pair-small : {e : Pair} → a ≡ done e → (e .smaller < 2 ^ 8) × (e .larger < 2 ^ 8) × (left .session .made < 2 ^ 8)
-  pair-small q =
-      let k = rw q at h in
-      let small = handles-small modulus-prime everything k in
-      (small .0, small .1, made-small modulus-prime everything k)
-
-  pub place-small : {r : Refusal} → a ≡ denied r → r .place < 2 ^ 16
-  place-small q = handles-small modulus-prime everything (rw q at h) .place-below
-
   pub answers : {given : Answer} {answer : ℕ} {bytes bytes′ : List ℕ} → a ≡ given → answer ≡ answer-number given (left .session)
       → bytes′ ≡ stored given (length (s .inverse)) (left .inverse) bytes → HandlesOver s c bytes answer bytes′ (left .sequence)
   answers {given} q n w = record { given = given; left = left; outcome = rw q at h; numbered = n; stored = w; sequence = refl }

@@ -1,21 +1,17 @@
 // The session calls with numbers and byte slices: what the host's entries call. Words cross as two bytes, low first (docs/HOST.md).
 use calls::Answer;
-use checks::Refusal;
 use checks::Ruling;
-use pairing::Pair;
 use session::Returned;
 use session::Session;
 ghost use mathlib.Core.Path.{_≡_};
-ghost use Prim.Native.Nat.{_*_, _≤_, _<_, _^_};
+ghost use Prim.Native.Nat.{_*_, _≤_};
 ghost use lib.ListN.{length, take};
 ghost use Rattle.residue.specs.Modulus.{modulus-prime};
-ghost use Rattle.matching.specs.Decision.{because};
 ghost use Rattle.matching.specs.Pairs.{everything};
 ghost use Rattle.matching.specs.Model as model;
 ghost use Rattle.matching.specs.Calls.{Handles};
-ghost use Rattle.matching.specs.Host.{refusal-number, answer-number, unpacked-state, HostHandles, HostPickedExactly};
+ghost use Rattle.matching.specs.Host.{unpacked-state, HostHandles, HostPickedExactly};
 ghost use Rattle.soundness.specs.Sound.{state};
-ghost use Rattle.pairing.specs.Appended.{pair-is};
 ghost use Rattle.calls.specs.Answers.{answer-of};
 ghost use Rattle.checks.specs.Weights.{needed};
 ghost use Rattle.crossing.specs.Needed.{needed-weights};
@@ -27,25 +23,6 @@ enum Request {
     Pick(usize, usize),
     Automatic,
     Undo,
-}
-
-// The number of a refusal.
-pub fn refusal_number(refusal: Refusal) -> u64
-    requires { ⌜ refusal .place < 2 ^ 16 ⌝ }
-    ensures { λ r. ⌜ r ≡ refusal-number (because (refusal .cause) (refusal .place)) ⌝ }
-{
-    refusal.cause as u64 + 65536 * (refusal.place as u64)
-}
-
-// The number of a pair, with the pairs made.
-fn pair_number(pair: Pair, made: usize) -> u64
-    requires { ⌜ (pair .smaller < 2 ^ 8) × (pair .larger < 2 ^ 8) × (made < 2 ^ 8) ⌝ }
-    ensures { λ r. ⌜ r ≡ answer-number (model.done (pair-is pair)) (record { size = 0; made = made }) ⌝ }
-{
-    768
-        + 65536 * (pair.smaller as u64)
-        + 16777216 * (pair.larger as u64)
-        + 4294967296 * (made as u64)
 }
 
 // The call on words.
@@ -85,12 +62,13 @@ fn call_over(
     let returned = call(request, session, adjacency, weights, table, sequence);
     let after = returned.session;
     let answer = returned.answer;
+    let number = calls::number(answer, after.made);
     match answer {
-        Answer::Done(pair) => {
+        Answer::Done(_) => {
             packing::store(table, size, inverse);
-            pair_number(pair, after.made)
+            number
         }
-        Answer::Denied(refusal) => refusal_number(refusal),
+        Answer::Denied(_) => number,
     }
 }
 
@@ -156,7 +134,7 @@ fn handle(
         sequence.len(),
     );
     if let Ruling::Refused(refusal) = ruling {
-        return refusal_number(refusal);
+        return numbers::refused(refusal);
     }
     call_words(request, n, made, adjacency, weights, inverse, sequence)
 }

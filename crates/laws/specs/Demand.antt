@@ -1,22 +1,23 @@
 -- A list of session calls on a sound session goes as the plain model goes. Assumes nothing.
 use mathlib.Core.Path.{_≡_, refl, sym, ap, ap₂, _∙_}
-use mathlib.Core.List.{List, [], _∷_, _++_, map}
+use mathlib.Core.List.{List, [], _∷_, map}
 use Prim.Native.Nat.{ℕ, zero, suc, _+_, _*_, _/_, _≤_, _<_}
 use native.Mathlib.Omega.{arith}
 use native.Mathlib.Decide.{decLt}
-use lib.ListN.{length, getD, take, drop, length-append, List·getD-append, take-append-drop}
-use lib.Seq.{length-take-le, getD-take, drop-at}
+use lib.ListN.{length, getD, take, drop, length-append, List·getD-append}
+use lib.Seq.{length-take-le, getD-take}
 use Rattle.modular.specs.Prime.{OddPrime}
 use Rattle.skew.specs.Subset.{Subset, _∈_, _∉_, Member, inside, outside, member?}
 use Rattle.skew.specs.Matching.{invertible-even}
 use Rattle.matching.specs.Decision.{Refusal, Every, At, Ruling, accepted, refused}
 use Rattle.matching.specs.Graph.{Graph, tutte, largest, InOrder}
 use Rattle.matching.specs.Pairs.{Pair, Pairs, sequence, unmatched}
-use Rattle.matching.specs.Session.{State, graph-of, pairs-of, with-pairs, session, InverseTable, WellFormed, onto}
+use Rattle.matching.specs.Session.{State, graph-of, pairs-of, with-pairs, session, InverseTable, WellFormed}
 use Rattle.matching.specs.Causes.{lent-graph, lent-to-session, session-ruling, LongEnough}
 use Rattle.matching.specs.Model.{Call, undo, Answer, done, denied, Step, skew, Nonsingular, nonsingular?, undoes, remove-last, step, answered, pairs-after}
 use Rattle.matching.specs.Calls.{Returned, state-after, Handles, unsound, refuses, carries, Runs, none, more}
 use Rattle.matching.specs.Demand.{Once, StateOf, Undoes, FollowsModel}
+use Rattle.laws.specs.Onto.{onto-again, onto-front-same}
 use Rattle.laws.specs.Sound.{Sound, session-accepted}
 use Rattle.laws.specs.Determined.{inverse-table-unique, table-over}
 use Rattle.laws.specs.Facts.{open-partner, picks-to-come, step-nonsingular, after-nonsingular, unlike}
@@ -24,15 +25,6 @@ use Rattle.laws.specs.Rules.{rule-step}
 use Rattle.laws.specs.History.{Valid, Change, appended, removed, unchanged, change, change-valid, Moves, stays, change-moves, appended-once}
 use Rattle.laws.specs.Sequence.{length-sequence, well-formed-sequence, pairs-on-sequence, length-pairs-on, sequence-on, Inside, valid-on, place-in}
 use Rattle.laws.specs.Carried.{refused-keeps}
-
--- new words over new ones of the same length
-onto-again : (new newer old : List ℕ) → length newer ≡ length new → onto newer (onto new old) ≡ onto newer old
-onto-again new newer old l =
-    ap (λ r. newer ++ r) (ap (λ k. drop k (onto new old)) l ∙ drop-at new (drop (length new) old) (length new) refl ∙ ap (λ k. drop k old) (sym l))
-
--- the first words of a list over it
-pub onto-front-same : (k : ℕ) (l : List ℕ) → k ≤ length l → onto (take k l) l ≡ l
-onto-front-same k l h = ap (λ m. take k l ++ drop m l) (length-take-le k l h) ∙ take-append-drop k l
 
 denied-unchanged : {p : ℕ} {P : OddPrime p} {g : Graph} {S : Subset} {pairs : Pairs} (s : Step) {r : Refusal} → Change P g S pairs s
     → s .answer ≡ denied r → s .pairs ≡ pairs

@@ -21,7 +21,9 @@ pub mod Reading
 pub mod Bounds
 pub mod Outcomes
 pub mod Sheets
--- The host.
+-- The host: its number, words as bytes, and demand 3 by single calls.
 pub mod Numbers
+pub mod Words
+pub mod HostDemand
 -- Where a weight stands.
 pub mod Weights

@@ -1,10 +1,10 @@
 -- A buffer whose first words are new. Assumes nothing.
-use mathlib.Core.Path.{_≡_}
-use mathlib.Core.List.{List, [], append-nil}
+use mathlib.Core.Path.{_≡_, refl, sym, ap, _∙_}
+use mathlib.Core.List.{List, [], _++_, append-nil}
 use Prim.Native.Nat.{ℕ, _≤_}
 use native.Mathlib.Omega.{arith}
-use lib.ListN.{length, take, drop, length-append}
-use lib.Seq.{take-at, drop-nil}
+use lib.ListN.{length, take, drop, length-append, length-drop, take-append-drop}
+use lib.Seq.{take-at, drop-at, drop-nil, length-take-le}
 use Rattle.matching.specs.Session.{onto}
 
 module _ (new old : List ℕ) (k : ℕ) (e : length new ≡ k) where
@@ -17,3 +17,15 @@ module _ (new old : List ℕ) (k : ℕ) (e : length new ≡ k) where
 -- over nothing there is no excess
 pub onto-nothing : (new : List ℕ) → onto new [] ≡ new
 onto-nothing new = rw (drop-nil (length new), append-nil new)
+
+-- new words over new ones of the same length
+pub onto-again : (new newer old : List ℕ) → length newer ≡ length new → onto newer (onto new old) ≡ onto newer old
+onto-again new newer old l =
+    ap (λ r. newer ++ r) (ap (λ k. drop k (onto new old)) l ∙ drop-at new (drop (length new) old) (length new) refl ∙ ap (λ k. drop k old) (sym l))
+
+-- the first words of a list over it
+pub onto-front-same : (k : ℕ) (l : List ℕ) → k ≤ length l → onto (take k l) l ≡ l
+onto-front-same k l h = ap (λ m. take k l ++ drop m l) (length-take-le k l h) ∙ take-append-drop k l
+
+pub onto-length : (new old : List ℕ) → length new ≤ length old → length (onto new old) ≡ length old
+onto-length new old h = omega (arith, length-append new (drop (length new) old), length-drop (length new) old)

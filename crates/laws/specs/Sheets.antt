@@ -2,16 +2,15 @@
 -- Assumes nothing.
 use mathlib.Core.Path.{_≡_, refl, sym, ap, ap₂, _∙_}
 use mathlib.Core.List.{List}
-use Prim.Native.Nat.{ℕ, _+_, _*_, _/_, _%_, _^_, _≤_, _<_}
+use Prim.Native.Nat.{ℕ, _%_, _^_, _<_}
 use native.Mathlib.Omega.{arith}
 use native.Mathlib.Decide.{decLt}
 use lib.ListN.{length, take}
-use Rattle.matching.specs.Decision.{Refusal, because}
-use Rattle.matching.specs.Session.{onto}
+use Rattle.matching.specs.Decision.{because}
 use Rattle.matching.specs.Records.{Read, graph-read, not-read}
 use Rattle.matching.specs.Listing.{input-limit, text-room, Listed, ListsInto, lists-into, lacks-text-room}
 use Rattle.matching.specs.Host.{words, read-number, weights-stored, HostReads}
-use Rattle.laws.specs.Bounds.{Answers, Within}
+use Rattle.laws.specs.Bounds.{Answers}
 use Rattle.laws.specs.Outcomes.{fills-some, fills-unique, lists-some, lists-unique}
 
 pub lists-into-some : (input buffer : List ℕ) → (o : Listed) × (after : List ℕ) × ListsInto input buffer o after

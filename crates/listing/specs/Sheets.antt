@@ -1,24 +1,24 @@
 -- From the lines of a graph to the listing of a sheet. Assumes nothing.
-use mathlib.Core.Path.{_≡_, refl, sym, ap, _∙_}
+use mathlib.Core.Path.{_≡_, refl}
 use mathlib.Core.List.{List, [], _++_, append-assoc}
 use Prim.Native.Nat.{ℕ, _*_, _≤_}
 use native.Mathlib.Omega.{arith}
 use lib.ListN.{length, take, drop, length-append, length-drop}
 use Rattle.lists.specs.Table.{square-small}
-use Rattle.matching.specs.Decision.{Refusal, accepted, refused}
-use Rattle.matching.specs.Graph.{Graph, over, largest, pair-count}
+use Rattle.matching.specs.Decision.{Refusal}
+use Rattle.matching.specs.Graph.{over, largest}
 use Rattle.matching.specs.Pairs.{Pair}
 use Rattle.matching.specs.Session.{onto}
-use Rattle.matching.specs.Records.{sheet, ReadsAs, cells, graph, graph-read, not-read, room, Fills, refuses-records, lacks-room, fills}
+use Rattle.matching.specs.Records.{sheet, ReadsAs, cells, graph, graph-read, not-read, Fills, refuses-records, lacks-room, fills}
 use Rattle.matching.specs.Listing as definition
-use Rattle.matching.specs.Listing.{input-limit, text-room, first-line, pair-lines, refused-line, Lists, refuses-sheet, pairs-up, shows-witness, ListsInto, lists-into}
+use Rattle.matching.specs.Listing.{input-limit, text-room, first-line, refused-line, Lists, refuses-sheet, pairs-up, shows-witness, ListsInto, lists-into}
 use Rattle.laws.specs.Onto.{onto-front, onto-nothing}
 use Rattle.laws.specs.Cells.{cells-length}
-use Rattle.laws.specs.Reading.{Fit, reads-fit, sheet-in-order}
+use Rattle.laws.specs.Reading.{reads-fit, sheet-in-order}
 use Rattle.laws.specs.Bounds.{reads-edges}
 use Rattle.checks.specs.Weights.{needed, needed-all, needed-small}
 use Rattle.sheet.specs.Filled.{room-enough, drawn-needed}
-use Rattle.text.specs.Puts.{Puts, puts-first}
+use Rattle.text.specs.Puts.{puts-first}
 use Rattle.verdict.specs.Lines.{Writes, Verdict, full, none, GraphLines, Lent}
 
 -- the listing of each input whose first bytes, as many as are read, are these

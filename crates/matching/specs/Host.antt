@@ -3,9 +3,9 @@
 use mathlib.Core.Path.{_≡_}
 use mathlib.Core.Logic.{_↔_}
 use mathlib.Core.List.{List, [], _∷_}
-use Prim.Native.Nat.{ℕ, _+_, _*_, _/_, _%_, _^_}
+use Prim.Native.Nat.{ℕ, _+_, _*_, _/_, _%_, _^_, _<_}
 use native.Mathlib.Decide.{ℕ-discrete}
-use lib.ListN.{length, take}
+use lib.ListN.{length, getD, take}
 use Rattle.modular.specs.Prime.{OddPrime}
 use Rattle.draws.specs.Draws.{draws}
 use Rattle.skew.specs.Choose.{choose}
@@ -27,6 +27,10 @@ words [] = []
 words (low ∷ []) = []
 words (low ∷ high ∷ rest) = (low + 256 * high) ∷ words rest
 
+-- every value is a byte
+abbrev pub Bytes : List ℕ → Type 0
+Bytes l = (x : ℕ) → getD l x 0 < 2 ^ 8
+
 -- the bytes of words, low byte first
 unfoldable pub bytes-of : List ℕ → List ℕ
 bytes-of [] = []
@@ -36,6 +40,16 @@ bytes-of (w ∷ rest) = w % 256 ∷ w / 256 % 256 ∷ bytes-of rest
 -- the size of a sheet that was read
 abbrev pub number : (cause kind value made : ℕ) → ℕ
 number cause kind value made = cause + 2 ^ 8 * kind + 2 ^ 16 * value + 2 ^ 32 * made
+
+-- what stands in a number: the cause, the kind, and the number of pairs
+abbrev pub cause-in : ℕ → ℕ
+cause-in answer = answer % 2 ^ 8
+
+abbrev pub kind-in : ℕ → ℕ
+kind-in answer = answer / 2 ^ 8 % 2 ^ 8
+
+abbrev pub made-in : ℕ → ℕ
+made-in answer = answer / 2 ^ 32 % 2 ^ 8
 
 -- a refusal, with its place
 abbrev pub refusal-number : Refusal → ℕ
@@ -52,14 +66,19 @@ abbrev pub answer-number : Answer → Session → ℕ
 answer-number (done e) s = number 0 3 (e .smaller + 2 ^ 8 * e .larger) (s .made)
 answer-number (denied r) s = refusal-number r
 
--- the session that a number hands back: the size is the one sent, and a refused call's session is the one sent
+-- the session that the number of a session call hands back (kinds 3, 4 and 5): the size is the one sent, and a refused call's session is the
+-- one sent
 abbrev pub session-back : ℕ → Session → Session
-session-back answer s = choose (ℕ-discrete (answer % 2 ^ 8) 0) (record { size = s .size; made = answer / 2 ^ 32 % 2 ^ 8 }) s
+session-back answer s = choose (ℕ-discrete (cause-in answer) 0) (record { size = s .size; made = made-in answer }) s
+
+-- a call that is only accepted or refused: its kind, and the number of pairs of the session handed back
+abbrev pub ruled-number : ℕ → Ruling → Session → ℕ
+ruled-number kind accepted s = number 0 kind 0 (s .made)
+ruled-number kind (refused r) s = refusal-number r
 
 -- kind 4: a row written
 abbrev pub row-number : Ruling → Session → ℕ
-row-number accepted s = number 0 4 0 (s .made)
-row-number (refused r) s = refusal-number r
+row-number v s = ruled-number 4 v s
 
 -- the host's bytes read as words; the sequence is bytes already
 abbrev pub unpacked : Buffers → Buffers
@@ -92,7 +111,7 @@ pub record HostOpens (p n : ℕ) (adjacency weights : List ℕ) (S : Subset) (b 
 abbrev pub HostOpenedExactly : ℕ → ℕ → (adjacency weights : List ℕ) → Subset → Buffers → ℕ → Type 0
 HostOpenedExactly p n adjacency weights S b answer =
     ruling p (over n adjacency (words weights)) (unpacked b) ≡ accepted
-    → ((answer / 2 ^ 8 % 2 ^ 8 ≡ 1) ↔ Invertible p n (tutte (over n adjacency (words weights)) p) S)
+    → ((kind-in answer ≡ 1) ↔ Invertible p n (tutte (over n adjacency (words weights)) p) S)
 
 -- a session's state whose weights and inverse are the host's bytes, read as words
 abbrev pub unpacked-state : State → State
@@ -104,20 +123,24 @@ unpacked-state s = record {
   sequence = s .sequence;
 }
 
--- the state left, stored over the host's bytes; the tables are not written. On a refusal all is as it came
-abbrev pub state-stored : Answer → State → State → State
-state-stored (done e) left s = record {
+-- the words of a state, stored over the bytes of the host's; the tables are not written
+abbrev pub stored-over : State → State → State
+stored-over left s = record {
   session = left .session;
   adjacency = s .adjacency;
   weights = s .weights;
   inverse = onto (bytes-of (left .inverse)) (s .inverse);
   sequence = left .sequence;
 }
+
+-- the host's state after a call: on a refusal all is as it came
+abbrev pub state-stored : Answer → State → State → State
+state-stored (done e) left s = stored-over left s
 state-stored (denied r) left s = s
 
 module _ {p : ℕ} (P : OddPrime p) (S : Subset) where
   -- hand pick, automatic pick and take-back through the host: the number, and every byte afterwards. The session is that of the number
-  -- (laws, Numbers)
+  -- (laws, Numbers: `host-session`)
   pub record HostHandles (s : State) (c : Call) (answer : ℕ) (after : State) : Type 0 where
     pub given : Answer
     pub left : State
@@ -129,7 +152,7 @@ module _ {p : ℕ} (P : OddPrime p) (S : Subset) where
   abbrev pub HostPickedExactly : State → (a b : ℕ) → ℕ → Type 0
   HostPickedExactly s a b answer =
       let t = unpacked-state s in
-      session-ruling p S t ≡ accepted → ((answer % 2 ^ 8 ≡ 0) ↔ Allowed P (graph-of t) S (pairs-of t) a b)
+      session-ruling p S t ≡ accepted → ((cause-in answer ≡ 0) ↔ Allowed P (graph-of t) S (pairs-of t) a b)
 
   -- open row through the host: the number, the state, which is as it came, and the row's bytes afterwards
   pub record HostShowsRow (s : State) (a : ℕ) (row : List ℕ) (answer : ℕ) (after : State) (row′ : List ℕ) : Type 0 where

@@ -14,6 +14,7 @@ pub mod Records
 pub mod Causes
 pub mod Listing
 pub mod Host
+pub mod HostRuns
 -- Decisions that the definitions go by.
 pub mod Decision
 pub mod Decided

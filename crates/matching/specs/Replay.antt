@@ -12,7 +12,7 @@ use Rattle.matching.specs.Session.{Session, State, graph-of, onto}
 use Rattle.matching.specs.Causes.{Lent, too-short, session-ruling}
 use Rattle.matching.specs.Model.{Call, pick, automatic, undo}
 use Rattle.matching.specs.Calls.{Returned, state-after, Runs}
-use Rattle.matching.specs.Host.{bytes-of, number, refusal-number, answer-number, unpacked-state}
+use Rattle.matching.specs.Host.{answer-number, ruled-number, unpacked-state, stored-over}
 use Rattle.matching.specs.Demand.{FollowsModel}
 
 -- a call is three numbers: its kind, 1 hand pick, 2 automatic pick, 3 take-back, and two vertices, which a hand pick alone looks at
@@ -96,18 +96,11 @@ module _ {p : ℕ} (P : OddPrime p) (S : Subset) where
 
 -- kind 5: a list of calls made, with the pairs of the session handed back
 abbrev pub replay-number : Ruling → Session → ℕ
-replay-number accepted s = number 0 5 0 (s .made)
-replay-number (refused r) s = refusal-number r
+replay-number v s = ruled-number 5 v s
 
--- the state left, stored over the host's bytes; the tables are not written. On a refusal the state is as it came; the answers are in `Replays`
+-- the host's state after a replay: on a refusal as it came; the answers are in `Replays`
 abbrev pub replay-stored : Ruling → State → State → State
-replay-stored accepted left s = record {
-  session = left .session;
-  adjacency = s .adjacency;
-  weights = s .weights;
-  inverse = onto (bytes-of (left .inverse)) (s .inverse);
-  sequence = left .sequence;
-}
+replay-stored accepted left s = stored-over left s
 replay-stored (refused r) left s = s
 
 module _ {p : ℕ} (P : OddPrime p) (S : Subset) where

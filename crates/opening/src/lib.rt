@@ -4,7 +4,6 @@ use checks::Ruling;
 use exchange::Outcome;
 use session::Session;
 ghost use mathlib.Core.Path.{_≡_};
-ghost use lib.ListN.{length};
 ghost use Rattle.residue.specs.Modulus.{modulus};
 ghost use Rattle.matching.specs.Graph.{over};
 ghost use Rattle.matching.specs.Pairs.{everything};

@@ -15,7 +15,7 @@ use Rattle.checks.specs.Weights.{needed}
 use Rattle.checks.specs.Lengths.{lengths-refused, lengths-accepted}
 use Rattle.checks.specs.Opening.{graph-causes}
 use Rattle.opening.specs.Answers.{buffers}
-use Rattle.packing.specs.Words.{words-length, words-half}
+use Rattle.laws.specs.Words.{words-length, words-half}
 use Rattle.crossing.specs.Same.{cells-same, weights-same}
 use Rattle.crossing.specs.Needed.{needed-weights, needed-agree, needed-counted, needed-fits}
 

@@ -1,7 +1,7 @@
 -- Opening over lent words, and through the host. Assumes nothing.
 use mathlib.Core.Path.{_≡_, refl, sym, _∙_}
 use mathlib.Core.List.{List, _++_}
-use Prim.Native.Nat.{ℕ, zero, suc, _*_, _<_}
+use Prim.Native.Nat.{ℕ, zero, suc, _*_, _^_, _<_}
 use native.Mathlib.Omega.{arith}
 use lib.ListN.{length, getD, take, drop, replicate, length-replicate}
 use Rattle.skew.specs.Subset.{Subset}
@@ -11,21 +11,20 @@ use Rattle.matching.specs.Pairs.{everything}
 use Rattle.matching.specs.Graph.{Graph, pair-count, over}
 use Rattle.matching.specs.Session.{onto}
 use Rattle.matching.specs.Opening.{Opening, opened, singular, not-opened, Buffers, ruling, with-inverse, with-witness, Opens, refuses-opening, opens, finds-singular}
-use Rattle.matching.specs.Host.{words, bytes-of, opening-number, unpacked, HostOpens}
+use Rattle.matching.specs.Host.{words, Bytes, bytes-of, opening-number, unpacked, HostOpens}
 use Rattle.laws.specs.Onto.{onto-front}
-use Rattle.laws.specs.Sound.{opening-accepted}
 use Rattle.laws.specs.Numbers as numbers
 use Rattle.opening.specs.Answers.{buffers, extent}
-use Rattle.packing.specs.Words.{Bytes, stored-front}
+use Rattle.laws.specs.Words.{stored-front}
 use Rattle.crossing.specs.Same.{table-same, singular-same}
 use Rattle.crossing.specs.Needed.{needed-weights, needed-agree}
 use Rattle.opening_bytes.specs.Lent.{Fits, lent, ruling-same}
 
 -- the parts of an answer fit their bits
 abbrev pub Small : Opening → Type 0
-Small (opened s) = s .made < 256
-Small (singular f) = f < 256
-Small (not-opened r) = r .place < 65536
+Small (opened s) = s .made < 2 ^ 8
+Small (singular f) = f < 2 ^ 16
+Small (not-opened r) = r .place < 2 ^ 16
 
 -- the words left for m vertices, as bytes written over those of the host
 abbrev pub store : ℕ → Buffers → Buffers → Buffers
@@ -47,8 +46,7 @@ pub record OpensOver (n : ℕ) (adjacency weights : List ℕ) (w b : Buffers) (a
 pub opens-small : {p : ℕ} {g : Graph} {S : Subset} {b left : Buffers} {o : Opening} → Opens p g S b o left → Small o
 opens-small {S = S} {b = b} (refuses-opening r e) = numbers.opens-small {S = S} {b = b} (refuses-opening r e) .place-below
 opens-small (opens inverse e l I) = omega arith
-opens-small {p} {g} (finds-singular f witness e l s) =
-    omega (arith, s .kernel .below, opening-accepted p g _ _ _ _ .0 e .1 .size)
+opens-small {S = S} {b = b} (finds-singular f witness e l s) = numbers.opens-small {S = S} {b = b} (finds-singular f witness e l s)
 
 pub same-buffers : {i i′ s s′ w w′ k k′ : List ℕ} → i ≡ i′ → s ≡ s′ → w ≡ w′ → k ≡ k′ → buffers i s w k ≡ buffers i′ s′ w′ k′
 same-buffers ei es ew ek = rw (ei, es, ew, ek)

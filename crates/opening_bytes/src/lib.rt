@@ -20,9 +20,9 @@ fn number(o: Opening) -> u64
     ensures { λ r. ⌜ r ≡ opening-number (opening-of o) ⌝ }
 {
     match o {
-        Opening::Opened(s) => 256 + 4294967296 * (s.made as u64),
-        Opening::Singular(f) => 512 + 65536 * (f as u64),
-        Opening::Refused(r) => crossing::refusal_number(r),
+        Opening::Opened(s) => numbers::carried(1, 0, s.made as u64),
+        Opening::Singular(f) => numbers::carried(2, f as u64, 0),
+        Opening::Refused(r) => numbers::refused(r),
     }
 }
 

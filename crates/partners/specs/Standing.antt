@@ -14,7 +14,7 @@ use Rattle.residue.specs.Modulus.{modulus, modulus-prime}
 use Rattle.skew.specs.Subset.{_∈_, marked, marked-in, clash, marked-out}
 use Rattle.skew.specs.Remove.{invertible-without}
 use Rattle.matching.specs.Decision as decision
-use Rattle.matching.specs.Decision.{Every, Lowest, because, accepted, refused, not?, both?, Cause}
+use Rattle.matching.specs.Decision.{because, accepted, refused, not?, both?, Cause}
 use Rattle.matching.specs.Graph.{Graph, over, largest, cell, tutte, fault, kind-of, InOrder}
 use Rattle.matching.specs.Pairs.{Pairs, pair-of, everything, unmatched, in?}
 use Rattle.matching.specs.Session.{InverseTable}
@@ -23,10 +23,9 @@ use Rattle.matching.specs.Calls.{bit-of}
 use Rattle.laws.specs.Sound.{judge-refused, judge-next, when-at, unless-absent}
 use Rattle.laws.specs.Faults.{fault-kind, kind-large, kind-unequal}
 use Rattle.laws.specs.Facts.{pair-of-smaller, pair-of-larger, unmatched-without}
-use Rattle.checks.specs.Answers.{ruling-of}
+use Rattle.checks.specs.Answers.{ruling-of, Finds}
 use Rattle.checks.specs.declared.Ruling.{Ruling}
 use Rattle.checks.specs.declared.Finding.{Finding}
-use Rattle.checks.specs.declared.Finding.the-variants.{Absent, At}
 
 -- the tables of n vertices are long enough, and there is a mark for each
 pub record Tables (n : ℕ) (adjacency inverse marks : List ℕ) : Type 0 where
@@ -46,11 +45,6 @@ abbrev pub Judges : (n : ℕ) (adjacency inverse marks : List ℕ) (a b : ℕ) �
 Judges n adjacency inverse marks a b r =
     (weights : List ℕ) (pairs : Pairs) → Standing (over n adjacency weights) pairs inverse marks
     → ruling-of r ≡ pick-ruling modulus-prime (over n adjacency weights) everything pairs a b
-
--- the lowest number below n with a property, or that there is none
-abbrev pub Finds : ℕ → (ℕ → Type 0) → Finding → Type 0
-Finds n P Absent = Every n (λ k. ¬ P k)
-Finds n P (At x) = Lowest n P x
 
 abbrev pub Marked : List ℕ → ℕ → Type 0
 Marked marks v = getD marks v 0 ≢ 0

@@ -7,8 +7,8 @@ ghost use mathlib.Core.Path.{_≡_};
 ghost use Prim.Native.Nat.{_<_};
 ghost use lib.ListN.{length};
 ghost use Rattle.matching.specs.Calls.{bit-of};
-ghost use Rattle.checks.specs.Answers.{ruling-of};
-ghost use Rattle.partners.specs.Standing.{Tables, Judges, Finds, Marked, FindsPartner, ShowsPartners, RowOf};
+ghost use Rattle.checks.specs.Answers.{ruling-of, Finds};
+ghost use Rattle.partners.specs.Standing.{Tables, Judges, Marked, FindsPartner, ShowsPartners, RowOf};
 
 // Whether a pick of a and b is accepted: causes 7 to 10. For proved callers.
 pub fn judge(

@@ -2,7 +2,7 @@
 use mathlib.Core.Path.{_≡_, refl, sym, ap, _∙_}
 use mathlib.Core.Logic.{_≢_}
 use mathlib.Core.List.{List}
-use Prim.Native.Nat.{ℕ, _+_, _*_, _-_, _≤_, _<_}
+use Prim.Native.Nat.{ℕ, _+_, _*_, _-_, _%_, _≤_, _<_}
 use native.Mathlib.Nat.{mod-lt, zero-mod}
 use native.Mathlib.Omega.{arith}
 use native.Mathlib.Decide.{ℕ-discrete, decLt}
@@ -12,15 +12,15 @@ use lib.Seq.{getD-set-same, getD-set-other}
 use Rattle.lists.specs.Part.{replaced, length-replaced, part-at, part-length}
 use Rattle.lists.specs.Table.{vector, table, row-fits, row-left, row-inside, row-other, same-place, Square}
 use Rattle.modular.specs.Congruence.{Congruent, equals, flip, _⨾_, _⊕_, _⊖_, _⊛_, linear, multiple}
+use Rattle.modular.specs.Operations.{negative, negative-plus}
 use Rattle.modular.specs.Prime.{remainder}
 use Rattle.modular.specs.Product.{product-below}
 use Rattle.modular.specs.Reciprocal.{Reciprocal, reciprocal-unit}
 use Rattle.residue.specs.Modulus.{modulus, modulus-prime}
-use Rattle.skew.specs.Inverse.{Vector}
 use Rattle.skew.specs.Exchange.{Exchanged}
 use Rattle.skew.specs.Pivot.{cleared, keep-first, keep-second, keep-other, Bordered}
 use Rattle.skew.specs.Triangle.{mirror-above, mirror-skew, exchanged-above}
-use Rattle.pivot.specs.Words.{limit, square, Words, Below, Small, matrix, place, place-above, place-below, place-within, place-other, residue, residue-above, residue-small, residue-matrix, scaled, plus-two, words-below}
+use Rattle.pivot.specs.Words.{limit, square, Words, Below, Small, matrix, place, place-above, place-below, place-within, place-other, residue, residue-above, residue-small, residue-matrix, scaled, plus-two}
 
 -- the entries of column c with the indices before m are 0, and nothing else is changed
 pub record Taken (n m c : ℕ) (t t' : List ℕ) : Type 0 where
@@ -28,22 +28,22 @@ pub record Taken (n m c : ℕ) (t t' : List ℕ) : Type 0 where
   pub gone : (k : ℕ) → k < m → getD t' (place n k c) 0 ≡ 0
   pub rest : (x : ℕ) → ((k : ℕ) → k < m → x ≢ place n k c) → getD t' x 0 ≡ getD t x 0
 
-pub record Updating (n : ℕ) (t x y u v : List ℕ) : Type 0 where
+pub record Updating (n : ℕ) (t x y : List ℕ) : Type 0 where
   pub table-square : Square n t
   pub small : Small limit n t
   pub x-size : length x ≡ n
   pub y-size : length y ≡ n
-  pub u-size : length u ≡ n
-  pub v-size : length v ≡ n
   pub x-below : Below modulus x
   pub y-below : Below modulus y
-  pub u-below : Below modulus u
-  pub v-below : Below modulus v
+
+-- what is added to entry (i, j)
+abbrev pub addend : (x y : List ℕ) (i j : ℕ) → ℕ
+addend x y i j = negative modulus (vector y i) * vector x j + vector x i * vector y j
 
 -- the first m rows are updated above the diagonal, and no word has grown by 2 * 65521 * 65521 or more
-pub record UpdatedTo (n m : ℕ) (x y u v t t' : List ℕ) : Type 0 where
+pub record UpdatedTo (n m : ℕ) (x y t t' : List ℕ) : Type 0 where
   pub size : length t' ≡ length t
-  pub done : (i j : ℕ) → i < m → i < j → j < n → table n t' i j ≡ table n t i j + (vector y i * vector u j + vector x i * vector v j)
+  pub done : (i j : ℕ) → i < m → i < j → j < n → table n t' i j ≡ table n t i j + addend x y i j
   pub grown : (i j : ℕ) → i < m → j < n → table n t' i j < table n t i j + (square + square)
   pub rest : (i j : ℕ) → m ≤ i → j < n → table n t' i j ≡ table n t i j
 
@@ -234,12 +234,12 @@ column-unit {n} {c} {r} {h} t l hr d b R =
     above : Congruent modulus (matrix n t c r) (table n t c r)
     above = equals (mirror-above (modulus-prime .odd) (table n t) c r l)
 
-pub updated-start : (n : ℕ) (x y u v t : List ℕ) → UpdatedTo n 0 x y u v t t
-updated-start n x y u v t =
+pub updated-start : (n : ℕ) (x y t : List ℕ) → UpdatedTo n 0 x y t t
+updated-start n x y t =
     record { size = refl; done = λ i j l. absurd (omega arith); grown = λ i j l. absurd (omega arith); rest = λ i j _ _. refl }
 
 -- row m from column lo on, as a part of the table
-module _ (n m lo size : ℕ) {x y u v t s : List ℕ} (E : UpdatedTo n m x y u v t s) (hm : m < n) (full : length t ≡ n * n) (e : lo + size ≡ n) where
+module _ (n m lo size : ℕ) {x y t s : List ℕ} (E : UpdatedTo n m x y t s) (hm : m < n) (full : length t ≡ n * n) (e : lo + size ≡ n) where
   full' : length s ≡ n * n
   full' = E .size ∙ full
 
@@ -258,12 +258,12 @@ module _ (n m lo size : ℕ) {x y u v t s : List ℕ} (E : UpdatedTo n m x y u v
         rw (part-word k h) (B .at m (lo + k) hm (omega arith));
   }
 
-  pub updated-next : {part : List ℕ} → lo ≤ m + 1 → length part ≡ size → Updating n t x y u v
-      → Words (plus-two (vector (take size (drop (m * n + lo) s))) lo (vector u) (vector v) (vector y m) (vector x m)) part
-      → UpdatedTo n (m + 1) x y u v t (replaced s (m * n + lo) size part)
+  pub updated-next : {part : List ℕ} → lo ≤ m + 1 → length part ≡ size → Updating n t x y
+      → Words (plus-two (vector (take size (drop (m * n + lo) s))) lo (vector x) (vector y) (negative modulus (vector y m)) (vector x m)) part
+      → UpdatedTo n (m + 1) x y t (replaced s (m * n + lo) size part)
   updated-next {part} low len G D = record {
     size = length-replaced s (m * n + lo) size part (omega (arith, full', row-fits n m hm)) len ∙ E .size;
-    done = λ i j l h hj. done i j l h hj (ℕ-discrete i m);
+    done = λ i j l k hj. done i j l k hj (ℕ-discrete i m);
     grown = λ i j l hj. grown i j l hj (ℕ-discrete i m) (decLt j lo);
     rest = λ i j l hj. other i j hj (λ q. omega arith) ∙ E .rest i j (omega arith) hj;
   }
@@ -271,56 +271,60 @@ module _ (n m lo size : ℕ) {x y u v t s : List ℕ} (E : UpdatedTo n m x y u v
       other : (i j : ℕ) → j < n → i ≢ m → table n (replaced s (m * n + lo) size part) i j ≡ table n s i j
       other = row-other n m lo (m * n + lo) size s part refl len hm (omega arith) full'
 
-      here : (j : ℕ) → lo ≤ j → j < n
-          → table n (replaced s (m * n + lo) size part) m j ≡ table n t m j + (vector y m * vector u j + vector x m * vector v j)
+      here : (j : ℕ) → lo ≤ j → j < n → table n (replaced s (m * n + lo) size part) m j ≡ table n t m j + addend x y m j
       here j l hj =
           let z : lo + (j - lo) ≡ j = omega arith in
           row-inside n m lo (m * n + lo) size s part refl len hm (omega arith) full' j l (omega arith)
           ∙ D .at (j - lo) (omega arith)
-          ∙ ap (λ w. w + (vector y m * vector u (lo + (j - lo)) + vector x m * vector v (lo + (j - lo)))) (part-word (j - lo) (omega arith))
-          ∙ ap (λ w. table n t m w + (vector y m * vector u w + vector x m * vector v w)) z
+          ∙ ap (λ w. w + addend x y m (lo + (j - lo))) (part-word (j - lo) (omega arith))
+          ∙ ap (λ w. table n t m w + addend x y m w) z
 
       done : (i j : ℕ) → i < m + 1 → i < j → j < n → Dec (i ≡ m)
-          → table n (replaced s (m * n + lo) size part) i j ≡ table n t i j + (vector y i * vector u j + vector x i * vector v j)
-      done i j l h hj (no d) = other i j hj d ∙ E .done i j (omega arith) h hj
-      done i j l h hj (yes q) = rw q (here j (omega arith) hj)
+          → table n (replaced s (m * n + lo) size part) i j ≡ table n t i j + addend x y i j
+      done i j l k hj (no d) = other i j hj d ∙ E .done i j (omega arith) k hj
+      done i j l k hj (yes q) = rw q (here j (omega arith) hj)
 
       grown : (i j : ℕ) → i < m + 1 → j < n → Dec (i ≡ m) → Dec (j < lo)
           → table n (replaced s (m * n + lo) size part) i j < table n t i j + (square + square)
       grown i j l hj (no d) _ = rw (other i j hj d) (E .grown i j (omega arith) hj)
-      grown i j l hj (yes q) (yes h) =
-          rw (q, row-left n m lo (m * n + lo) size s part refl len hm (omega arith) full' j h, E .rest m j (omega arith) hj) (omega arith)
-      grown i j l hj (yes q) (no h) =
+      grown i j l hj (yes q) (yes k) =
+          rw (q, row-left n m lo (m * n + lo) size s part refl len hm (omega arith) full' j k, E .rest m j (omega arith) hj) (omega arith)
+      grown i j l hj (yes q) (no k) =
           rw (q, here j (omega arith) hj)
           (omega (
             arith,
-            product-below modulus (G .y-below .at m (omega (arith, G .y-size))) (G .u-below .at j (omega (arith, G .u-size))),
-            product-below modulus (G .x-below .at m (omega (arith, G .x-size))) (G .v-below .at j (omega (arith, G .v-size))),
+            product-below modulus (mod-lt (modulus - vector y m % modulus) (lit< tt)) (G .x-below .at j (omega (arith, G .x-size))),
+            product-below modulus (G .x-below .at m (omega (arith, G .x-size))) (G .y-below .at j (omega (arith, G .y-size))),
           ))
 
-pub multiples-below : (g : ℕ) (v : Vector) {u : List ℕ} → Words (scaled g v) u → Below modulus u
-multiples-below g v D = words-below D (λ m. mod-lt _ (lit< tt))
-
-pub stepped : {n c r h : ℕ} {t s x y u v t' : List ℕ} → Stepping n c r t → Columns n c r t s x y h → length u ≡ n → length v ≡ n
-    → Words (scaled (modulus - h) (vector x)) u → Words (scaled h (vector y)) v → UpdatedTo n n x y u v s t' → Stepped n c r t t'
-stepped {n} {c} {r} {h} {t} {s} {x} {y} {u} {v} {t'} G C lu lv DU DV E = record {
+-- x is scaled by h
+pub stepped : {n c r h : ℕ} {t s x x' y t' : List ℕ} → Stepping n c r t → Columns n c r t s x y h → length x' ≡ n → Words (scaled h (vector x)) x'
+    → UpdatedTo n n x' y s t' → Stepped n c r t t'
+stepped {n} {c} {r} {h} {t} {s} {x} {x'} {y} {t'} G C l D E = record {
   g = modulus - h;
   exchanged =
       exchanged-above (modulus-prime .odd) n (table n t) (table n t') (λ e. omega (arith, G .order)) (omega (arith, G .order, G .below)) (G .below) (C .unit) (C .first) (C .second) entry;
   grown = λ i j hi hj. omega (arith, E .grown i j hi hj, C .less i j hi hj);
 }
   where
+    -- entry k of x'
+    at : (k : ℕ) → k < n → Congruent modulus (vector x' k) (vector x k * h)
+    at k hk = equals (D .at k (omega arith)) ⨾ remainder (vector x k * h)
+
     entry : (i j : ℕ) → i < j → j < n
         → Congruent modulus (table n t' i j + (modulus - h) * vector y j * vector x i) (cleared c r (table n t) i j + (modulus - h) * vector x j * vector y i)
     entry i j l hj =
         let whole : modulus - h + h ≡ modulus = omega (arith, C .h-below) in
         linear
-        (vector y i ⊛ remainder (vector x j * (modulus - h)) ⊕ vector x i ⊛ remainder (vector y j * h) ⊕ multiple (vector x i * vector y j))
+        (negative modulus (vector y i) ⊛ at j hj
+        ⊕ vector y j ⊛ at i (omega arith)
+        ⊕ (vector x j * h) ⊛ negative-plus (lit< tt) (vector y i)
+        ⊕ multiple (vector x i * vector y j)
+        ⊖ multiple (vector x j * vector y i))
         (omega (
           arith,
           E .done i j (omega arith) l hj,
           C .clear i j l hj,
-          ap (λ z. vector y i * z) (DU .at j (omega arith)),
-          ap (λ z. vector x i * z) (DV .at j (omega arith)),
           ap (λ z. vector x i * vector y j * z) whole,
+          ap (λ z. vector x j * vector y i * z) whole,
         ))

@@ -35,9 +35,6 @@ pub record Below (b : ℕ) (xs : List ℕ) : Type 0 where
 pub words-written : {v : Vector} {old words : List ℕ} {i : ℕ} → Written v old words i → length words ≤ i → Words v words
 words-written W l = record { at = written-at W (omega (arith, W .size)) }
 
-pub words-below : {b : ℕ} {v : Vector} {xs : List ℕ} → Words v xs → ((m : ℕ) → v m < b) → Below b xs
-words-below D h = record { at = λ m l. rw (D .at m l) (h m) }
-
 -- every word is below b
 pub record Small (b n : ℕ) (t : List ℕ) : Type 0 where
   pub at : (i j : ℕ) → i < n → j < n → table n t i j < b
@@ -111,10 +108,10 @@ residue-matrix n t k c d = go (decLt k c)
         rw (place-below n k c b, residue-below k c (table n t c k) b, mirror-below (modulus-prime .odd) (table n t) k c l)
         (linear (negative-plus (lit< tt) (table n t c k) ⊖ negate (modulus-prime .odd) (table n t c k)) (omega arith))
 
--- g times v, reduced
+-- h times x, reduced
 abbrev pub scaled : ℕ → Vector → Vector
-scaled g v m = (v m * g) % modulus
+scaled h x m = (x m * h) % modulus
 
--- a row from column lo on, with a times u and b times v
+-- a row from column lo on, with a times x and b times y
 abbrev pub plus-two : Vector → ℕ → Vector → Vector → ℕ → ℕ → Vector
-plus-two row lo u v a b m = row m + (a * u (lo + m) + b * v (lo + m))
+plus-two row lo x y a b m = row m + (a * x (lo + m) + b * y (lo + m))

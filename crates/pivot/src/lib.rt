@@ -11,7 +11,7 @@ ghost use Rattle.pivot.specs.Step.{Taken, Updating, UpdatedTo, Stepping,
 use residue::Residue;
 
 // The residue of entry (k, c), which becomes 0.
-fn take(t: &mut [u64], n: usize, k: usize, c: usize) -> u32
+fn take(t: &mut [u64], n: usize, k: usize, c: usize) -> u64
     requires { ⌜ Square n (now t) × (k < n) × (c < n) ⌝ }
     ensures { λ x. ⌜ (x ≡ residue k c (getD (now (t .entry)) (place n k c) 0)) × (now (t .exit) ≡ set (now (t .entry)) (place n k c) 0) ⌝ }
 {
@@ -19,27 +19,27 @@ fn take(t: &mut [u64], n: usize, k: usize, c: usize) -> u32
         let at = k * n + c;
         let above = t[at] % Residue::MODULUS;
         t[at] = 0;
-        return above as u32;
+        return above;
     }
     let at = c * n + k;
     let below = t[at] % Residue::MODULUS;
     t[at] = 0;
-    negative(below)
+    negative(below as u32) as u64
 }
 
 // The negative of a residue. For proved callers.
-pub fn negative(x: u64) -> u32
+pub fn negative(x: u32) -> u32
     requires { ⌜ x < modulus ⌝ }
     ensures { λ r. ⌜ r ≡ (modulus - x) % modulus ⌝ }
 {
     if x == 0 {
         return 0;
     }
-    (Residue::MODULUS - x) as u32
+    Residue::MODULUS as u32 - x
 }
 
 // Column c, whose entries become 0, with those of row c.
-fn take_column(t: &mut [u64], n: usize, c: usize, x: &mut [u32])
+fn take_column(t: &mut [u64], n: usize, c: usize, x: &mut [u64])
     requires { ⌜ Square n (now t) × (c < n) × (length (now x) ≡ n) ⌝ }
     ensures { λ _. ⌜ Taken n n c (now (t .entry)) (now (t .exit)) × Words (λ k. residue k c (getD (now (t .entry)) (place n k c) 0)) (now (x .exit)) ⌝ }
 {
@@ -50,23 +50,24 @@ fn take_column(t: &mut [u64], n: usize, c: usize, x: &mut [u32])
     }
 }
 
-// The words of x times g, reduced.
-fn multiples(x: &[u32], g: u64, u: &mut [u64])
-    requires { ⌜ (length (now u) ≡ length (now x)) × Below modulus (now x) × (g ≤ modulus) ⌝ }
-    ensures { λ _. ⌜ Words (scaled g (vector (now (x .entry)))) (now (u .exit)) ⌝ }
+// Every word of x times h, reduced. The remainder is of a number below 2^16, and so changes nothing; it lets the compiler divide by a
+// shorter multiplication.
+fn scale(x: &mut [u64], h: u16)
+    requires { ⌜ Below modulus (now x) × (h < modulus) ⌝ }
+    ensures { λ _. ⌜ Words (scaled h (vector (now (x .entry)))) (now (x .exit)) ⌝ }
 {
-    let mut j = 0;
-    while j < u.len() {
-        u[j] = x[j] as u64 * g % Residue::MODULUS;
-        j += 1;
+    let mut k = 0;
+    while k < x.len() {
+        x[k] = x[k] % 65536 * (h as u64) % Residue::MODULUS;
+        k += 1;
     }
 }
 
-// Adds a times u and b times v to a row that starts in column lo. The remainders are of numbers below 2^32, and so change nothing; they
+// Adds a times x and b times y to a row that starts in column lo. The remainders are of numbers below 2^32, and so change nothing; they
 // let the compiler multiply halves.
-fn add(row: &mut [u64], lo: usize, u: &[u64], v: &[u64], a: u32, b: u32)
-    requires { ⌜ (lo + length (now row) ≤ length (now u)) × (lo + length (now row) ≤ length (now v)) × Below limit (now row) × Below modulus (now u) × Below modulus (now v) × (a < modulus) × (b < modulus) ⌝ }
-    ensures { λ _. ⌜ Words (plus-two (vector (now (row .entry))) lo (vector (now (u .entry))) (vector (now (v .entry))) a b) (now (row .exit)) ⌝ }
+fn add(row: &mut [u64], lo: usize, x: &[u64], y: &[u64], a: u32, b: u32)
+    requires { ⌜ (lo + length (now row) ≤ length (now x)) × (lo + length (now row) ≤ length (now y)) × Below limit (now row) × Below modulus (now x) × Below modulus (now y) × (a < modulus) × (b < modulus) ⌝ }
+    ensures { λ _. ⌜ Words (plus-two (vector (now (row .entry))) lo (vector (now (x .entry))) (vector (now (y .entry))) a b) (now (row .exit)) ⌝ }
 {
     if a + b == 0 {
         return;
@@ -74,36 +75,40 @@ fn add(row: &mut [u64], lo: usize, u: &[u64], v: &[u64], a: u32, b: u32)
     let mut j = 0;
     while j < row.len() {
         let k = lo + j;
-        row[j] += a as u64 * (u[k] % 4294967296) + b as u64 * (v[k] % 4294967296);
+        row[j] += a as u64 * (x[k] % 4294967296) + b as u64 * (y[k] % 4294967296);
         j += 1;
     }
 }
 
-// What is added above the diagonal. A row starts at an even column, at its diagonal or after it; the word on the diagonal does not count.
-fn update(t: &mut [u64], n: usize, x: &[u32], y: &[u32], u: &[u64], v: &[u64])
-    requires { ⌜ Updating n (now t) (now x) (now y) (now u) (now v) ⌝ }
-    ensures { λ _. ⌜ UpdatedTo n n (now (x .entry)) (now (y .entry)) (now (u .entry)) (now (v .entry)) (now (t .entry)) (now (t .exit)) ⌝ }
+// Adds to entry (i, j) above the diagonal x(i) y(j) - y(i) x(j). A row starts at an even column, at its diagonal or after it; the word on the
+// diagonal does not count. A factor is cut to 32 bits before it is negated, so that the compiler knows its width.
+fn update(t: &mut [u64], n: usize, x: &[u64], y: &[u64])
+    requires { ⌜ Updating n (now t) (now x) (now y) ⌝ }
+    ensures { λ _. ⌜ UpdatedTo n n (now (x .entry)) (now (y .entry)) (now (t .entry)) (now (t .exit)) ⌝ }
 {
     let mut i = 0;
     while i < n {
         let lo = (i + 1) / 2 * 2;
         let at = i * n + lo;
         let end = i * n + n;
-        add(&mut t[at..end], lo, u, v, y[i], x[i]);
+        let a = negative(y[i] as u32);
+        let b = x[i] as u32;
+        add(&mut t[at..end], lo, x, y, a, b);
         i += 1;
     }
 }
 
-fn reciprocal(k: u32) -> u64
+// The reciprocal of a residue, and 0 for 0.
+fn reciprocal(k: u64) -> u16
     requires { ⌜ k < modulus ⌝ }
     ensures { λ h. ⌜ (h < modulus) × Reciprocal modulus k h ⌝ }
 {
-    let h = Residue::make(k as u64).invert();
-    h.value as u64
+    let h = Residue::make(k).invert();
+    h.value
 }
 
 // Columns c and r with -1 at their own index and 0 at the other, and the reciprocal of entry (r, c). The table loses both.
-fn columns(t: &mut [u64], n: usize, c: usize, r: usize, x: &mut [u32], y: &mut [u32]) -> u64
+fn columns(t: &mut [u64], n: usize, c: usize, r: usize, x: &mut [u64], y: &mut [u64]) -> u16
     requires { ⌜ Stepping n c r (now t) × (length (now x) ≡ n) × (length (now y) ≡ n) ⌝ }
     ensures { λ h. ⌜ Columns n c r (now (t .entry)) (now (t .exit)) (now (x .exit)) (now (y .exit)) h ⌝ }
 {
@@ -116,24 +121,14 @@ fn columns(t: &mut [u64], n: usize, c: usize, r: usize, x: &mut [u32], y: &mut [
     h
 }
 
-fn exchange_over(
-    t: &mut [u64],
-    n: usize,
-    c: usize,
-    r: usize,
-    x: &mut [u32],
-    y: &mut [u32],
-    u: &mut [u64],
-    v: &mut [u64],
-)
-    requires { ⌜ Stepping n c r (now t) ⌝ }
-    requires { ⌜ (length (now x) ≡ n) × (length (now y) ≡ n) × (length (now u) ≡ n) × (length (now v) ≡ n) ⌝ }
+// Exchanges c and r, with room for two columns, of which the first is multiplied by the reciprocal.
+fn exchange_over(t: &mut [u64], n: usize, c: usize, r: usize, x: &mut [u64], y: &mut [u64])
+    requires { ⌜ Stepping n c r (now t) × (length (now x) ≡ n) × (length (now y) ≡ n) ⌝ }
     ensures { λ _. ⌜ Stepped n c r (now (t .entry)) (now (t .exit)) ⌝ }
 {
     let h = columns(t, n, c, r, x, y);
-    multiples(x, Residue::MODULUS - h, u);
-    multiples(y, h, v);
-    update(t, n, x, y, u, v);
+    scale(x, h);
+    update(t, n, x, y);
 }
 
 // Exchanges c and r, where c < r. For proved callers.
@@ -141,18 +136,7 @@ pub fn exchange(t: &mut [u64], n: usize, c: usize, r: usize)
     requires { ⌜ Stepping n c r (now t) ⌝ }
     ensures { λ _. ⌜ Stepped n c r (now (t .entry)) (now (t .exit)) ⌝ }
 {
-    let mut x = [0u32; 96];
-    let mut y = [0u32; 96];
-    let mut u = [0u64; 96];
-    let mut v = [0u64; 96];
-    exchange_over(
-        t,
-        n,
-        c,
-        r,
-        &mut x[..n],
-        &mut y[..n],
-        &mut u[..n],
-        &mut v[..n],
-    );
+    let mut x = [0u64; 96];
+    let mut y = [0u64; 96];
+    exchange_over(t, n, c, r, &mut x[..n], &mut y[..n]);
 }

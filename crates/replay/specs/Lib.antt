@@ -1,3 +1,2 @@
 -- What the contracts cite, with its laws.
-pub mod List
 pub mod Run

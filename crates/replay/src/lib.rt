@@ -12,72 +12,16 @@ ghost use lib.ListN.{length, replicate};
 ghost use Rattle.residue.specs.Modulus.{modulus-prime};
 ghost use Rattle.matching.specs.Decision.{because};
 ghost use Rattle.matching.specs.Pairs.{everything};
-ghost use Rattle.matching.specs.Replay.{place-of, call-of, list-ruling, Replays, DemandThreeOf};
+ghost use Rattle.matching.specs.Replay.{call-of, Replays, DemandThreeOf};
 ghost use Rattle.checks.specs.Answers.{ruling-of};
 ghost use Rattle.soundness.specs.Sound.{state};
-ghost use Rattle.partners.specs.Standing.{Finds};
 ghost use Rattle.calls.specs.Known.{Known, Called};
-ghost use Rattle.replay.specs.List.{Unknown};
 ghost use Rattle.replay.specs.Run.{Ran, RefusesAll};
 
 // The session handed back, and whether the calls were made: the refusal of the list, or of the session, which every call is then answered.
 pub struct Replayed {
     pub session: Session,
     pub ruling: Ruling,
-}
-
-// The index of the first call that is of no kind.
-fn first_unknown(list: &[u64], count: usize) -> Finding
-    requires { ⌜ 3 * count ≤ length (now list) ⌝ }
-    ensures { λ r. ⌜ Finds count (Unknown (now (list .entry))) r ⌝ }
-{
-    let mut i = 0;
-    while i < count {
-        let kind = list[3 * i];
-        if kind == 0 {
-            return Finding::At(i);
-        }
-        if 3 < kind {
-            return Finding::At(i);
-        }
-        i += 1;
-    }
-    Finding::Absent
-}
-
-// An index as a place of 16 bits.
-fn place(i: usize) -> usize
-    ensures { λ r. ⌜ r ≡ place-of i ⌝ }
-{
-    if i < 65535 { i } else { 65535 }
-}
-
-// Whether there is room for the answers, every call is of a kind, and the list ends with a whole call.
-fn judge(list: &[u64], room: usize) -> Ruling
-    ensures { λ r. ⌜ ruling-of r ≡ list-ruling (now (list .entry)) room ⌝ }
-{
-    let count = list.len() / 3;
-    if room < count {
-        return Ruling::Refused(Refusal {
-            cause: 2,
-            place: 10,
-        });
-    }
-    if let Finding::At(i) = first_unknown(list, count) {
-        let at = place(i);
-        return Ruling::Refused(Refusal {
-            cause: 12,
-            place: at,
-        });
-    }
-    if list.len() % 3 != 0 {
-        let at = place(count);
-        return Ruling::Refused(Refusal {
-            cause: 13,
-            place: at,
-        });
-    }
-    Ruling::Accepted
 }
 
 // One call.
@@ -164,7 +108,7 @@ pub fn refuse(refusal: Refusal, list: &[u64], answers: &mut [u64]) -> Ruling
     requires { ⌜ refusal .place < 2 ^ 16 ⌝ }
     ensures { λ r. ⌜ RefusesAll (because (refusal .cause) (refusal .place)) (now (list .entry)) (now (answers .entry)) (ruling-of r) (now (answers .exit)) ⌝ }
 {
-    let judged = judge(list, answers.len());
+    let judged = call_list::judge(list, answers.len());
     if let Ruling::Refused(first) = judged {
         return Ruling::Refused(first);
     }
@@ -187,7 +131,7 @@ pub fn replay(
     ensures run { λ r. ⌜ Replays modulus-prime everything (state (session .size) (session .made) (now (adjacency .entry)) (now (weights .entry)) (now (inverse .entry)) (now (sequence .entry))) (now (list .entry)) (now (answers .entry)) (ruling-of (r .ruling)) (state (r .session .size) (r .session .made) (now (adjacency .entry)) (now (weights .entry)) (now (inverse .exit)) (now (sequence .exit))) (now (answers .exit)) ⌝ }
     ensures demand { λ r. ⌜ DemandThreeOf modulus-prime everything (state (session .size) (session .made) (now (adjacency .entry)) (now (weights .entry)) (now (inverse .entry)) (now (sequence .entry))) (now (list .entry)) (now (answers .entry)) (state (r .session .size) (r .session .made) (now (adjacency .entry)) (now (weights .entry)) (now (inverse .exit)) (now (sequence .exit))) (now (answers .exit)) ⌝ }
 {
-    let judged = judge(list, answers.len());
+    let judged = call_list::judge(list, answers.len());
     if let Ruling::Refused(refusal) = judged {
         return Replayed {
             session,

@@ -14,24 +14,20 @@ use Rattle.matching.specs.Session.{Session, State, onto}
 use Rattle.matching.specs.Causes.{session-ruling}
 use Rattle.matching.specs.Model.{automatic, denied}
 use Rattle.matching.specs.Calls.{state-after, unsound}
-use Rattle.matching.specs.Host.{words, bytes-of, number, refusal-number, session-back, unpacked-state}
+use Rattle.matching.specs.Host.{words, Bytes, bytes-of, number, refusal-number, session-back, unpacked-state}
 use Rattle.matching.specs.Replay.{calls-of, numbers-of, Replays, refuses-list, replays, replay-number, replay-stored, HostReplays, HostDemandThree}
 use Rattle.laws.specs.Sound.{session-accepted}
-use Rattle.laws.specs.Demand.{onto-front-same}
+use Rattle.laws.specs.Onto.{onto-front-same}
 use Rattle.laws.specs.Numbers.{Small, handles-small, answer-low-byte, made-field}
+use Rattle.numbers.specs.Fits.{FitsNumber}
 use Rattle.soundness.specs.Sound.{state}
-use Rattle.packing.specs.Words.{Bytes, stored-words}
+use Rattle.laws.specs.Words.{stored-words}
 use Rattle.crossing.specs.Needed.{needed-weights, needed-agree, needed-counted}
 use Rattle.crossing.specs.Fit.{Fits, needed-inverse, needed-state, table-length, ruling-same}
 use Rattle.crossing.specs.Through.{handed-back}
-use Rattle.replay.specs.List.{list-small}
+use Rattle.call_list.specs.List.{list-small}
 use Rattle.replay.specs.Run.{runs-sound, runs-unsound, RefusesAll, list-first, every-call, refused-so, replays-follow}
 use Rattle.replay_bytes.specs.Wide.{Wide, wide, WideRun, wide-runs}
-
--- the parts of an answer fit their bits
-abbrev pub FitsNumber : Ruling → ℕ → Type 0
-FitsNumber accepted made = made < 2 ^ 8
-FitsNumber (refused r) made = r .place < 2 ^ 16
 
 -- none of the words are stored where a replay is refused
 abbrev pub extent : Ruling → ℕ → ℕ
@@ -66,11 +62,6 @@ replays-small {s} (replays returned ok runs) = go (session-ruling modulus everyt
 pub extent-small : (v : Ruling) (size : ℕ) → extent v size ≤ size
 extent-small accepted size = omega arith
 extent-small (refused r) size = omega arith
-
--- the number does not tell the size
-pub size-unseen : (v : Ruling) (s : Session) → replay-number v (record { size = 0; made = s .made }) ≡ replay-number v s
-size-unseen accepted s = refl
-size-unseen (refused r) s = refl
 
 pub fits-number : (v : Ruling) (s : Session) → SmallRuling v s → FitsNumber v (s .made)
 fits-number accepted s h = h

@@ -7,23 +7,12 @@ ghost use lib.ListN.{length};
 ghost use Rattle.residue.specs.Modulus.{modulus-prime};
 ghost use Rattle.matching.specs.Pairs.{everything};
 ghost use Rattle.matching.specs.Host.{unpacked-state};
-ghost use Rattle.matching.specs.Replay.{replay-number, HostReplays, HostDemandThree};
+ghost use Rattle.matching.specs.Replay.{HostReplays, HostDemandThree};
 ghost use Rattle.checks.specs.Answers.{ruling-of};
 ghost use Rattle.soundness.specs.Sound.{state};
 ghost use Rattle.crossing.specs.Fit.{Fits};
 ghost use Rattle.crossing.specs.Through.{handed-back};
-ghost use Rattle.replay_bytes.specs.Through.{FitsNumber, extent, ReplaysOver};
-
-// The number of a replay.
-fn number(ruling: Ruling, made: usize) -> u64
-    requires { ⌜ FitsNumber (ruling-of ruling) made ⌝ }
-    ensures { λ r. ⌜ r ≡ replay-number (ruling-of ruling) (record { size = 0; made = made }) ⌝ }
-{
-    match ruling {
-        Ruling::Accepted => 1280 + 4294967296 * (made as u64),
-        Ruling::Refused(refusal) => crossing::refusal_number(refusal),
-    }
-}
+ghost use Rattle.replay_bytes.specs.Through.{extent, ReplaysOver};
 
 // Whether the words are to be stored, and so how many of them.
 fn extent(ruling: Ruling, size: usize) -> usize
@@ -57,7 +46,7 @@ fn replay_over(
     let ruling = replayed.ruling;
     let count = extent(ruling, size);
     packing::store(table, count, inverse);
-    number(ruling, after.made)
+    numbers::ruled(5, ruling, after.made)
 }
 
 // The same over bytes, of which as many words are read as the graph needs.
@@ -115,7 +104,7 @@ pub fn replay(
     );
     if let Ruling::Refused(refusal) = lengths {
         let ruling = replay::refuse(refusal, list, answers);
-        return number(ruling, 0);
+        return numbers::ruled(5, ruling, 0);
     }
     replay_words(
         n,

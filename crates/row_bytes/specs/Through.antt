@@ -12,7 +12,7 @@ use Rattle.skew.specs.Choose.{choose}
 use Rattle.matching.specs.Decision.{Refusal, because, absent, at, unless, Ruling, accepted, refused, judge}
 use Rattle.matching.specs.Graph.{largest}
 use Rattle.matching.specs.Pairs.{everything, unmatched, pairs-on, in?}
-use Rattle.matching.specs.Session.{Session, State, pairs-of}
+use Rattle.matching.specs.Session.{State, pairs-of}
 use Rattle.matching.specs.Causes.{lent-row, lent-to-session, session-ruling, too-large, too-short}
 use Rattle.matching.specs.Model.{automatic, needs}
 use Rattle.matching.specs.Calls.{bit-of, open-row, row-ruling, ShowsRow, shows, row-refused, unsound}
@@ -20,22 +20,13 @@ use Rattle.matching.specs.Host.{words, row-number, unpacked-state, HostShowsRow
 use Rattle.laws.specs.Sound.{judge-accepted, when-absent, short-absent, session-accepted}
 use Rattle.laws.specs.Numbers.{handles-small}
 use Rattle.checks.specs.Answers.{then}
+use Rattle.numbers.specs.Fits.{FitsNumber}
 use Rattle.soundness.specs.Sound.{state}
 use Rattle.partners.specs.Standing.{vertex-causes}
 use Rattle.crossing.specs.Needed.{needed-weights, needed-agree}
 use Rattle.crossing.specs.Steps.{pick-same}
 use Rattle.crossing.specs.Fit.{Fits, needed-state, needed-long, ruling-same}
 use Rattle.session.specs.Row.{row-parts}
-
--- the parts of an answer fit their bits
-abbrev pub FitsNumber : Ruling → ℕ → Type 0
-FitsNumber accepted made = made < 2 ^ 8
-FitsNumber (refused r) made = r .place < 2 ^ 16
-
--- the number does not tell the size
-pub size-unseen : (v : Ruling) (s : Session) → row-number v (record { size = 0; made = s .made }) ≡ row-number v s
-size-unseen accepted s = refl
-size-unseen (refused r) s = refl
 
 -- open row over lent words
 pub record ShowsOver (s : State) (a : ℕ) (row : List ℕ) (answer : ℕ) (row′ : List ℕ) : Type 0 where

@@ -1,25 +1,12 @@
 // Open row with numbers and byte slices: what the host's entry calls. Words cross as two bytes, low first (docs/HOST.md).
 use checks::Ruling;
 use session::Session;
-ghost use mathlib.Core.Path.{_≡_};
 ghost use Rattle.residue.specs.Modulus.{modulus-prime};
 ghost use Rattle.matching.specs.Pairs.{everything};
-ghost use Rattle.matching.specs.Host.{unpacked-state, row-number, HostShowsRow};
-ghost use Rattle.checks.specs.Answers.{ruling-of};
+ghost use Rattle.matching.specs.Host.{unpacked-state, HostShowsRow};
 ghost use Rattle.soundness.specs.Sound.{state};
 ghost use Rattle.crossing.specs.Fit.{Fits};
-ghost use Rattle.row_bytes.specs.Through.{FitsNumber, ShowsOver};
-
-// The number of a row.
-fn number(ruling: Ruling, made: usize) -> u64
-    requires { ⌜ FitsNumber (ruling-of ruling) made ⌝ }
-    ensures { λ r. ⌜ r ≡ row-number (ruling-of ruling) (record { size = 0; made = made }) ⌝ }
-{
-    match ruling {
-        Ruling::Accepted => 1024 + 4294967296 * (made as u64),
-        Ruling::Refused(refusal) => crossing::refusal_number(refusal),
-    }
-}
+ghost use Rattle.row_bytes.specs.Through.{ShowsOver};
 
 // Open row over lent words, answered by one number.
 fn row_over(
@@ -38,7 +25,7 @@ fn row_over(
     let session = Session { size: n, made };
     let shown = session.row(adjacency, weights, inverse, sequence, a, row);
     let ruling = shown.ruling;
-    number(ruling, made)
+    numbers::ruled(4, ruling, made)
 }
 
 // The same over bytes, of which as many words are read as the graph needs.
@@ -93,7 +80,7 @@ pub fn row(
         sequence.len(),
     );
     if let Ruling::Refused(refusal) = lengths {
-        return crossing::refusal_number(refusal);
+        return numbers::refused(refusal);
     }
     row_words(n, made, a, adjacency, weights, inverse, sequence, row)
 }

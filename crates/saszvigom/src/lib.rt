@@ -1,4 +1,5 @@
 // The entries that a host calls with numbers and byte slices. Words cross as two bytes, low first (docs/HOST.md).
+ghost use mathlib.Core.Path.{_≡_};
 ghost use Rattle.residue.specs.Modulus.{modulus, modulus-prime};
 ghost use Rattle.matching.specs.Pairs.{everything};
 ghost use Rattle.matching.specs.Host.{HostOpens, HostOpenedExactly, HostHandles, HostPickedExactly, HostShowsRow, HostReads, HostDraws};
@@ -7,6 +8,15 @@ ghost use Rattle.matching.specs.Replay.{HostReplays, HostDemandThree};
 ghost use Rattle.soundness.specs.Sound.{state};
 ghost use Rattle.opening.specs.Answers.{buffers};
 ghost use Rattle.crossing.specs.Through.{handed-back};
+ghost use Rattle.saszvigom.specs.Version.{version};
+
+// The version of the library: 0.4.0.
+#[no_mangle]
+pub extern "C" fn saszvigom_version() -> u64
+    ensures { λ r. ⌜ r ≡ version ⌝ }
+{
+    1024
+}
 
 // Opens a session: document 01, "Opening", through the host.
 #[no_mangle]

@@ -1,22 +1,22 @@
 -- Reading a sheet over words of which no more are lent than the largest graph needs, and through the host. Assumes nothing.
-use mathlib.Core.Path.{_≡_, refl, sym, ap, _∙_}
+use mathlib.Core.Path.{_≡_, refl, sym, _∙_}
 use mathlib.Core.List.{List}
 use Prim.Native.Nat.{ℕ, _*_, _≤_, _<_}
 use native.Mathlib.Omega.{arith}
 use native.Mathlib.Decide.{decLt}
 use lib.ListN.{length, take, drop, length-append}
 use Rattle.skew.specs.Choose.{choose}
-use Rattle.matching.specs.Decision.{Refusal, absent, at, unless, accepted, refused}
+use Rattle.matching.specs.Decision.{absent, at, unless, accepted}
 use Rattle.matching.specs.Graph.{largest, pair-count}
 use Rattle.matching.specs.Session.{onto}
 use Rattle.matching.specs.Records.{Read, graph-read, not-read, room, Fills, refuses-records, lacks-room, fills}
 use Rattle.matching.specs.Listing.{input-limit}
-use Rattle.matching.specs.Host.{words, bytes-of, read-number, weights-stored, HostReads}
+use Rattle.matching.specs.Host.{words, Bytes, bytes-of, read-number, HostReads}
 use Rattle.laws.specs.Reading.{reads-fit}
 use Rattle.laws.specs.Bounds.{Answers, more-within, fills-answer}
 use Rattle.checks.specs.Weights.{needed, needed-all, needed-small}
 use Rattle.sheet.specs.Filled.{drawn-needed}
-use Rattle.packing.specs.Words.{Bytes, words-length, stored-front}
+use Rattle.laws.specs.Words.{words-length, stored-front}
 
 -- how many weights are stored: none where the sheet is refused
 abbrev pub stored-of : Read → ℕ

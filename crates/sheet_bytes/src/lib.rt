@@ -18,10 +18,8 @@ fn number(read: Read) -> u64
     ensures { λ r. ⌜ r ≡ read-number (read-of read) ⌝ }
 {
     match read {
-        Read::Graph(extent) => {
-            1536 + 65536 * (extent.edges as u64) + 4294967296 * (extent.size as u64)
-        }
-        Read::Refused(why) => crossing::refusal_number(why),
+        Read::Graph(extent) => numbers::carried(6, extent.edges as u64, extent.size as u64),
+        Read::Refused(why) => numbers::refused(why),
     }
 }
 
@@ -86,12 +84,12 @@ pub fn draw(n: usize, seed: u32, weights: &mut [u8]) -> u64
     ensures { λ r. ⌜ HostDraws n seed (now (weights .entry)) r (now (weights .exit)) ⌝ }
 {
     if checks::LARGEST < n {
-        return crossing::refusal_number(Refusal { cause: 1, place: 0 });
+        return numbers::refused(Refusal { cause: 1, place: 0 });
     }
     let count = checks::weights_needed(n);
     if weights.len() / 2 < count {
-        return crossing::refusal_number(Refusal { cause: 2, place: 2 });
+        return numbers::refused(Refusal { cause: 2, place: 2 });
     }
     draw_words(count, seed, weights);
-    1792 + 65536 * (count as u64)
+    numbers::carried(7, count as u64, 0)
 }

@@ -31,7 +31,7 @@ fn entry(t: &[u64], n: usize, i: usize, j: usize) -> u16
         return above(t, n, i, j);
     }
     if j < i {
-        return pivot::negative(above(t, n, j, i) as u64) as u16;
+        return pivot::negative(above(t, n, j, i) as u32) as u16;
     }
     0
 }
@@ -47,7 +47,7 @@ fn write_cross(t: &[u64], n: usize, m: usize, inverse: &mut [u16])
     while k < n {
         let right = above(t, n, m, k);
         inverse[m * n + k] = right;
-        inverse[k * n + m] = pivot::negative(right as u64) as u16;
+        inverse[k * n + m] = pivot::negative(right as u32) as u16;
         k += 1;
     }
 }

@@ -1,12 +1,12 @@
 -- The digits of a number. Assumes nothing.
 use mathlib.Core.Path.{_≡_, refl, sym, ap, _∙_}
 use mathlib.Core.List.{List, [], _∷_, _++_, append-assoc}
-use Prim.Native.Nat.{ℕ, zero, suc, _+_, _*_, _^_, _/_, _%_, _≤_, _<_}
+use Prim.Native.Nat.{ℕ, zero, suc, _+_, _^_, _/_, _%_, _≤_, _<_}
 use native.Mathlib.Nat.{pow-suc, div-lt-iff-lt-mul}
 use native.Mathlib.Decide.{decLt}
 use native.Mathlib.Omega.{arith}
 use lib.ListN.{length}
-use Rattle.skew.specs.Choose.{choose, choose-yes, choose-no}
+use Rattle.skew.specs.Choose.{choose-yes, choose-no}
 use Rattle.matching.specs.Listing.{digits, decimal}
 
 -- no room left, a number of one digit, and one of more

@@ -35,8 +35,8 @@ judge-lengths-requires c κs = search needs
 enum-known-ruling : tie.Need-enum-known-ruling
 enum-known-ruling c = search needs
 
-refusal-number-requires : tie.Need-refusal-number-requires
-refusal-number-requires c κs =
+refused-requires : tie.Need-refused-requires
+refused-requires c κs =
     let at = c .before .before .before in
     handles-small modulus-prime everything {s = unpacked-state (host at)} {c = call-of (start at .args .request)} (unsound _ (refuses at (c .before .ruling .given .1))) .place-below
 
@@ -44,7 +44,7 @@ returns : tie.Need-returns
 returns c =
     let at = c .before .before .before .before in
     let a = start at .args in
-    rw (c .refusal-number .ensures)
+    rw (c .refused .ensures)
     (host-refuses (a .n) (a .made) (a .adjacency .now) (a .weights .now) (a .inverse .now) (a .sequence .now) (call-of (a .request)) (refuses at (c .before .before .ruling .given .1)))
 
 enum-told : tie.Need-enum-told
@@ -72,7 +72,7 @@ handle-spec =
     (tie.spec
     judge-lengths-requires
     enum-known-ruling
-    refusal-number-requires
+    refused-requires
     returns
     enum-told
     call-words-requires

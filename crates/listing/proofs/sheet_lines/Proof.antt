@@ -1,13 +1,12 @@
 -- `listing::sheet_lines` meets its contract: a sheet is refused for its records, or its graph has lines. Assumes nothing.
-use mathlib.Core.Path.{_≡_, sym, ap, _∙_}
+use mathlib.Core.Path.{sym}
 use Prim.Native.Nat.{_*_, _≤_}
 use native.Mathlib.Omega.{arith}
 use borrow.Author.Needs.{needs}
-use lib.ListN.{length, take}
+use lib.ListN.{length}
 use lib.Seq.{length-take-le}
 use Rattle.lists.specs.Table.{square-small}
-use Rattle.checks.specs.Weights.{needed, needed-small}
-use Rattle.sheet.specs.Answers.{read-of}
+use Rattle.checks.specs.Weights.{needed-small}
 use Rattle.text.specs.Lines.{refused-length}
 use Rattle.listing.specs.Sheets.{Sheet, sheet-read, sheet-refused}
 use Rattle.listing.proofs.sheet_lines.Statement.{statement}

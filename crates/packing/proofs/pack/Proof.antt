@@ -7,7 +7,7 @@ use borrow.Author.Needs.{needs}
 use Rattle.lists.specs.Values.{list-of-values}
 use Rattle.lists.specs.Written.{Written, written-start, written-more}
 use Rattle.matching.specs.Host.{bytes-of}
-use Rattle.packing.specs.Words.{bytes-length, bytes-low, bytes-high}
+use Rattle.laws.specs.Words.{bytes-length, bytes-low, bytes-high}
 use Rattle.packing.proofs.pack.Statement.{statement}
 use Rattle.packing.proofs.pack.Tie as tie
 

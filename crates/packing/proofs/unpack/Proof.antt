@@ -7,7 +7,7 @@ use borrow.Author.Needs.{needs}
 use Rattle.lists.specs.Values.{list-of-front}
 use Rattle.lists.specs.Written.{Written, written-start, written-more, written-all}
 use Rattle.matching.specs.Host.{words}
-use Rattle.packing.specs.Words.{words-length, words-at}
+use Rattle.laws.specs.Words.{words-length, words-at}
 use Rattle.packing.proofs.unpack.Statement.{statement}
 use Rattle.packing.proofs.unpack.Tie as tie
 

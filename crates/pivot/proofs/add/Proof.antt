@@ -15,10 +15,10 @@ use Rattle.pivot.proofs.add.Statement.{statement}
 use Rattle.pivot.proofs.add.Tie as tie
 
 abbrev Inv-loop : tie.InvT-loop
-Inv-loop row₀ lo u v a b j₀ row j = Written (plus-two (vector row₀) lo (vector u) (vector v) a b) row₀ row j
+Inv-loop row₀ lo x y a b j₀ row j = Written (plus-two (vector row₀) lo (vector x) (vector y) a b) row₀ row j
 
 abbrev μ-loop : tie.MeasureT-loop
-μ-loop row₀ lo u v a b j₀ row j = length row₀ - j
+μ-loop row₀ lo x y a b j₀ row j = length row₀ - j
 
 none : (a b row u v : ℕ) → a + b ≡ 0 → row ≡ row + (a * u + b * v)
 none a b row u v e = let ea : a ≡ 0 = omega arith in let eb : b ≡ 0 = omega arith in rw (ea, eb) (omega arith)
@@ -32,14 +32,14 @@ product : {a x : ℕ} → a < modulus → x < modulus → Product a x
 product {a} {x} h l = record { same = ap (λ z. a * z) (let e : x % 4294967296 ≡ x = omega arith in e); below = product-below modulus h l }
 
 -- within the loop's body
-u-product : (w : tie.In-loop Inv-loop μ-loop)
-    → Product (w .before .before .before .args .a) (getD (w .before .before .before .args .u .now) (w .before .before .before .args .lo + w .before .loop .j) 0)
-u-product w =
+x-product : (w : tie.In-loop Inv-loop μ-loop)
+    → Product (w .before .before .before .args .a) (getD (w .before .before .before .args .x .now) (w .before .before .before .args .lo + w .before .loop .j) 0)
+x-product w =
     let s = w .before .before .before in product (s .pre .5) (s .pre .3 .at (s .args .lo + w .before .loop .j) (omega arith))
 
-v-product : (w : tie.In-loop Inv-loop μ-loop)
-    → Product (w .before .before .before .args .b) (getD (w .before .before .before .args .v .now) (w .before .before .before .args .lo + w .before .loop .j) 0)
-v-product w =
+y-product : (w : tie.In-loop Inv-loop μ-loop)
+    → Product (w .before .before .before .args .b) (getD (w .before .before .before .args .y .now) (w .before .before .before .args .lo + w .before .loop .j) 0)
+y-product w =
     let s = w .before .before .before in product (s .pre .6) (s .pre .4 .at (s .args .lo + w .before .loop .j) (omega arith))
 
 row-below : (w : tie.In-loop Inv-loop μ-loop) → getD (w .before .loop .row) (w .before .loop .j) 0 < limit
@@ -67,7 +67,7 @@ shared-slice-read-row : tie.Need-shared-slice-read-row Inv-loop μ-loop
 shared-slice-read-row c = search needs
 
 mul-row-2 : tie.Need-mul-row-2 Inv-loop μ-loop
-mul-row-2 c = let h = u-product (c .before) in omega arith
+mul-row-2 c = let h = x-product (c .before) in omega arith
 
 mul-row-3 : tie.Need-mul-row-3 Inv-loop μ-loop
 mul-row-3 c = search needs
@@ -76,10 +76,10 @@ shared-slice-read-row-2 : tie.Need-shared-slice-read-row-2 Inv-loop μ-loop
 shared-slice-read-row-2 c = search needs
 
 mul-row-4 : tie.Need-mul-row-4 Inv-loop μ-loop
-mul-row-4 c = let h = v-product (c .before .before) in omega arith
+mul-row-4 c = let h = y-product (c .before .before) in omega arith
 
 add-row : tie.Need-add-row Inv-loop μ-loop
-add-row c = let h = u-product (c .before .before) in let l = v-product (c .before .before) in omega arith
+add-row c = let h = x-product (c .before .before) in let l = y-product (c .before .before) in omega arith
 
 mul-row-5 : tie.Need-mul-row-5 Inv-loop μ-loop
 mul-row-5 c = search needs
@@ -90,8 +90,8 @@ slice-read-row c = search needs
 add-row-2 : tie.Need-add-row-2 Inv-loop μ-loop
 add-row-2 c =
     let w = c .before .before .before in
-    let h = u-product w in
-    let l = v-product w in
+    let h = x-product w in
+    let l = y-product w in
     omega (arith, row-below w)
 
 slice-write-row : tie.Need-slice-write-row Inv-loop μ-loop
@@ -107,8 +107,8 @@ loop-again : tie.Need-loop-again Inv-loop μ-loop
 loop-again c =
     let w = c .before .before .before in
     let at = w .before .loop in
-    let h = u-product w in
-    let l = v-product w in
+    let h = x-product w in
+    let l = y-product w in
     written-more _ (at .inv) (omega arith) (omega (arith, written-rest (at .inv) (at .j) (le-refl _)))
 
 same-length : tie.Need-same-length Inv-loop μ-loop

@@ -1,4 +1,4 @@
--- `pivot::exchange` meets its contract: it lends room for four columns.
+-- `pivot::exchange` meets its contract: it lends room for two columns.
 -- Assumes nothing.
 use mathlib.Core.Path.{sym}
 use Rattle.lists.specs.Part.{length-part}
@@ -18,25 +18,11 @@ array-borrow-prefix-y c = search needs
 slice-aggregate-exchange-over-2 : tie.Need-slice-aggregate-exchange-over-2
 slice-aggregate-exchange-over-2 c = let s = c .before .before .before .before in sym (length-part (s .args .n) 96 0 (s .pre .table-square .small))
 
-array-borrow-prefix-u : tie.Need-array-borrow-prefix-u
-array-borrow-prefix-u c = search needs
-
-slice-aggregate-exchange-over-3 : tie.Need-slice-aggregate-exchange-over-3
-slice-aggregate-exchange-over-3 c =
-    let s = c .before .before .before .before .before in sym (length-part (s .args .n) 96 0 (s .pre .table-square .small))
-
-array-borrow-prefix-v : tie.Need-array-borrow-prefix-v
-array-borrow-prefix-v c = search needs
-
-slice-aggregate-exchange-over-4 : tie.Need-slice-aggregate-exchange-over-4
-slice-aggregate-exchange-over-4 c =
-    let s = c .before .before .before .before .before .before in sym (length-part (s .args .n) 96 0 (s .pre .table-square .small))
-
 exchange-over-requires : tie.Need-exchange-over-requires
 exchange-over-requires c κs =
-    let s = c .before .before .before .before .before .before in
+    let s = c .before .before .before .before in
     let h = length-part (s .args .n) 96 0 (s .pre .table-square .small) in
-    (s .pre, (h, h, h, h))
+    (s .pre, h, h)
 
 same-length : tie.Need-same-length
 same-length c = search needs
@@ -52,10 +38,6 @@ exchange-spec =
     slice-aggregate-exchange-over
     array-borrow-prefix-y
     slice-aggregate-exchange-over-2
-    array-borrow-prefix-u
-    slice-aggregate-exchange-over-3
-    array-borrow-prefix-v
-    slice-aggregate-exchange-over-4
     exchange-over-requires
     same-length
     returns)

@@ -12,13 +12,10 @@ make-requires c κs = search needs
 invert-requires : tie.Need-invert-requires
 invert-requires c κs = search needs
 
-cast-result : tie.Need-cast-result
-cast-result c = search needs
-
 returns : tie.Need-returns
 returns c =
-    let e : c .before .before .make .result .value ≡ c .before .before .before .args .k = c .before .before .make .ensures ∙ mod-eq-of-lt (c .before .before .before .pre) in
-    (c .before .invert .ensures .0 .below, rw e at (c .before .invert .ensures .0))
+    let e : c .before .make .result .value ≡ c .before .before .args .k = c .before .make .ensures ∙ mod-eq-of-lt (c .before .before .pre) in
+    (c .invert .ensures .0 .below, rw e at (c .invert .ensures .0))
 
 pub reciprocal-spec : {M : Type 1} → statement M
-reciprocal-spec = tie.close (tie.spec make-requires invert-requires cast-result returns)
+reciprocal-spec = tie.close (tie.spec make-requires invert-requires returns)

@@ -29,9 +29,6 @@ mul-t c = let h = room (c .before .before .before) in omega arith
 slice-write-t : tie.Need-slice-write-t
 slice-write-t c = let h = room (c .before .before .before) in omega arith
 
-cast-result : tie.Need-cast-result
-cast-result c = search needs
-
 same-length : tie.Need-same-length
 same-length c = search needs
 
@@ -59,8 +56,14 @@ mul-t-2 c = let h = room (c .before .before .before) in omega arith
 slice-write-t-2 : tie.Need-slice-write-t-2
 slice-write-t-2 c = let h = room (c .before .before .before) in omega arith
 
+cast-negative : tie.Need-cast-negative
+cast-negative c = search needs
+
 negative-requires : tie.Need-negative-requires
 negative-requires c κs = search needs
+
+cast-result : tie.Need-cast-result
+cast-result c = search needs
 
 same-length-2 : tie.Need-same-length-2
 same-length-2 c = search needs
@@ -81,7 +84,6 @@ take-spec =
     slice-read-above
     mul-t
     slice-write-t
-    cast-result
     same-length
     returns
     mul-at-2
@@ -90,6 +92,8 @@ take-spec =
     slice-read-below
     mul-t-2
     slice-write-t-2
+    cast-negative
     negative-requires
+    cast-result
     same-length-2
     returns-2)

@@ -1,6 +1,6 @@
 -- `replay::call` meets its contract: the kind decides. Assumes nothing.
 use borrow.Author.Needs.{needs}
-use Rattle.replay.specs.List.{call-pick, call-automatic, call-undo}
+use Rattle.call_list.specs.List.{call-pick, call-automatic, call-undo}
 use Rattle.replay.proofs.call.Statement.{statement}
 use Rattle.replay.proofs.call.Tie as tie
 

@@ -2,7 +2,7 @@
 use mathlib.Core.Path.{sym}
 use lib.Seq.{length-take-le}
 use borrow.Author.Needs.{needs}
-use Rattle.replay.specs.List.{list-room}
+use Rattle.call_list.specs.List.{list-room}
 use Rattle.replay.specs.Run.{list-first, every-call}
 use Rattle.replay.proofs.refuse.Statement.{statement}
 use Rattle.replay.proofs.refuse.Tie as tie

@@ -8,7 +8,7 @@ use Rattle.matching.specs.Replay.{refuses-list}
 use Rattle.calls.specs.Answers.{handles-fit}
 use Rattle.calls.specs.declared.Answer.the-variants.{Denied}
 use Rattle.calls.specs.Known.{known, not-sound, tables}
-use Rattle.replay.specs.List.{list-room}
+use Rattle.call_list.specs.List.{list-room}
 use Rattle.replay.specs.Run.{replays-follow, replayed-so, refused-so}
 use Rattle.replay.proofs.replay.Statement.{statement}
 use Rattle.replay.proofs.replay.Tie as tie

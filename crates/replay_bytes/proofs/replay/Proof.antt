@@ -1,5 +1,6 @@
 -- `replay_bytes::replay` meets its contract: a refusal for the size or the lengths answers every call, and else words are lent. Assumes nothing.
 use mathlib.Core.Path.{_≡_}
+use native.Mathlib.Omega.{arith}
 use borrow.Author.Needs.{needs}
 use Rattle.residue.specs.Modulus.{modulus, modulus-prime}
 use Rattle.matching.specs.Decision.{because, refused}
@@ -41,12 +42,14 @@ refuse-requires c κs =
     let at = c .before .before .before .before in
     handles-small modulus-prime everything {s = unpacked-state (host at)} {c = automatic} (unsound _ (refuses at (c .before .before .lengths .given .1))) .place-below
 
-number-requires : tie.Need-number-requires
-number-requires c κs =
+ruled-requires : tie.Need-ruled-requires
+ruled-requires c κs =
     let at = c .before .before .before .before .before .before .before in
-    let a = start at .args in
-    host-refuses-all (a .n) (a .made) (a .adjacency .now) (a .weights .now) (a .inverse .now) (a .sequence .now) (a .list .now) (a .answers .now)
-    (refuses at (c .before .before .before .before .before .lengths .given .1)) (c .before .before .refuse .ensures) .0
+    let a = start at .args in (
+      omega arith,
+      host-refuses-all (a .n) (a .made) (a .adjacency .now) (a .weights .now) (a .inverse .now) (a .sequence .now) (a .list .now) (a .answers .now)
+          (refuses at (c .before .before .before .before .before .lengths .given .1)) (c .before .before .refuse .ensures) .0,
+    )
 
 same-length : tie.Need-same-length
 same-length c = search needs
@@ -57,7 +60,7 @@ returns c =
     let a = start at .args in
     let H =
     host-refuses-all (a .n) (a .made) (a .adjacency .now) (a .weights .now) (a .inverse .now) (a .sequence .now) (a .list .now) (a .answers .now)
-    (refuses at (c .before .before .before .before .before .before .lengths .given .1)) (c .before .before .before .refuse .ensures) .1 (c .number .result) (c .number .ensures) in
+    (refuses at (c .before .before .before .before .before .before .lengths .given .1)) (c .before .before .before .refuse .ensures) .1 (c .ruled .result) (c .ruled .ensures 0) in
     (H, host-demand H)
 
 enum-told : tie.Need-enum-told
@@ -91,7 +94,7 @@ replay-spec =
     judge-lengths-requires
     enum-known-lengths
     refuse-requires
-    number-requires
+    ruled-requires
     same-length
     returns
     enum-told

@@ -1,10 +1,10 @@
 -- `replay_bytes::replay_over` meets its contract. Assumes nothing.
-use mathlib.Core.Path.{refl, _∙_}
+use mathlib.Core.Path.{refl}
 use native.Mathlib.Omega.{arith}
 use lib.ListN.{length}
 use borrow.Author.Needs.{needs}
 use Rattle.checks.specs.Answers.{ruling-of}
-use Rattle.replay_bytes.specs.Through.{extent-small, fits-number, size-unseen, replays-small}
+use Rattle.replay_bytes.specs.Through.{extent-small, fits-number, replays-small}
 use Rattle.replay_bytes.proofs.replay_over.Statement.{statement}
 use Rattle.replay_bytes.proofs.replay_over.Tie as tie
 
@@ -21,10 +21,10 @@ store-requires c κs =
     let small = extent-small (ruling-of (replayed .result .ruling)) (length (c .before .before .before .before .before .before .before .before .before .before .before .before .before .before .before .before .before .before .before .before .before .args .table .now)) in
     (omega (arith, told .ensures, small, replayed .kept .1 .1 .1 .0), omega (arith, told .ensures, small, c .before .before .before .before .before .before .before .before .before .before .before .before .before .before .before .before .before .before .before .before .before .pre))
 
-number-requires : tie.Need-number-requires
-number-requires c κs =
+ruled-requires : tie.Need-ruled-requires
+ruled-requires c κs =
     let replayed = c .before .before .before .before .before .before .before .before .before .before .before .before .before .replay in
-    fits-number (ruling-of (replayed .result .ruling)) (record { size = replayed .result .session .size; made = replayed .result .session .made }) (replays-small (replayed .ensures .0))
+    (omega arith, fits-number (ruling-of (replayed .result .ruling)) (record { size = replayed .result .session .size; made = replayed .result .session .made }) (replays-small (replayed .ensures .0)))
 
 same-length : tie.Need-same-length
 same-length c = search needs
@@ -45,7 +45,7 @@ returns c =
       verdict = _;
       left = _;
       outcome = replayed .ensures .0;
-      numbered = c .number .ensures ∙ size-unseen (ruling-of (replayed .result .ruling)) (record { size = replayed .result .session .size; made = replayed .result .session .made });
+      numbered = c .ruled .ensures (replayed .result .session .size);
       stored = rw (c .before .before .before .before .before .before .extent .ensures) at (c .before .before .before .store .ensures);
       sequence = refl;
     }
@@ -57,7 +57,7 @@ replay-over-spec =
     replay-requires
     extent-requires
     store-requires
-    number-requires
+    ruled-requires
     same-length
     same-length-2
     same-length-3

@@ -27,8 +27,8 @@ judge-lengths-requires c κs = search needs
 enum-known-lengths : tie.Need-enum-known-lengths
 enum-known-lengths c = search needs
 
-refusal-number-requires : tie.Need-refusal-number-requires
-refusal-number-requires c κs =
+refused-requires : tie.Need-refused-requires
+refused-requires c κs =
     let at = c .before .before .before in
     let a = start at .args in
     handles-small modulus-prime everything {s = unpacked-state (host at)} {c = automatic}
@@ -38,7 +38,7 @@ returns : tie.Need-returns
 returns c =
     let at = c .before .before .before .before in
     let a = start at .args in
-    rw (c .refusal-number .ensures)
+    rw (c .refused .ensures)
     (host-refuses (host at) (a .a) (a .row .now)
     (lengths-refuse (unpacked-state (host at)) (a .a) (a .row .now)
     (rw (c .before .before .lengths .given .1) at (at .judge-lengths .ensures) ∙ sym (in-words (a .n) (a .made) (a .adjacency .now) (a .weights .now) (a .inverse .now) (a .sequence .now)))))
@@ -65,7 +65,7 @@ row-spec =
     (tie.spec
     judge-lengths-requires
     enum-known-lengths
-    refusal-number-requires
+    refused-requires
     returns
     enum-told
     row-words-requires

@@ -1,16 +1,15 @@
 -- `row_bytes::row_over` meets its contract. Assumes nothing.
-use mathlib.Core.Path.{_∙_}
+use native.Mathlib.Omega.{arith}
 use borrow.Author.Needs.{needs}
-use Rattle.checks.specs.Answers.{ruling-of}
-use Rattle.row_bytes.specs.Through.{size-unseen, shown-fits, state-same}
+use Rattle.row_bytes.specs.Through.{shown-fits, state-same}
 use Rattle.row_bytes.proofs.row_over.Statement.{statement}
 use Rattle.row_bytes.proofs.row_over.Tie as tie
 
 row-requires : tie.Need-row-requires
 row-requires c κs = search needs
 
-number-requires : tie.Need-number-requires
-number-requires c κs = shown-fits _ (c .before .before .before .before .before .before .before .before .before .pre) _ _ (c .before .before .row .ensures)
+ruled-requires : tie.Need-ruled-requires
+ruled-requires c κs = (omega arith, shown-fits _ (c .before .before .before .before .before .before .before .before .before .pre) _ _ (c .before .before .row .ensures))
 
 same-length : tie.Need-same-length
 same-length c = search needs
@@ -22,8 +21,8 @@ returns c =
     record {
       verdict = _;
       outcome = state-same (shown .ensures);
-      numbered = c .number .ensures ∙ size-unseen (ruling-of (shown .result .ruling)) (record { size = a .n; made = a .made });
+      numbered = c .ruled .ensures (a .n);
     }
 
 pub row-over-spec : {M : Type 1} → statement M
-row-over-spec = tie.close (tie.spec row-requires number-requires same-length returns)
+row-over-spec = tie.close (tie.spec row-requires ruled-requires same-length returns)

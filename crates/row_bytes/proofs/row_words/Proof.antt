@@ -8,7 +8,7 @@ use borrow.Author.Needs.{needs}
 use Rattle.lists.specs.Table.{square-small}
 use Rattle.checks.specs.Weights.{needed-small}
 use Rattle.crossing.specs.Needed.{needed-weights}
-use Rattle.crossing.specs.Fit.{needed-words, table-stores}
+use Rattle.crossing.specs.Fit.{needed-words}
 use Rattle.row_bytes.specs.Through.{needed-fits, host-shows}
 use Rattle.row_bytes.proofs.row_words.Statement.{statement}
 use Rattle.row_bytes.proofs.row_words.Tie as tie

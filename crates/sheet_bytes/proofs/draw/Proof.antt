@@ -8,7 +8,7 @@ use Rattle.matching.specs.Graph.{pair-count}
 use Rattle.matching.specs.Session.{onto}
 use Rattle.matching.specs.Host.{bytes-of}
 use Rattle.checks.specs.Weights.{needed-all, needed-small}
-use Rattle.packing.specs.Words.{words-half}
+use Rattle.laws.specs.Words.{words-half}
 use Rattle.sheet_bytes.specs.Drawn.{draws-too-many, draws-too-few, draws-enough}
 use Rattle.sheet_bytes.proofs.draw.Statement.{statement}
 use Rattle.sheet_bytes.proofs.draw.Tie as tie
@@ -16,57 +16,55 @@ use Rattle.sheet_bytes.proofs.draw.Tie as tie
 counted : (c : tie.After-weights-needed) → c .weights-needed .result ≡ pair-count (c .before .before .before .args .n)
 counted c = c .weights-needed .ensures ∙ needed-all (c .before .before .before .args .n) (c .before .if1 .left)
 
-refusal-number-requires : tie.Need-refusal-number-requires
-refusal-number-requires c κs = search needs
+refused-requires : tie.Need-refused-requires
+refused-requires c κs = search needs
 
 returns : tie.Need-returns
-returns c = let then = c .before in draws-too-many _ _ _ (then .if1 .taken) (c .refusal-number .ensures)
+returns c = let then = c .before in draws-too-many _ _ _ (then .if1 .taken) (c .refused .ensures)
 
 weights-needed-requires : tie.Need-weights-needed-requires
 weights-needed-requires c κs = search needs
 
-refusal-number-requires-2 : tie.Need-refusal-number-requires-2
-refusal-number-requires-2 c κs = search needs
+refused-requires-2 : tie.Need-refused-requires-2
+refused-requires-2 c κs = search needs
 
 returns-2 : tie.Need-returns-2
 returns-2 c =
     let count = c .before .before in
     let start = count .before .before .before in
     let small = count .before .if1 .left in
-    draws-too-few _ _ _ small (omega (arith, c .before .if2 .taken, words-half (start .args .weights .now), counted count)) (c .refusal-number2 .ensures)
+    draws-too-few _ _ _ small (omega (arith, c .before .if2 .taken, words-half (start .args .weights .now), counted count)) (c .refused2 .ensures)
 
 draw-words-requires : tie.Need-draw-words-requires
 draw-words-requires c κs =
     let count = c .before .before in
     (omega (arith, count .weights-needed .ensures, needed-small (count .before .before .before .args .n)), omega (arith, c .before .if2 .left))
 
-mul-result : tie.Need-mul-result
-mul-result c = let count = c .before .before .before .before .before in omega (arith, count .weights-needed .ensures, needed-small (count .before .before .before .args .n))
-
-add-result : tie.Need-add-result
-add-result c = let count = c .before .before .before .before .before in omega (arith, count .weights-needed .ensures, needed-small (count .before .before .before .args .n))
+carried-requires : tie.Need-carried-requires
+carried-requires c κs =
+    let count = c .before .before .before .before .before in
+    (omega arith, omega (arith, count .weights-needed .ensures, needed-small (count .before .before .before .args .n)), omega arith)
 
 same-length : tie.Need-same-length
 same-length c = search needs
 
 returns-3 : tie.Need-returns-3
 returns-3 c =
-    let count = c .before .before .before .before .before in
+    let count = c .before .before .before .before .before .before in
     let start = count .before .before .before in
-    draws-enough _ _ _ (count .before .if1 .left) (omega (arith, c .before .before .before .before .if2 .left, words-half (start .args .weights .now), counted count)) (omega (arith, counted count))
-    (c .before .before .draw-words .ensures ∙ ap (λ (k : ℕ). onto (bytes-of (draws (start .args .seed) k)) (start .args .weights .now)) (counted count))
+    draws-enough _ _ _ (count .before .if1 .left) (omega (arith, c .before .before .before .before .before .if2 .left, words-half (start .args .weights .now), counted count)) (c .carried .ensures ∙ omega (arith, counted count))
+    (c .before .before .before .draw-words .ensures ∙ ap (λ (k : ℕ). onto (bytes-of (draws (start .args .seed) k)) (start .args .weights .now)) (counted count))
 
 pub draw-spec : {M : Type 1} → statement M
 draw-spec =
     tie.close
     (tie.spec
-    refusal-number-requires
+    refused-requires
     returns
     weights-needed-requires
-    refusal-number-requires-2
+    refused-requires-2
     returns-2
     draw-words-requires
-    mul-result
-    add-result
+    carried-requires
     same-length
     returns-3)

@@ -5,7 +5,7 @@ use native.Mathlib.Omega.{arith}
 use borrow.Author.Needs.{needs}
 use lib.ListN.{length, length-replicate}
 use Rattle.lists.specs.Part.{length-part}
-use Rattle.packing.specs.Words.{words-half}
+use Rattle.laws.specs.Words.{words-half}
 use Rattle.sheet_bytes.proofs.read_words.Statement.{statement}
 use Rattle.sheet_bytes.proofs.read_words.Tie as tie
 

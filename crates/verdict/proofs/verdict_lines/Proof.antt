@@ -9,7 +9,6 @@ use Rattle.lists.specs.Table.{square-small}
 use Rattle.residue.specs.Modulus.{modulus}
 use Rattle.matching.specs.Graph.{over}
 use Rattle.laws.specs.Sound.{opening-accepted}
-use Rattle.opening.specs.Answers.{opening-of}
 use Rattle.text.specs.Puts.{puts-then, puts-length}
 use Rattle.verdict.specs.Lines.{none, fresh, kernel, not-refused}
 use Rattle.verdict.proofs.verdict_lines.Statement.{statement}

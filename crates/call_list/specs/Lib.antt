@@ -1,0 +1,2 @@
+-- What the contracts cite, with its laws.
+pub mod List

@@ -1,0 +1,64 @@
+// A list of calls as numbers, three a call: whether it is in order.
+use checks::Finding;
+use checks::Refusal;
+use checks::Ruling;
+ghost use mathlib.Core.Path.{_≡_};
+ghost use Prim.Native.Nat.{_*_, _≤_};
+ghost use lib.ListN.{length};
+ghost use Rattle.matching.specs.Replay.{place-of, list-ruling};
+ghost use Rattle.checks.specs.Answers.{ruling-of, Finds};
+ghost use Rattle.call_list.specs.List.{Unknown};
+
+// The index of the first call that is of no kind.
+fn first_unknown(list: &[u64], count: usize) -> Finding
+    requires { ⌜ 3 * count ≤ length (now list) ⌝ }
+    ensures { λ r. ⌜ Finds count (Unknown (now (list .entry))) r ⌝ }
+{
+    let mut i = 0;
+    while i < count {
+        let kind = list[3 * i];
+        if kind == 0 {
+            return Finding::At(i);
+        }
+        if 3 < kind {
+            return Finding::At(i);
+        }
+        i += 1;
+    }
+    Finding::Absent
+}
+
+// An index as a place of 16 bits.
+fn place(i: usize) -> usize
+    ensures { λ r. ⌜ r ≡ place-of i ⌝ }
+{
+    if i < 65535 { i } else { 65535 }
+}
+
+// Whether there is room for the answers, every call is of a kind, and the list ends with a whole call.
+pub fn judge(list: &[u64], room: usize) -> Ruling
+    ensures { λ r. ⌜ ruling-of r ≡ list-ruling (now (list .entry)) room ⌝ }
+{
+    let count = list.len() / 3;
+    if room < count {
+        return Ruling::Refused(Refusal {
+            cause: 2,
+            place: 10,
+        });
+    }
+    if let Finding::At(i) = first_unknown(list, count) {
+        let at = place(i);
+        return Ruling::Refused(Refusal {
+            cause: 12,
+            place: at,
+        });
+    }
+    if list.len() % 3 != 0 {
+        let at = place(count);
+        return Ruling::Refused(Refusal {
+            cause: 13,
+            place: at,
+        });
+    }
+    Ruling::Accepted
+}

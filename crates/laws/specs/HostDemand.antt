@@ -1,0 +1,205 @@
+-- Demand 3 through the host by single calls: what opening stores is sound when it is read back, and every call is given the words that the
+-- last one left. Assumes nothing.
+use mathlib.Core.Path.{_≡_, refl, sym, ap, ap₂, _∙_}
+use mathlib.Core.Logic.{_≢_}
+use mathlib.Core.List.{List, [], _∷_, map}
+use Prim.Native.Nat.{ℕ, zero, suc, _^_, _≤_}
+use native.Mathlib.Omega.{arith}
+use lib.ListN.{length, replicate}
+use Rattle.modular.specs.Prime.{OddPrime}
+use Rattle.skew.specs.Subset.{Subset}
+use Rattle.matching.specs.Decision.{At, accepted}
+use Rattle.matching.specs.Graph.{over}
+use Rattle.matching.specs.Pairs.{unused, sequence}
+use Rattle.matching.specs.Session.{session, State, onto}
+use Rattle.matching.specs.Causes.{session-ruling}
+use Rattle.matching.specs.Opening.{Opening, opened, singular, not-opened, Buffers, Opens, opens, opened-state}
+use Rattle.matching.specs.Model.{Call, Answer, done, denied}
+use Rattle.matching.specs.Calls.{Returned, state-after, Handles, unsound, refuses, carries, Runs, none, more}
+use Rattle.matching.specs.Host.{words, bytes-of, Bytes, cause-in, kind-in, unpacked, opening-number, answer-number, session-back, unpacked-state, stored-over, state-stored, stored-after, HostOpens, HostHandles}
+use Rattle.matching.specs.HostRuns.{HostReturned, host-after, host-opened-state, HostRuns, host-none, host-more, HostOnWords, HostDemandByCalls}
+use Rattle.laws.specs.Onto.{onto-length, onto-again}
+use Rattle.laws.specs.Words.{bytes-length, stored-words, read-words, stored-bytes}
+use Rattle.laws.specs.Sound.{opening-accepted, session-accepted}
+use Rattle.laws.specs.Fresh.{opened-sound, demand-three}
+use Rattle.laws.specs.Numbers.{opens-small, kind-field, SmallAnswer, answer-low-byte, handles-small, host-handles-some, host-handles-unique, host-session}
+
+module _ {p : ℕ} (P : OddPrime p) (S : Subset) (narrow : p ≤ 2 ^ 16) where
+  -- what a call stores is read back
+  read-back : (s : State) {left : State} {c : Call} {a : Answer} → Bytes (s .inverse) → Handles P S (unpacked-state s) c a left
+      → unpacked-state (state-stored a left s) ≡ left
+  read-back s B (unsound r e) = refl
+  read-back s B (refuses r e k) = refl
+  read-back s B (carries x pairs table e k l I) =
+      let room = session-accepted p S (unpacked-state s) .0 e .0 .1 .1 .0 in
+      ap (λ i. record {
+        session = session (s .session .size) pairs;
+        adjacency = s .adjacency;
+        weights = words (s .weights);
+        inverse = i;
+        sequence = onto (sequence (s .session .size) pairs) (s .sequence);
+      })
+      (read-words table (s .inverse) B (omega arith) (λ x h. omega (arith, I .small x (omega arith))))
+
+  -- the inverse's words are as many after every call
+  as-long : {s left : State} {c : Call} {a : Answer} → Handles P S s c a left → length (left .inverse) ≡ length (s .inverse)
+  as-long (unsound r e) = refl
+  as-long (refuses r e k) = refl
+  as-long {s} (carries x pairs table e k l I) =
+      let room = session-accepted p S s .0 e .0 .1 .1 .0 in onto-length table (s .inverse) (omega arith)
+
+  run-long : {s : State} {calls : List Call} {made : List Returned} → Runs P S s calls made → (k : ℕ)
+      → length (state-after s made k .inverse) ≡ length (s .inverse)
+  unfolding state-after
+  run-long none zero = refl
+  run-long none (suc k) = refl
+  run-long (more h rest) zero = refl
+  run-long (more h rest) (suc k) = run-long rest k ∙ as-long h
+
+  -- the words of a state, stored over its own bytes
+  own : (s : State) → Bytes (s .inverse) → s ≡ stored-over (unpacked-state s) s
+  unfolding bytes-of
+  own s B =
+      ap (λ i. record { session = s .session; adjacency = s .adjacency; weights = s .weights; inverse = i; sequence = s .sequence })
+      (sym (stored-words [] (s .inverse) B (omega arith)))
+
+  -- and over those that a call left
+  over-left : (a : Answer) (left s t : State) → length (t .inverse) ≡ length (left .inverse) → stored-over t (state-stored a left s) ≡ stored-over t s
+  over-left (denied r) left s t q = refl
+  over-left (done x) left s t q =
+      ap (λ i. record { session = t .session; adjacency = s .adjacency; weights = s .weights; inverse = i; sequence = t .sequence })
+      (onto-again (bytes-of (left .inverse)) (bytes-of (t .inverse)) (s .inverse) (omega (arith, bytes-length (t .inverse), bytes-length (left .inverse))))
+
+  left-bytes : (a : Answer) (left s : State) → Bytes (s .inverse) → length (left .inverse) ≡ length (words (s .inverse))
+      → Bytes (state-stored a left s .inverse)
+  left-bytes (denied r) left s B e = B
+  left-bytes (done x) left s B e = stored-bytes (left .inverse) (s .inverse) B (omega arith)
+
+  module _ (s : State) {c : Call} (r : HostReturned) (B : Bytes (s .inverse)) (H : HostHandles P S s c (r .answer) (r .state)) where
+    next-bytes : Bytes (r .state .inverse)
+    next-bytes = rw (H .stored) (left-bytes (H .given) (H .left) s B (as-long (H .outcome)))
+
+    next-words : unpacked-state (r .state) ≡ H .left
+    next-words = ap unpacked-state (H .stored) ∙ read-back s B (H .outcome)
+
+    next-refused : cause-in (r .answer) ≢ 0 → r .state ≡ s
+    next-refused d = H .stored ∙ go (H .given) (handles-small P S (H .outcome)) (H .numbered)
+      where
+        go : (a : Answer) → SmallAnswer a → r .answer ≡ answer-number a (H .left .session) → state-stored a (H .left) s ≡ s
+        go (denied _) f e = refl
+        go (done x) f e = absurd (d (ap cause-in e ∙ answer-low-byte (done x) (H .left .session) f))
+
+    -- a call before others
+    one-more : {calls : List Call} {later : List HostReturned} (on-words : List Returned) → HostOnWords P S (r .state) calls later on-words
+        → HostOnWords P S s (c ∷ calls) (r ∷ later) (record { answer = H .given; state = H .left } ∷ on-words)
+    unfolding state-after host-after At
+    one-more {calls} {later} on-words F = record {
+      runs = more (H .outcome) runs;
+      answers-are = ap₂ _∷_ (H .numbered) (F .answers-are);
+      states-are = states;
+      sessions-are = sessions;
+      refused-same = same;
+    }
+      where
+        runs : Runs P S (H .left) calls on-words
+        runs = rw next-words at (F .runs)
+
+        states : (k : ℕ) → host-after s (r ∷ later) k ≡ stored-over (state-after (unpacked-state s) (record { answer = H .given; state = H .left } ∷ on-words) k) s
+        states zero = own s B
+        states (suc k) =
+            F .states-are k
+            ∙ ap₂ (λ t u. stored-over (state-after t on-words k) u) next-words (H .stored)
+            ∙ over-left (H .given) (H .left) s (state-after (H .left) on-words k) (run-long runs k)
+
+        sessions : (k answer : ℕ) → At (map (λ (x : HostReturned). x .answer) (r ∷ later)) k answer
+            → host-after s (r ∷ later) (suc k) .session ≡ session-back answer (host-after s (r ∷ later) k .session)
+        sessions zero answer e = rw (← e) (host-session P S H)
+        sessions (suc k) answer e = F .sessions-are k answer e
+
+        same : (k answer : ℕ) → At (map (λ (x : HostReturned). x .answer) (r ∷ later)) k answer → cause-in answer ≢ 0
+            → host-after s (r ∷ later) (suc k) ≡ host-after s (r ∷ later) k
+        same zero answer e d = next-refused (λ z. d (ap cause-in (sym e) ∙ z))
+        same (suc k) answer e d = F .refused-same k answer e d
+
+  -- calls through the host are calls on the words of its bytes
+  pub host-on-words : (s : State) {calls : List Call} {returned : List HostReturned} → Bytes (s .inverse) → HostRuns P S s calls returned
+      → (on-words : List Returned) × HostOnWords P S s calls returned on-words
+  unfolding state-after host-after At
+  host-on-words s B host-none = (
+    [],
+    record {
+      runs = none;
+      answers-are = refl;
+      states-are = states;
+      sessions-are = λ k answer e. absurd e;
+      refused-same = λ k answer e. absurd e;
+    },
+  )
+    where
+      states : (k : ℕ) → host-after s [] k ≡ stored-over (state-after (unpacked-state s) [] k) s
+      states zero = own s B
+      states (suc k) = own s B
+  host-on-words s B (host-more {r = r} H rest) =
+      let F = host-on-words (r .state) (next-bytes s r B H) rest in (_, one-more s r B H (F .0) (F .1))
+
+  module _ (n : ℕ) (adjacency weights : List ℕ) where
+    -- an opening of kind 1 is one with an inverse, which is read back
+    record Back (b buffers : Buffers) (o : Opening) : Type 0 where
+      is : o ≡ opened (session n [])
+      bytes : Bytes (stored-after o buffers b .inverse)
+      read :
+          unpacked-state (host-opened-state n adjacency weights (opening-number o) (stored-after o buffers b)) ≡ opened-state (over n adjacency (words weights)) (session n []) buffers
+
+    back : (b buffers : Buffers) (o : Opening) → Bytes (b .inverse) → Opens p (over n adjacency (words weights)) S (unpacked b) o buffers
+        → kind-in (opening-number o) ≡ 1 → Back b buffers o
+    back b _ (opened _) B (opens table e l I) k =
+        let room = opening-accepted p (over n adjacency (words weights)) (length (words (b .inverse))) (length (b .sequence)) (length (words (b .witness))) (length (words (b .work))) .0 e .0 .1 .1 .0 in
+        record {
+          is = refl;
+          bytes = stored-bytes (onto table (words (b .inverse))) (b .inverse) B (omega (arith, onto-length table (words (b .inverse)) (omega arith)));
+          read =
+              ap (λ i. record { session = session n []; adjacency = adjacency; weights = words weights; inverse = i; sequence = onto (replicate n unused) (b .sequence) })
+              (read-words table (b .inverse) B (omega arith) (λ x h. omega (arith, I .small x (omega arith))));
+        }
+    back b buffers (singular f) B O k = absurd (omega (arith, k, kind-field 0 2 f 0 (omega arith) (omega arith) (opens-small O)))
+    back b buffers (not-opened r) B O k =
+        let small = opens-small O in
+        absurd (omega (arith, k, kind-field (r .cause) 0 (r .place) 0 (small .cause-below) (omega arith) (small .place-below)))
+
+    module _ (b after : Buffers) (answer : ℕ) (B : Bytes (b .inverse)) (H : HostOpens p n adjacency weights S b answer after) (k : kind-in answer ≡ 1) where
+      h : Back b (H .buffers) (H .opening)
+      h = back b (H .buffers) (H .opening) B (H .outcome) (rw (H .numbered) at k)
+
+      read : unpacked-state (host-opened-state n adjacency weights answer after) ≡ opened-state (over n adjacency (words weights)) (session n []) (H .buffers)
+      read = ap₂ (λ k a. unpacked-state (host-opened-state n adjacency weights k a)) (H .numbered) (H .stored) ∙ h .read
+
+      opens-words : Opens p (over n adjacency (words weights)) S (unpacked b) (opened (session n [])) (H .buffers)
+      opens-words = rw (h .is) at (H .outcome)
+
+      -- bytes that opening left with kind 1 are sound when they are read back
+      pub host-opened-sound : session-ruling p S (unpacked-state (host-opened-state n adjacency weights answer after)) ≡ accepted
+      host-opened-sound = rw read (opened-sound P (over n adjacency (words weights)) S opens-words .0)
+
+    -- demand 3 for every list of single calls
+    pub host-demand : HostDemandByCalls P S n adjacency weights
+    host-demand b after answer B H k calls returned R =
+        let e = read b after answer B H k in
+        let M = host-on-words (host-opened-state n adjacency weights answer after) (rw (H .stored) (h b after answer B H k .bytes)) R in
+        let F = demand-three P (over n adjacency (words weights)) S (unpacked b) (H .buffers) (session n []) (opens-words b after answer B H k) calls (M .0) (rw e at (M .1 .runs)) in
+        (M .0, M .1, rw e F)
+
+module _ {p : ℕ} (P : OddPrime p) (S : Subset) where
+  -- every list of single calls has a run, and no other
+  pub host-runs-some : (s : State) (calls : List Call) → (returned : List HostReturned) × HostRuns P S s calls returned
+  host-runs-some s [] = ([], host-none)
+  host-runs-some s (c ∷ calls) =
+      let h = host-handles-some P S s c in
+      let r = host-runs-some (h .1) calls in
+      (record { answer = h .0; state = h .1 } ∷ r .0, host-more (h .2) (r .1))
+
+  pub host-runs-unique : {s : State} {calls : List Call} {a b : List HostReturned} → HostRuns P S s calls a → HostRuns P S s calls b → a ≡ b
+  host-runs-unique host-none host-none = refl
+  host-runs-unique (host-more {r = x} h rest) (host-more {r = y} h′ rest′) =
+      let u = host-handles-unique P S h h′ in
+      let q : x ≡ y = ap₂ (λ k s. record { answer = k; state = s }) (u .0) (u .1) in
+      ap₂ (λ r later. r ∷ later) q (host-runs-unique rest (rw (← u .1) at rest′))

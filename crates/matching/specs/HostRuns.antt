@@ -1,0 +1,68 @@
+-- A list of single calls through the host, and demand 3 of it. Proved in laws (HostDemand). Assumes nothing.
+use mathlib.Core.Path.{_≡_}
+use mathlib.Core.Logic.{_≢_}
+use mathlib.Core.List.{List, [], _∷_, map}
+use Prim.Native.Nat.{ℕ, zero, suc}
+use Rattle.modular.specs.Prime.{OddPrime}
+use Rattle.skew.specs.Subset.{Subset}
+use Rattle.matching.specs.Decision.{At}
+use Rattle.matching.specs.Graph.{over}
+use Rattle.matching.specs.Session.{State}
+use Rattle.matching.specs.Opening.{Buffers}
+use Rattle.matching.specs.Model.{Call}
+use Rattle.matching.specs.Calls.{Returned, state-after, Runs}
+use Rattle.matching.specs.Demand.{FollowsModel}
+use Rattle.matching.specs.Replay.{numbers-of}
+use Rattle.matching.specs.Host.{words, Bytes, cause-in, kind-in, made-in, session-back, unpacked-state, stored-over, HostOpens, HostHandles}
+
+-- what a call through the host returns: its number, and the host's state then, whose weights and inverse are bytes
+pub record HostReturned : Type 0 where
+  pub answer : ℕ
+  pub state : State
+
+-- the host's state after the first k of the calls that returned these
+unfoldable pub host-after : State → List HostReturned → ℕ → State
+host-after s returned zero = s
+host-after s [] (suc k) = s
+host-after s (r ∷ later) (suc k) = host-after (r .state) later k
+
+-- the host's state after an opening: the session of its number, the tables that were lent, and the bytes that it left
+abbrev pub host-opened-state : ℕ → (adjacency weights : List ℕ) → (answer : ℕ) → Buffers → State
+host-opened-state n adjacency weights answer b = record {
+  session = record { size = n; made = made-in answer };
+  adjacency = adjacency;
+  weights = weights;
+  inverse = b .inverse;
+  sequence = b .sequence;
+}
+
+module _ {p : ℕ} (P : OddPrime p) (S : Subset) where
+  -- single calls through the host; each is given the state that the last one left
+  pub data HostRuns : State → List Call → List HostReturned → Type 0 where
+    host-none : {s : State} → HostRuns s [] []
+    host-more : {s : State} {c : Call} {calls : List Call} {r : HostReturned} {later : List HostReturned} → HostHandles P S s c (r .answer) (r .state)
+        → HostRuns (r .state) calls later → HostRuns s (c ∷ calls) (r ∷ later)
+
+  -- they are calls on the words of its bytes, which returned `on-words`
+  pub record HostOnWords (s : State) (calls : List Call) (returned : List HostReturned) (on-words : List Returned) : Type 0 where
+    pub runs : Runs P S (unpacked-state s) calls on-words
+    -- the numbers are theirs
+    pub answers-are : map (λ (r : HostReturned). r .answer) returned ≡ numbers-of on-words
+    -- and so is every byte after every call: the words, stored over the bytes of s
+    pub states-are : (k : ℕ) → host-after s returned k ≡ stored-over (state-after (unpacked-state s) on-words k) s
+    -- the session is the one that the number hands back
+    pub sessions-are : (k answer : ℕ) → At (map (λ (r : HostReturned). r .answer) returned) k answer
+        → host-after s returned (suc k) .session ≡ session-back answer (host-after s returned k .session)
+    -- a call whose number has a cause changes nothing
+    pub refused-same : (k answer : ℕ) → At (map (λ (r : HostReturned). r .answer) returned) k answer → cause-in answer ≢ 0
+        → host-after s returned (suc k) ≡ host-after s returned k
+
+  -- demand 3 through the host: after every opening whose number has kind 1, for every list of single calls. Where the states of the words are
+  -- equal, as after a take-back and before its pick, so are those of the bytes. A residue fits a word: p is at most 2^16 in the law
+  abbrev pub HostDemandByCalls : ℕ → (adjacency weights : List ℕ) → Type 0
+  HostDemandByCalls n adjacency weights =
+      (b after : Buffers) (answer : ℕ) → Bytes (b .inverse) → HostOpens p n adjacency weights S b answer after → kind-in answer ≡ 1
+      → (calls : List Call) (returned : List HostReturned) → HostRuns (host-opened-state n adjacency weights answer after) calls returned
+      → (on-words : List Returned)
+      × HostOnWords (host-opened-state n adjacency weights answer after) calls returned on-words
+      × FollowsModel P (over n adjacency (words weights)) S [] calls (unpacked-state (host-opened-state n adjacency weights answer after)) on-words

@@ -1,0 +1,36 @@
+// The one number that the host is answered, by its bits (docs/HOST.md).
+use checks::Refusal;
+use checks::Ruling;
+ghost use mathlib.Core.Path.{_≡_};
+ghost use Prim.Native.Nat.{ℕ, _<_, _^_};
+ghost use Rattle.matching.specs.Decision.{because};
+ghost use Rattle.matching.specs.Host.{number, refusal-number, ruled-number};
+ghost use Rattle.checks.specs.Answers.{ruling-of};
+ghost use Rattle.numbers.specs.Fits.{FitsNumber};
+
+// The number of a call that was carried out: the kind of answer, its value, and the pairs made. For proved callers.
+pub fn carried(kind: u64, value: u64, made: u64) -> u64
+    requires { ⌜ (kind < 2 ^ 8) × (value < 2 ^ 16) × (made < 2 ^ 8) ⌝ }
+    ensures { λ r. ⌜ r ≡ number 0 kind value made ⌝ }
+{
+    256 * kind + 65536 * value + 4294967296 * made
+}
+
+// The number of a refusal. For proved callers.
+pub fn refused(refusal: Refusal) -> u64
+    requires { ⌜ refusal .place < 2 ^ 16 ⌝ }
+    ensures { λ r. ⌜ r ≡ refusal-number (because (refusal .cause) (refusal .place)) ⌝ }
+{
+    refusal.cause as u64 + 65536 * (refusal.place as u64)
+}
+
+// The number of a call of a kind that has no value, with the pairs made, or of its refusal. For proved callers.
+pub fn ruled(kind: u64, ruling: Ruling, made: usize) -> u64
+    requires { ⌜ (kind < 2 ^ 8) × FitsNumber (ruling-of ruling) made ⌝ }
+    ensures { λ r. ⌜ ((n : ℕ) → r ≡ ruled-number kind (ruling-of ruling) (record { size = n; made = made })) ⌝ }
+{
+    match ruling {
+        Ruling::Accepted => carried(kind, 0, made as u64),
+        Ruling::Refused(refusal) => refused(refusal),
+    }
+}

@@ -1,2 +1,0 @@
--- Laws of words as bytes.
-pub mod Words

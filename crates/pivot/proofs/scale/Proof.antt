@@ -1,0 +1,81 @@
+-- `pivot::scale` meets its contract: the words before k are multiplied and reduced.
+-- Assumes nothing.
+use mathlib.Core.Path.{_≡_, ap}
+use Prim.Native.Nat.{_*_, _-_, _%_, _<_}
+use native.Mathlib.Nat.{le-refl}
+use native.Mathlib.Omega.{arith}
+use lib.ListN.{length, getD}
+use Rattle.lists.specs.Written.{Written, written-start, written-more, written-rest}
+use Rattle.lists.specs.Table.{vector}
+use Rattle.modular.specs.Product.{product-below}
+use Rattle.residue.specs.Modulus.{modulus}
+use Rattle.pivot.specs.Words.{scaled, words-written}
+use borrow.Author.Needs.{needs}
+use Rattle.pivot.proofs.scale.Statement.{statement}
+use Rattle.pivot.proofs.scale.Tie as tie
+
+abbrev Inv-loop : tie.InvT-loop
+Inv-loop x₀ h k₀ x k = Written (scaled h (vector x₀)) x₀ x k
+
+abbrev μ-loop : tie.MeasureT-loop
+μ-loop x₀ h k₀ x k = length x₀ - k
+
+-- the word at k is as it was, and its lower half is all of it
+word : (w : tie.After-slice-known Inv-loop μ-loop)
+    → (getD (w .before .before .loop .x) (w .before .before .loop .k) 0 % 65536 ≡ getD (w .before .before .before .args .x .now) (w .before .before .loop .k) 0)
+    × (getD (w .before .before .before .args .x .now) (w .before .before .loop .k) 0 < modulus)
+word w =
+    let at = w .before .before .loop in
+    let b : getD (w .before .before .before .args .x .now) (at .k) 0 < modulus = w .before .before .before .pre .0 .at (at .k) (omega arith) in
+    (omega (arith, written-rest (at .inv) (at .k) (le-refl _)), b)
+
+loop-holds : tie.Need-loop-holds Inv-loop μ-loop
+loop-holds c = written-start _ _
+
+mul-x : tie.Need-mul-x Inv-loop μ-loop
+mul-x c = search needs
+
+slice-read-x : tie.Need-slice-read-x Inv-loop μ-loop
+slice-read-x c = search needs
+
+mul-x-2 : tie.Need-mul-x-2 Inv-loop μ-loop
+mul-x-2 c = rw (word c .0) (omega (arith, product-below modulus (word c .1) (c .before .before .before .pre .1)))
+
+mul-x-3 : tie.Need-mul-x-3 Inv-loop μ-loop
+mul-x-3 c = search needs
+
+slice-write-x : tie.Need-slice-write-x Inv-loop μ-loop
+slice-write-x c = search needs
+
+add-k : tie.Need-add-k Inv-loop μ-loop
+add-k c = search needs
+
+loop-less : tie.Need-loop-less Inv-loop μ-loop
+loop-less c = search needs
+
+loop-again : tie.Need-loop-again Inv-loop μ-loop
+loop-again c = written-more _ (c .before .before .loop .inv) (omega arith) (ap (λ z. (z * c .before .before .before .args .h) % modulus) (word c .0))
+
+same-length : tie.Need-same-length Inv-loop μ-loop
+same-length c = c .before .loop .inv .size
+
+returns : tie.Need-returns Inv-loop μ-loop
+returns c = words-written (c .before .loop .inv) (omega arith)
+
+pub scale-spec : {M : Type 1} → statement M
+scale-spec =
+    tie.close
+    (tie.spec
+    Inv-loop
+    μ-loop
+    loop-holds
+    mul-x
+    slice-read-x
+    mul-x-2
+    mul-x-3
+    slice-write-x
+    add-k
+    loop-less
+    loop-again
+    same-length
+    returns)
