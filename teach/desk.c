@@ -470,16 +470,7 @@ static int hold_streams(void)
     return 1;
 }
 
-static sigset_t interrupts; /* what interrupts a person's line */
-
-static void interrupt(int signal_number)
-{
-    (void)signal_number;
-    interrupted = 1;
-}
-
-/* A failed write is told by its answer. Where a person types, an interrupt gives
-   up the line that is read, and waits while a command is carried out. */
+/* A failed write is told by its answer, not by a signal. */
 static void set_signals(void)
 {
     struct sigaction action;
@@ -488,26 +479,8 @@ static void set_signals(void)
     action.sa_handler = SIG_IGN;
     sigaction(SIGXFSZ, &action, NULL);
     sigaction(SIGPIPE, &action, NULL);
-    sigemptyset(&interrupts);
-    if (person) {
-        sigaddset(&interrupts, SIGINT);
-        sigaddset(&interrupts, SIGQUIT);
-        sigprocmask(SIG_BLOCK, &interrupts, NULL);
-        action.sa_handler = interrupt; /* no SA_RESTART: the read is to end */
-        sigaction(SIGINT, &action, NULL);
-        sigaction(SIGQUIT, &action, NULL);
-    }
-}
-
-/* Reads a command, which may be interrupted. */
-static enum reading read_command(struct line *line)
-{
-    sigprocmask(SIG_UNBLOCK, &interrupts, NULL);
-    const enum reading result = read_line(stdin, line);
-    const int error = errno;
-    sigprocmask(SIG_BLOCK, &interrupts, NULL);
-    errno = error;
-    return result;
+    if (person)
+        allow_interrupts();
 }
 
 /* Whether what was printed could be written; said once if not. */
@@ -533,7 +506,7 @@ static int serve(void)
             printf("> ");
         if (!written())
             return 0;
-        switch (read_command(&line)) {
+        switch (read_line(stdin, &line)) {
         case READ_FAILED:
             fprintf(stderr, "desk: cannot read the commands: %s\n", strerror(errno));
             return 0;

@@ -4,21 +4,66 @@
 
 #include <errno.h>
 #include <poll.h>
+#include <signal.h>
 #include <string.h>
+#include <sys/select.h>
+#include <unistd.h>
 
 #define LINE_COLUMNS 160
 #define WORD_COLUMNS 40
 
-volatile sig_atomic_t interrupted;
+static int interruptible; /* whether a line of stdin can be given up */
+static volatile sig_atomic_t interrupted;
+static sigset_t blocked; /* while a byte is awaited */
+
+static void interrupt(int signal_number)
+{
+    (void)signal_number;
+    interrupted = 1;
+}
+
+void allow_interrupts(void)
+{
+    struct sigaction action;
+    memset(&action, 0, sizeof action);
+    sigemptyset(&action.sa_mask);
+    action.sa_handler = interrupt;
+    sigset_t held;
+    sigemptyset(&held);
+    sigaddset(&held, SIGINT);
+    sigaddset(&held, SIGQUIT);
+    sigprocmask(SIG_BLOCK, &held, &blocked);
+    sigdelset(&blocked, SIGINT);
+    sigdelset(&blocked, SIGQUIT);
+    sigaction(SIGINT, &action, NULL);
+    sigaction(SIGQUIT, &action, NULL);
+    setvbuf(stdin, NULL, _IONBF, 0); /* every byte is awaited */
+    interruptible = 1;
+}
+
+/* Waits until stdin can be read; 0 if an interrupt comes first. */
+static int await_byte(void)
+{
+    while (!interrupted) {
+        fd_set input;
+        FD_ZERO(&input);
+        FD_SET(STDIN_FILENO, &input);
+        if (pselect(STDIN_FILENO + 1, &input, NULL, NULL, NULL, &blocked) > 0 || errno != EINTR)
+            return 1;
+    }
+    return 0;
+}
 
 /* The next byte. EOF at the end of the file, after an error, which is left in
    errno, and after an interrupt. */
 static int next_byte(FILE *file)
 {
     for (;;) {
+        if (interruptible && file == stdin && !await_byte())
+            return EOF;
         errno = 0;
         const int c = getc(file);
-        if (c != EOF || !ferror(file) || interrupted)
+        if (c != EOF || !ferror(file))
             return c;
         if (errno == EAGAIN || errno == EWOULDBLOCK) {
             struct pollfd wait = {fileno(file), POLLIN, 0};
@@ -35,7 +80,6 @@ enum reading read_line(FILE *file, struct line *line)
     line->length = 0;
     line->cut = 0;
     line->text[0] = 0;
-    interrupted = 0;
     int c = next_byte(file);
     const int any = c != EOF;
     for (; c != EOF && c != '\n'; c = next_byte(file)) {
@@ -47,7 +91,7 @@ enum reading read_line(FILE *file, struct line *line)
     line->ended = c == '\n';
     line->text[line->length] = 0;
     if (interrupted) {
-        clearerr(file);
+        interrupted = 0;
         return READ_INTERRUPTED;
     }
     if (c == EOF && ferror(file))

@@ -2,7 +2,6 @@
 #ifndef TEACH_INPUT_H
 #define TEACH_INPUT_H
 
-#include <signal.h>
 #include <stddef.h>
 #include <stdint.h>
 #include <stdio.h>
@@ -19,11 +18,13 @@ struct line {
 
 enum reading { READ_LINE, READ_END, READ_FAILED, READ_INTERRUPTED };
 
-/* Set by a signal to give up the line that is being read. */
-extern volatile sig_atomic_t interrupted;
+/* For a person who types: from now on SIGINT and SIGQUIT give up the line that is
+   read from stdin. They are held back while a command is carried out. To be called
+   before the first line is read. */
+void allow_interrupts(void);
 
-/* Reads a line of any length and any bytes. A read that is interrupted by
-   another signal, or would block, is made again. */
+/* Reads a line of any length and any bytes. A read that another signal
+   interrupts, or that would block, is made again. */
 enum reading read_line(FILE *file, struct line *line);
 
 /* Prints a line with every byte that is no printable ASCII as \xNN, and of one

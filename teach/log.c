@@ -207,10 +207,8 @@ static int read_calls(FILE *file, const char *name, struct calls *calls)
     for (unsigned long number = 1;; number++) {
         switch (read_line(file, &line)) {
         case READ_FAILED:
+        case READ_INTERRUPTED: /* of stdin alone */
             print_failure("no replay: cannot read", name, errno);
-            return 0;
-        case READ_INTERRUPTED:
-            printf("  no replay: interrupted\n");
             return 0;
         case READ_END:
             return 1;
