@@ -19,10 +19,13 @@ module _ (p : ℕ) (g : Graph) where
   unfolding bad-weight
   weights-absent h = found-absent (first-outside p g) .1 (λ k m d. d (h k m))
 
+pub pair-count-most : (n m : ℕ) → n ≤ m → pair-count n ≤ pair-count m
+pair-count-most n m l =
+    let k : n * (n - 1) ≤ m * (m - 1) = mul-le-mul {n₁ = n} {m₁ = n - 1} {n₂ = m} {m₂ = m - 1} l (omega arith) in omega arith
+
 -- the largest graph has 96 * 95 / 2 pairs of vertices
 pub pair-count-small : (n : ℕ) → n ≤ largest → pair-count n ≤ 4560
-pair-count-small n l =
-    let k : n * (n - 1) ≤ 9120 = mul-le-mul {n₁ = n} {m₁ = n - 1} {n₂ = 96} {m₂ = 95} (omega arith) (omega arith) in omega arith
+pair-count-small n l = pair-count-most n 96 l
 
 -- one for each pair of vertices, and none where there are too many vertices
 abbrev pub needed : ℕ → ℕ

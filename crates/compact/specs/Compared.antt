@@ -8,7 +8,7 @@ use native.Mathlib.Numerals.{add-one}
 use native.Mathlib.Omega.{arith}
 use native.Mathlib.Decide.{ℕ-discrete, decLt}
 use lib.Dec.{lit<}
-use lib.ListN.{length, getD, set, take, drop, replicate, getD-replicate, length-append, List·getD-append}
+use lib.ListN.{length, getD, set, take, drop, length-append, List·getD-append}
 use lib.Seq.{getD-set-same, getD-set-other, getD-take, length-take-le}
 use Rattle.lists.specs.Part.{part-at}
 use Rattle.lists.specs.Table.{table, vector, Square, row-below, column-below, index-of, index-below}
@@ -329,8 +329,3 @@ tells-members g {S} {L} inverse r e X = record {
       X .when-false q
       (record { small = I .small; is-inverse = same-members modulus (g .n) (tutte g modulus) (λ i l. sym (e i l)) (I .is-inverse) });
 }
-
--- the vertices that wait at the start are all
-pub all-wait : (k : ℕ) → k ≤ 96 → (i : ℕ) → i < k → i ∈ marked (take k (replicate 96 1))
-all-wait k h i l =
-    marked-in (take k (replicate 96 1)) i (λ e. omega (arith, sym (getD-take k (replicate 96 1) i 0 l ∙ getD-replicate {A = ℕ} 96 i 1 0 (omega arith)) ∙ e))

@@ -4,6 +4,8 @@ use Prim.Native.Nat.{ℕ}
 use Rattle.matching.specs.Decision.{because}
 use Rattle.matching.specs.Opening as definition
 use Rattle.matching.specs.Opening.{Buffers}
+use Rattle.exchange.specs.declared.Outcome.{Outcome}
+use Rattle.exchange.specs.declared.Outcome.the-variants.{Inverse, Column}
 use Rattle.opening.specs.declared.Opening.{Opening}
 use Rattle.opening.specs.declared.Opening.the-variants.{Opened, Singular, Refused}
 
@@ -12,11 +14,10 @@ opening-of (Opened s) = definition.opened (record { size = s .size; made = s .ma
 opening-of (Singular f) = definition.singular f
 opening-of (Refused r) = definition.not-opened (because (r .cause) (r .place))
 
+-- for n vertices and how exchange ends
+abbrev pub found : ℕ → Outcome → definition.Opening
+found n Inverse = definition.opened (record { size = n; made = 0 })
+found n (Column f) = definition.singular f
+
 abbrev pub buffers : (inverse sequence witness work : List ℕ) → Buffers
 buffers inverse sequence witness work = record { inverse = inverse; sequence = sequence; witness = witness; work = work }
-
--- for how many vertices words are written
-abbrev pub extent : ℕ → definition.Opening → ℕ
-extent n (definition.opened s) = n
-extent n (definition.singular f) = n
-extent n (definition.not-opened r) = 0

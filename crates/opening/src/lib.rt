@@ -8,8 +8,8 @@ ghost use Rattle.residue.specs.Modulus.{modulus};
 ghost use Rattle.matching.specs.Graph.{over};
 ghost use Rattle.matching.specs.Pairs.{everything};
 ghost use Rattle.matching.specs.Opening.{Opens, OpenedExactly};
-ghost use Rattle.opening.specs.Answers.{opening-of, buffers, extent};
-ghost use Rattle.opening.specs.Begun.{Ready, Begun, BegunApart};
+ghost use Rattle.opening.specs.Answers.{opening-of, found, buffers};
+ghost use Rattle.opening.specs.Begun.{Ready, Begun};
 
 // What opening answers: a session with no pairs, the first dependent column, or a refusal.
 pub enum Opening {
@@ -18,72 +18,40 @@ pub enum Opening {
     Refused(Refusal),
 }
 
-// For how many vertices words are written: for none where opening is refused.
-pub fn extent(n: usize, o: Opening) -> usize
-    ensures { λ r. ⌜ r ≡ extent n (opening-of o) ⌝ }
-{
-    match o {
-        Opening::Opened(_) => n,
-        Opening::Singular(_) => n,
-        Opening::Refused(_) => 0,
-    }
-}
-
-// Opening of a graph that is accepted, but for the work buffer.
-fn begin_accepted(
+// Opening of a graph that is accepted, but for the work buffer, whose first words the caller makes 0. For proved callers.
+pub fn begin_accepted(
     n: usize,
     adjacency: &[u8],
     weights: &[u16],
     inverse: &mut [u16],
     sequence: &mut [u8],
     witness: &mut [u16],
-) -> Opening
+) -> Outcome
     requires { ⌜ Ready n (now adjacency) (now weights) (now inverse) (now sequence) (now witness) ⌝ }
-    ensures { λ o. ⌜ Begun (over n (now (adjacency .entry)) (now (weights .entry))) (opening-of o) (now (inverse .entry)) (now (sequence .entry)) (now (witness .entry)) (now (inverse .exit)) (now (sequence .exit)) (now (witness .exit)) ⌝ }
+    ensures { λ o. ⌜ Begun (over n (now (adjacency .entry)) (now (weights .entry))) (now (inverse .entry)) (now (sequence .entry)) (now (witness .entry)) o (now (inverse .exit)) (now (sequence .exit)) (now (witness .exit)) ⌝ }
 {
     // Every vertex is in play.
-    let all = [1u8; 96];
+    let mut all = [1u8; 96];
     let size = n * n;
     buffers::fill_bytes(&mut sequence[..n], 255);
-    let outcome = solve::solve(
+    solve::solve(
         n,
         adjacency,
         weights,
-        &all[..n],
+        &mut all[..n],
         &mut inverse[..size],
         &mut witness[..n],
-    );
+    )
+}
+
+// The answer for a graph that is accepted.
+fn answer(n: usize, outcome: Outcome) -> Opening
+    ensures { λ o. ⌜ opening-of o ≡ found n outcome ⌝ }
+{
     match outcome {
         Outcome::Inverse => Opening::Opened(Session { size: n, made: 0 }),
         Outcome::Column(f) => Opening::Singular(f),
     }
-}
-
-// Opens a session on a graph, but for the work buffer, of which only the length is given: the caller makes its first words 0.
-pub fn begin_apart(
-    n: usize,
-    adjacency: &[u8],
-    weights: &[u16],
-    inverse: &mut [u16],
-    sequence: &mut [u8],
-    witness: &mut [u16],
-    work: usize,
-) -> Opening
-    ensures { λ o. ⌜ BegunApart (over n (now (adjacency .entry)) (now (weights .entry))) work (opening-of o) (now (inverse .entry)) (now (sequence .entry)) (now (witness .entry)) (now (inverse .exit)) (now (sequence .exit)) (now (witness .exit)) ⌝ }
-{
-    let ruling = checks::judge_opening(
-        n,
-        adjacency,
-        weights,
-        inverse.len(),
-        sequence.len(),
-        witness.len(),
-        work,
-    );
-    if let Ruling::Refused(refusal) = ruling {
-        return Opening::Refused(refusal);
-    }
-    begin_accepted(n, adjacency, weights, inverse, sequence, witness)
 }
 
 // Opens a session on a graph.
@@ -99,17 +67,22 @@ pub fn begin(
     ensures { λ o. ⌜ Opens modulus (over n (now (adjacency .entry)) (now (weights .entry))) everything (buffers (now (inverse .entry)) (now (sequence .entry)) (now (witness .entry)) (now (work .entry))) (opening-of o) (buffers (now (inverse .exit)) (now (sequence .exit)) (now (witness .exit)) (now (work .exit))) ⌝ }
     ensures { λ o. ⌜ OpenedExactly modulus (over n (now (adjacency .entry)) (now (weights .entry))) everything (buffers (now (inverse .entry)) (now (sequence .entry)) (now (witness .entry)) (now (work .entry))) (opening-of o) ⌝ }
 {
-    let o = begin_apart(
+    let ruling = checks::judge_opening(
         n,
         adjacency,
         weights,
-        inverse,
-        sequence,
-        witness,
+        inverse.len(),
+        sequence.len(),
+        witness.len(),
         work.len(),
     );
-    let m = extent(n, o);
-    let size = m * m;
+    if let Ruling::Refused(refusal) = ruling {
+        return Opening::Refused(refusal);
+    }
+    let size = n * n;
     buffers::fill_words(&mut work[..size], 0);
-    o
+    answer(
+        n,
+        begin_accepted(n, adjacency, weights, inverse, sequence, witness),
+    )
 }

@@ -1,3 +1,2 @@
--- The words lent in the place of bytes, and opening over them.
-pub mod Lent
+-- What opening through the host leaves.
 pub mod Opened

@@ -1,37 +1,32 @@
 // Opening with numbers and byte slices: what the host's entry calls. Words cross as two bytes, low first (docs/HOST.md).
 use checks::Ruling;
-use opening::Opening;
+use exchange::Outcome;
 ghost use mathlib.Core.Path.{_≡_};
-ghost use Prim.Native.Nat.{_*_, _≤_};
-ghost use lib.ListN.{length};
+ghost use Prim.Native.Nat.{ℕ};
 ghost use Rattle.residue.specs.Modulus.{modulus};
-ghost use Rattle.matching.specs.Graph.{over};
 ghost use Rattle.matching.specs.Pairs.{everything};
-ghost use Rattle.matching.specs.Host.{words, unpacked, opening-number, HostOpens, HostOpenedExactly};
-ghost use Rattle.checks.specs.Weights.{needed};
-ghost use Rattle.opening.specs.Answers.{opening-of, buffers};
-ghost use Rattle.crossing.specs.Needed.{needed-weights};
-ghost use Rattle.opening_bytes.specs.Lent.{Fits, Stores, lent};
-ghost use Rattle.opening_bytes.specs.Opened.{Small, OpensOver};
+ghost use Rattle.matching.specs.Host.{opening-number, HostOpens, HostOpenedExactly};
+ghost use Rattle.opening.specs.Answers.{found, buffers};
+ghost use Rattle.opening_bytes.specs.Opened.{Fits, Lends, Small};
 
-// The number that the host is answered.
-fn number(o: Opening) -> u64
-    requires { ⌜ Small (opening-of o) ⌝ }
-    ensures { λ r. ⌜ r ≡ opening-number (opening-of o) ⌝ }
+// The number that the host is answered for a graph that is accepted.
+fn number(outcome: Outcome) -> u64
+    requires { ⌜ Small outcome ⌝ }
+    ensures { λ r. ⌜ ((n : ℕ) → r ≡ opening-number (found n outcome)) ⌝ }
 {
-    match o {
-        Opening::Opened(s) => numbers::carried(1, 0, s.made as u64),
-        Opening::Singular(f) => numbers::carried(2, f as u64, 0),
-        Opening::Refused(r) => numbers::refused(r),
+    match outcome {
+        Outcome::Inverse => numbers::carried(1, 0, 0),
+        Outcome::Column(f) => numbers::carried(2, f as u64, 0),
     }
 }
 
-// Opening over lent words, table for the inverse and vector for the witness; what it leaves in them is stored as bytes. The work buffer has
-// room for as many words as the table, of which opening makes the first 0.
+// Opening over lent words: the weights that the graph needs are unpacked, and the inverse and the witness packed. The work buffer is only
+// made 0.
 fn open_over(
     n: usize,
     adjacency: &[u8],
-    weights: &[u16],
+    weights: &[u8],
+    values: &mut [u16],
     table: &mut [u16],
     vector: &mut [u16],
     inverse: &mut [u8],
@@ -39,50 +34,22 @@ fn open_over(
     witness: &mut [u8],
     work: &mut [u8],
 ) -> u64
-    requires { ⌜ Stores (now table) (now vector) (buffers (now inverse) (now sequence) (now witness) (now work)) ⌝ }
-    ensures { λ r. ⌜ OpensOver n (now (adjacency .entry)) (now (weights .entry)) (lent (now (table .entry)) (now (sequence .entry)) (now (vector .entry))) (buffers (now (inverse .entry)) (now (sequence .entry)) (now (witness .entry)) (now (work .entry))) r (buffers (now (inverse .exit)) (now (sequence .exit)) (now (witness .exit)) (now (work .exit))) ⌝ }
+    requires { ⌜ Fits n (now adjacency) (now weights) (buffers (now inverse) (now sequence) (now witness) (now work)) ⌝ }
+    requires { ⌜ Lends n (now values) (now table) (now vector) ⌝ }
+    ensures { λ r. ⌜ HostOpens modulus n (now (adjacency .entry)) (now (weights .entry)) everything (buffers (now (inverse .entry)) (now (sequence .entry)) (now (witness .entry)) (now (work .entry))) r (buffers (now (inverse .exit)) (now (sequence .exit)) (now (witness .exit)) (now (work .exit))) ⌝ }
 {
-    let room = table.len();
-    let o = opening::begin_apart(n, adjacency, weights, table, sequence, vector, room);
-    let m = opening::extent(n, o);
-    let size = m * m;
+    packing::unpack(weights, values);
+    let ruling = checks::judge_graph(n, adjacency, values);
+    if let Ruling::Refused(refusal) = ruling {
+        return numbers::refused(refusal);
+    }
+    let outcome = opening::begin_accepted(n, adjacency, values, table, sequence, vector);
+    let size = n * n;
     packing::store(table, size, inverse);
-    packing::store(vector, m, witness);
+    packing::store(vector, n, witness);
     let zeros = 2 * size;
     buffers::fill_bytes(&mut work[..zeros], 0);
-    number(o)
-}
-
-// The same over weights that are stored as bytes, of which those that the graph needs are read.
-fn open_bytes(
-    n: usize,
-    adjacency: &[u8],
-    weights: &[u8],
-    table: &mut [u16],
-    vector: &mut [u16],
-    inverse: &mut [u8],
-    sequence: &mut [u8],
-    witness: &mut [u8],
-    work: &mut [u8],
-) -> u64
-    requires { ⌜ (2 * needed n ≤ length (now weights)) × Stores (now table) (now vector) (buffers (now inverse) (now sequence) (now witness) (now work)) ⌝ }
-    ensures { λ r. ⌜ OpensOver n (now (adjacency .entry)) (needed-weights n (now (weights .entry))) (lent (now (table .entry)) (now (sequence .entry)) (now (vector .entry))) (buffers (now (inverse .entry)) (now (sequence .entry)) (now (witness .entry)) (now (work .entry))) r (buffers (now (inverse .exit)) (now (sequence .exit)) (now (witness .exit)) (now (work .exit))) ⌝ }
-{
-    // The weights of the largest graph: 96 * 95 / 2.
-    let mut values = [0u16; 4560];
-    let count = checks::weights_needed(n);
-    packing::unpack(weights, &mut values[..count]);
-    open_over(
-        n,
-        adjacency,
-        &values[..count],
-        table,
-        vector,
-        inverse,
-        sequence,
-        witness,
-        work,
-    )
+    number(outcome)
 }
 
 // The same, with words of its own. A small graph has fewer, which take less time to clear.
@@ -95,18 +62,21 @@ fn open_words(
     witness: &mut [u8],
     work: &mut [u8],
 ) -> u64
-    requires { ⌜ Fits (over n (now adjacency) (words (now weights))) (unpacked (buffers (now inverse) (now sequence) (now witness) (now work))) ⌝ }
+    requires { ⌜ Fits n (now adjacency) (now weights) (buffers (now inverse) (now sequence) (now witness) (now work)) ⌝ }
     ensures { λ r. ⌜ HostOpens modulus n (now (adjacency .entry)) (now (weights .entry)) everything (buffers (now (inverse .entry)) (now (sequence .entry)) (now (witness .entry)) (now (work .entry))) r (buffers (now (inverse .exit)) (now (sequence .exit)) (now (witness .exit)) (now (work .exit))) ⌝ }
 {
+    let count = checks::weights_needed(n);
     let size = n * n;
     if n <= 32 {
-        // 32 * 32 and 32 words.
+        // 32 * 31 / 2, 32 * 32 and 32 words.
+        let mut values = [0u16; 496];
         let mut table = [0u16; 1024];
         let mut vector = [0u16; 32];
-        return open_bytes(
+        return open_over(
             n,
             adjacency,
             weights,
+            &mut values[..count],
             &mut table[..size],
             &mut vector[..n],
             inverse,
@@ -115,13 +85,15 @@ fn open_words(
             work,
         );
     }
-    // The words of the largest graph: 96 * 96 and 96.
+    // The words of the largest graph: 96 * 95 / 2, 96 * 96 and 96.
+    let mut values = [0u16; 4560];
     let mut table = [0u16; 9216];
     let mut vector = [0u16; 96];
-    open_bytes(
+    open_over(
         n,
         adjacency,
         weights,
+        &mut values[..count],
         &mut table[..size],
         &mut vector[..n],
         inverse,
@@ -154,7 +126,7 @@ pub fn begin(
         work.len() / 2,
     );
     if let Ruling::Refused(refusal) = ruling {
-        return number(Opening::Refused(refusal));
+        return numbers::refused(refusal);
     }
     open_words(n, adjacency, weights, inverse, sequence, witness, work)
 }

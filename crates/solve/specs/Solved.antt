@@ -2,10 +2,10 @@
 use mathlib.Core.Path.{_≡_, refl, sym, ap, _∙_}
 use mathlib.Core.Logic.{_≢_}
 use mathlib.Core.List.{List}
-use Prim.Native.Nat.{ℕ, zero, suc, _+_, _*_, _-_, _/_, _%_, _≤_, _<_}
+use Prim.Native.Nat.{ℕ, _+_, _*_, _-_, _/_, _%_, _≤_, _<_}
 use native.Mathlib.Omega.{arith}
 use native.Mathlib.Decide.{ℕ-discrete, decLt}
-use lib.ListN.{length, getD, set, replicate, take, length-set}
+use lib.ListN.{length, getD, set, replicate, take, length-set, getD-replicate}
 use lib.Seq.{getD-take, getD-set-same, getD-set-other}
 use Rattle.lists.specs.Values.{list-of, getD-list-of}
 use Rattle.lists.specs.Part.{length-part}
@@ -13,7 +13,7 @@ use Rattle.lists.specs.Table.{table, row-below, column-below, index-of, index-b
 use Rattle.modular.specs.Congruence.{Congruent, equals, _⨾_}
 use Rattle.residue.specs.Modulus.{modulus, modulus-prime}
 use Rattle.skew.specs.Choose.{choose-yes, choose-no}
-use Rattle.skew.specs.Subset.{Subset, Member, inside, outside, member?}
+use Rattle.skew.specs.Subset.{Subset, _∈_, Member, inside, outside, member?, marked, marked-in}
 use Rattle.skew.specs.Inverse.{Matrix, Skew, Inverse, same-entries, same-members}
 use Rattle.skew.specs.Column.{FirstDependent, Witness}
 use Rattle.skew.specs.Same.{members-first, members-witness}
@@ -43,13 +43,13 @@ pub record Blank (n : ℕ) (t : List ℕ) : Type 0 where
 pub blank-part : (n m : ℕ) → n ≤ 96 → n * n ≤ m → Blank n (take (n * n) (replicate m 0))
 blank-part n m h l = record {
   table-square = record { small = h; size = length-part (n * n) m 0 l };
-  zero = λ x k. getD-take (n * n) (replicate m 0) x 0 k ∙ getD-replicate m x;
+  zero = λ x k. getD-take (n * n) (replicate m 0) x 0 k ∙ getD-replicate {A = ℕ} m x 0 0 (omega arith);
 }
-  where
-    getD-replicate : (m x : ℕ) → getD {A = ℕ} (replicate m 0) x 0 ≡ 0
-    getD-replicate zero x = refl
-    getD-replicate (suc m) zero = refl
-    getD-replicate (suc m) (suc x) = getD-replicate m x
+
+-- all of k vertices, of at most 96
+pub all-in : (k : ℕ) → k ≤ 96 → (i : ℕ) → i < k → i ∈ marked (take k (replicate 96 1))
+all-in k h i l =
+    marked-in (take k (replicate 96 1)) i (λ e. omega (arith, e, getD-take {A = ℕ} k (replicate 96 1) i 0 l, getD-replicate {A = ℕ} 96 i 1 0 (omega arith)))
 
 -- a table of zeros that is filled above its diagonal
 module _ {n : ℕ} {E : Matrix} {t t' : List ℕ} (F : Filled n E n t t') where

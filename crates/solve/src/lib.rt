@@ -1,5 +1,5 @@
 // The inverse of the Tutte matrix of a graph in order, on a set of vertices, or the witness of its first dependent column. The set is a byte
-// for each vertex, not 0 for those in it.
+// for each vertex, not 0 for those in it; these bytes are used up.
 use exchange::Outcome;
 use residue::Residue;
 ghost use mathlib.Core.Path.{_≡_};
@@ -89,24 +89,22 @@ fn write_witness(t: &[u64], n: usize, f: usize, waiting: &[u8], witness: &mut [u
     }
 }
 
-// Solves in a table of zeros, with room for a byte for each vertex.
+// Solves in a table of zeros.
 fn solve_over(
     n: usize,
     adjacency: &[u8],
     weights: &[u16],
-    set: &[u8],
+    set: &mut [u8],
     t: &mut [u64],
-    waiting: &mut [u8],
     inverse: &mut [u16],
     witness: &mut [u16],
 ) -> Outcome
-    requires { ⌜ Complete n (now adjacency) (now weights) × (length (now set) ≡ n) × Blank n (now t) × (length (now waiting) ≡ n) ⌝ }
+    requires { ⌜ Complete n (now adjacency) (now weights) × (length (now set) ≡ n) × Blank n (now t) ⌝ }
     requires { ⌜ (length (now inverse) ≡ n * n) × (length (now witness) ≡ n) ⌝ }
     ensures { λ o. ⌜ ((S : Subset) → ((i : ℕ) → i < n → S i ≡ marked (now (set .entry)) i) → Solved (over n (now (adjacency .entry)) (now (weights .entry))) S o (now (inverse .exit)) (now (witness .exit))) ⌝ }
 {
-    buffers::copy_bytes(set, waiting);
     tutte::fill(n, adjacency, weights, set, t);
-    let outcome = exchange::run(t, n, waiting);
+    let outcome = exchange::run(t, n, set);
     match outcome {
         Outcome::Inverse => {
             write_inverse(t, n, inverse);
@@ -114,7 +112,7 @@ fn solve_over(
             Outcome::Inverse
         }
         Outcome::Column(f) => {
-            write_witness(t, n, f, waiting, witness);
+            write_witness(t, n, f, set, witness);
             buffers::fill_words(inverse, 0);
             Outcome::Column(f)
         }
@@ -127,7 +125,7 @@ pub fn solve(
     n: usize,
     adjacency: &[u8],
     weights: &[u16],
-    set: &[u8],
+    set: &mut [u8],
     inverse: &mut [u16],
     witness: &mut [u16],
 ) -> Outcome
@@ -139,29 +137,9 @@ pub fn solve(
     if n <= 32 {
         // 32 * 32 words.
         let mut t = [0u64; 1024];
-        let mut waiting = [0u8; 32];
-        return solve_over(
-            n,
-            adjacency,
-            weights,
-            set,
-            &mut t[..size],
-            &mut waiting[..n],
-            inverse,
-            witness,
-        );
+        return solve_over(n, adjacency, weights, set, &mut t[..size], inverse, witness);
     }
     // 96 * 96 words.
     let mut t = [0u64; 9216];
-    let mut waiting = [0u8; 96];
-    solve_over(
-        n,
-        adjacency,
-        weights,
-        set,
-        &mut t[..size],
-        &mut waiting[..n],
-        inverse,
-        witness,
-    )
+    solve_over(n, adjacency, weights, set, &mut t[..size], inverse, witness)
 }

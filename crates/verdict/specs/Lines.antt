@@ -6,12 +6,12 @@ use native.Mathlib.Omega.{arith}
 use lib.ListN.{length, take, replicate, length-replicate}
 use Rattle.lists.specs.Table.{square-small}
 use Rattle.residue.specs.Modulus.{modulus, modulus-prime}
-use Rattle.matching.specs.Decision.{Refusal, accepted}
+use Rattle.matching.specs.Decision.{accepted}
 use Rattle.matching.specs.Graph.{Graph, over, InOrder}
 use Rattle.matching.specs.Pairs.{everything, unmatched, pairs-on}
 use Rattle.matching.specs.Session.{Session}
 use Rattle.matching.specs.Causes.{lent-graph, LongEnough, opening-ruling}
-use Rattle.matching.specs.Opening.{Opening, opened, singular, not-opened, Buffers, Singular, ruling, Opens, opens, finds-singular, refuses-opening}
+use Rattle.matching.specs.Opening.{opened, singular, Buffers, Singular, Opens, opens, finds-singular}
 use Rattle.matching.specs.Model.{automatic, Nonsingular, pairs-after, PicksToCome}
 use Rattle.matching.specs.Listing.{first-line, pair-lines, witness-lines, line-full, line-none}
 use Rattle.laws.specs.Onto.{onto-front}
@@ -19,8 +19,10 @@ use Rattle.laws.specs.Sound.{opening-accepted}
 use Rattle.laws.specs.Fresh.{opened-sound}
 use Rattle.sequence.specs.Formed.{left-start}
 use Rattle.calls.specs.Known.{Known}
-use Rattle.opening.specs.Answers.{buffers}
-use Rattle.opening.specs.Begun.{BegunApart}
+use Rattle.exchange.specs.declared.Outcome.{Outcome}
+use Rattle.exchange.specs.declared.Outcome.the-variants.{Inverse, Column}
+use Rattle.opening.specs.Answers.{found, buffers}
+use Rattle.opening.specs.Begun.{Begun, begun-whole}
 use Rattle.completion.specs.Completed.{Completed}
 use Rattle.text.specs.Puts.{Puts, puts-then}
 
@@ -51,51 +53,35 @@ pub record Fresh (n : ℕ) (adjacency weights inverse sequence marks : List ℕ)
 abbrev pub FreshFor : (n : ℕ) (adjacency inverse sequence marks : List ℕ) → Type 0
 FreshFor n adjacency inverse sequence marks = (weights : List ℕ) × Fresh n adjacency weights inverse sequence marks
 
--- an opening, but for its work buffer, of as many words as the inverse
-abbrev Begun : (n : ℕ) (adjacency weights : List ℕ) → Opening → (inverse sequence witness inverse′ sequence′ witness′ : List ℕ) → Type 0
-Begun n adjacency weights o inverse sequence witness inverse′ sequence′ witness′ =
-    BegunApart (over n adjacency weights) (n * n) o inverse sequence witness inverse′ sequence′ witness′
+-- what opening leaves of a graph that is accepted, beside a work buffer of zeros
+module _ {n : ℕ} {adjacency weights inverse sequence witness inverse′ sequence′ witness′ : List ℕ}
+    (ok : opening-ruling modulus (over n adjacency weights) (length inverse) (length sequence) (length witness) (n * n) ≡ accepted) where
+  beside : (o : Outcome) → Begun (over n adjacency weights) inverse sequence witness o inverse′ sequence′ witness′
+      → (after : List ℕ) × Opens modulus (over n adjacency weights) everything (buffers inverse sequence witness (replicate (n * n) 0)) (found n o) (buffers inverse′ sequence′ witness′ after)
+  beside o B = (_, begun-whole (replicate (n * n) 0) B (rw (length-replicate {A = ℕ} (n * n) 0) ok))
 
--- beside a work buffer of zeros
-beside : {n : ℕ} {adjacency weights inverse sequence witness inverse′ sequence′ witness′ : List ℕ} {o : Opening}
-    → Begun n adjacency weights o inverse sequence witness inverse′ sequence′ witness′
-    → (after : List ℕ) × Opens modulus (over n adjacency weights) everything (buffers inverse sequence witness (replicate (n * n) 0)) o (buffers inverse′ sequence′ witness′ after)
-beside {n} B = (_, B (replicate (n * n) 0) (length-replicate (n * n) 0))
+  -- a session that is opened is known to be sound, and has an inverse
+  pub fresh : {marks : List ℕ} → Begun (over n adjacency weights) inverse sequence witness Inverse inverse′ sequence′ witness′ → marks ≡ replicate n 1
+      → Fresh n adjacency weights inverse′ sequence′ marks
+  unfolding unmatched
+  fresh B e = record {
+    known =
+        let k = opened-sound modulus-prime (over n adjacency weights) everything (beside Inverse B .1) in
+        record { sound = rw (k .1) at (k .0); left = rw e (left-start n sequence′) };
+    nonsingular = go (beside Inverse B .1);
+  }
+    where
+      go : {s : Session} {b a : Buffers} → Opens modulus (over n adjacency weights) everything b (opened s) a → Nonsingular modulus-prime (over n adjacency weights) everything []
+      go (opens words e l I) = (_, I .is-inverse)
 
--- a session that is opened is known to be sound, and has an inverse
-pub fresh : {n : ℕ} {adjacency weights inverse sequence witness inverse′ sequence′ witness′ marks : List ℕ} {s : Session}
-    → Begun n adjacency weights (opened s) inverse sequence witness inverse′ sequence′ witness′ → marks ≡ replicate n 1
-    → Fresh n adjacency weights inverse′ sequence′ marks
-unfolding unmatched
-fresh {n} {adjacency} {weights} {sequence′ = sequence′} B e = record {
-  known =
-      let k = opened-sound modulus-prime (over n adjacency weights) everything (beside B .1) in
-      record { sound = rw (k .1) at (k .0); left = rw e (left-start n sequence′) };
-  nonsingular = go (beside B .1);
-}
-  where
-    go : {s : Session} {b a : Buffers} → Opens modulus (over n adjacency weights) everything b (opened s) a → Nonsingular modulus-prime (over n adjacency weights) everything []
-    go (opens words e l I) = (_, I .is-inverse)
-
--- the first words of the witness are the kernel vector
-pub kernel : {n : ℕ} {adjacency weights inverse sequence witness inverse′ sequence′ witness′ : List ℕ} {f : ℕ}
-    → Begun n adjacency weights (singular f) inverse sequence witness inverse′ sequence′ witness′
-    → (length (take n witness′) ≡ n) × Singular modulus (over n adjacency weights) everything f (take n witness′)
-kernel {n} {adjacency} {weights} {f = f} B = go (beside B .1)
-  where
-    go : {b a : Buffers} → Opens modulus (over n adjacency weights) everything b (singular f) a
-        → (length (take n (a .witness)) ≡ n) × Singular modulus (over n adjacency weights) everything f (take n (a .witness))
-    go {b} (finds-singular _ words e l S) = rw (onto-front words (b .witness) n l) (l, S)
-
--- an accepted graph is not refused
-pub not-refused : {n : ℕ} {adjacency weights inverse sequence witness inverse′ sequence′ witness′ : List ℕ} {r : Refusal}
-    → opening-ruling modulus (over n adjacency weights) (length inverse) (length sequence) (length witness) (n * n) ≡ accepted
-    → ¬ Begun n adjacency weights (not-opened r) inverse sequence witness inverse′ sequence′ witness′
-not-refused {n} {adjacency} {weights} {inverse} {sequence} {witness} {r = r} ok B = go (rw (length-replicate {A = ℕ} (n * n) 0) ok) (beside B .1)
-  where
-    go : {a : Buffers} → ruling modulus (over n adjacency weights) (buffers inverse sequence witness (replicate (n * n) 0)) ≡ accepted
-        → ¬ Opens modulus (over n adjacency weights) everything (buffers inverse sequence witness (replicate (n * n) 0)) (not-opened r) a
-    go ok (refuses-opening _ e) = let z : _≡_ {A = ℕ} 0 1 = cc in omega arith
+  -- the first words of the witness are the kernel vector
+  pub kernel : {f : ℕ} → Begun (over n adjacency weights) inverse sequence witness (Column f) inverse′ sequence′ witness′
+      → (length (take n witness′) ≡ n) × Singular modulus (over n adjacency weights) everything f (take n witness′)
+  kernel {f} B = go (beside (Column f) B .1)
+    where
+      go : {b a : Buffers} → Opens modulus (over n adjacency weights) everything b (singular f) a
+          → (length (take n (a .witness)) ≡ n) × Singular modulus (over n adjacency weights) everything f (take n (a .witness))
+      go {b} (finds-singular _ words e l S) = rw (onto-front words (b .witness) n l) (l, S)
 
 -- the lines of a completed matching
 pub full-lines : {g : Graph} {made : ℕ} {sequence : List ℕ} → Nonsingular modulus-prime g everything [] → Completed g made sequence

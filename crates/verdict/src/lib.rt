@@ -1,5 +1,5 @@
 // The lines of a graph in the listing: its size and edges, its pairs or its witness, and the verdict.
-use opening::Opening;
+use exchange::Outcome;
 ghost use mathlib.Core.Path.{_≡_};
 ghost use mathlib.Core.List.{List};
 ghost use Prim.Native.Nat.{ℕ, _+_, _*_, _≤_, _<_};
@@ -44,14 +44,13 @@ fn verdict_lines(
     requires { ⌜ (n ≤ 96) × (now marks ≡ replicate n 1) × (at + 1642 ≤ length (now text)) ⌝ }
     ensures { λ r. ⌜ Writes (Verdict (over n (now (adjacency .entry)) (now (weights .entry)))) at (now (text .entry)) (now (text .exit)) r ⌝ }
 {
-    let opening = opening::begin_apart(n, adjacency, weights, inverse, sequence, witness, n * n);
-    match opening {
-        Opening::Opened(_) => full_lines(n, adjacency, inverse, sequence, marks, text, at),
-        Opening::Singular(_) => {
+    let outcome = opening::begin_accepted(n, adjacency, weights, inverse, sequence, witness);
+    match outcome {
+        Outcome::Inverse => full_lines(n, adjacency, inverse, sequence, marks, text, at),
+        Outcome::Column(_) => {
             let next = text::witness_lines(text, at, &witness[..n]);
             text::none_line(text, next)
         }
-        Opening::Refused(_) => at,
     }
 }
 

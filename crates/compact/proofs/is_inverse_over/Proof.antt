@@ -13,8 +13,8 @@ use Rattle.matching.specs.Graph.{Graph, over, tutte}
 use Rattle.sequence.specs.Formed.{tells-false, not-true, not-false}
 use Rattle.exchange.specs.declared.Outcome.{Outcome}
 use Rattle.exchange.specs.Run.{Ended}
-use Rattle.solve.specs.Solved.{upper-word}
-use Rattle.compact.specs.Compared.{numbered-ascending, listed-holds, listed-small, no-inverse, has-inverse, is-clear, is-equal, all-wait}
+use Rattle.solve.specs.Solved.{all-in, upper-word}
+use Rattle.compact.specs.Compared.{numbered-ascending, listed-holds, listed-small, no-inverse, has-inverse, is-clear, is-equal}
 use borrow.Author.Needs.{needs}
 use Rattle.compact.proofs.is_inverse_over.Statement.{statement}
 use Rattle.compact.proofs.is_inverse_over.Tie as tie
@@ -34,7 +34,7 @@ abbrev waiting : tie.After-run → Subset
 waiting at = marked (take (length (start (filling at) .args .vertices .now)) (replicate 96 1))
 
 wait : (at : tie.After-run) (i : ℕ) → i < length (start (filling at) .args .vertices .now) → i ∈ waiting at
-wait at = all-wait _ (start (filling at) .pre .1 .1 .table-square .small)
+wait at = all-in _ (start (filling at) .pre .1 .1 .table-square .small)
 
 -- how exchange ends
 ends : (at : tie.After-run) {o : Outcome} → at .run .result ≡ o

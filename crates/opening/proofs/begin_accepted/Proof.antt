@@ -4,7 +4,8 @@ use mathlib.Core.Path.{sym, _∙_}
 use lib.Seq.{length-take-le}
 use Rattle.lists.specs.Part.{length-part}
 use Rattle.matching.specs.Pairs.{everything}
-use Rattle.opening.specs.Begun.{everyone, opens-so, singular-so}
+use Rattle.solve.specs.Solved.{all-in}
+use Rattle.opening.specs.Begun.{begun}
 use borrow.Author.Needs.{needs}
 use Rattle.opening.proofs.begin_accepted.Statement.{statement}
 use Rattle.opening.proofs.begin_accepted.Tie as tie
@@ -21,8 +22,8 @@ slice-aggregate-fill-bytes c = let s = c .before .before .before .before .before
 fill-bytes-requires : tie.Need-fill-bytes-requires
 fill-bytes-requires c κs = search needs
 
-array-share-prefix-all : tie.Need-array-share-prefix-all
-array-share-prefix-all c = search needs
+array-borrow-prefix-all : tie.Need-array-borrow-prefix-all
+array-borrow-prefix-all c = search needs
 
 slice-aggregate-solve : tie.Need-slice-aggregate-solve
 slice-aggregate-solve c = let s = c .before .before .before .before .before .before .before .before .before .before in sym (length-part _ 96 1 (s .pre .lent .size))
@@ -44,12 +45,6 @@ solve-requires c κs =
     let s = c .before .before .before .before .before .before .before .before .before .before .before .before in
     ((s .pre .lent, length-part (s .args .n) 96 1 (s .pre .lent .size)), (length-take-le _ (s .args .inverse .now) (s .pre .inverse-fits), length-take-le _ (s .args .witness .now) (s .pre .witness-fits)))
 
-enum-told : tie.Need-enum-told
-enum-told c = search needs
-
-enum-known-outcome : tie.Need-enum-known-outcome
-enum-known-outcome c = search needs
-
 same-length : tie.Need-same-length
 same-length c = search needs
 
@@ -61,28 +56,12 @@ same-length-3 c = search needs
 
 returns : tie.Need-returns
 returns c =
-    let solved = c .before .before .before .before .before .before in
+    let solved = c .before .before .before .before .before in
     let s = solved .before .before .before .before .before .before .before .before .before .before .before .before .before in
-    let left = rw (c .enum-told .given .1) at (solved .solve .ensures) everything (everyone (s .args .n) (s .pre .lent .size)) in
-    opens-so _ _ _ (solved .solve .kept .1 .1 .1 .1 .0 ∙ length-take-le _ (s .args .inverse .now) (s .pre .inverse-fits)) (left .0)
-    (solved .before .before .before .before .before .before .fill-bytes .ensures ∙ rw (length-take-le _ (s .args .sequence .now) (s .pre .sequence-fits))) (left .1)
-
-same-length-4 : tie.Need-same-length-4
-same-length-4 c = search needs
-
-same-length-5 : tie.Need-same-length-5
-same-length-5 c = search needs
-
-same-length-6 : tie.Need-same-length-6
-same-length-6 c = search needs
-
-returns-2 : tie.Need-returns-2
-returns-2 c =
-    let solved = c .before .before .before .before .before .before .before in
-    let s = solved .before .before .before .before .before .before .before .before .before .before .before .before .before in
-    let left = rw (c .before .outcome .given .1) at (solved .solve .ensures) everything (everyone (s .args .n) (s .pre .lent .size)) in
-    singular-so _ _ _ _ (solved .solve .kept .1 .1 .1 .1 .1 .0 ∙ length-take-le _ (s .args .witness .now) (s .pre .witness-fits)) (left .0) (left .1)
+    begun _ _ (solved .solve .kept .1 .1 .1 .1 .0 ∙ length-take-le _ (s .args .inverse .now) (s .pre .inverse-fits))
     (solved .before .before .before .before .before .before .fill-bytes .ensures ∙ rw (length-take-le _ (s .args .sequence .now) (s .pre .sequence-fits)))
+    (solved .solve .kept .1 .1 .1 .1 .1 .0 ∙ length-take-le _ (s .args .witness .now) (s .pre .witness-fits))
+    (solved .solve .result) (solved .solve .ensures everything (λ i l. sym (all-in (s .args .n) (s .pre .lent .size) i l)))
 
 pub begin-accepted-spec : {M : Type 1} → statement M
 begin-accepted-spec =
@@ -92,20 +71,14 @@ begin-accepted-spec =
     slice-relend-prefix-fill-bytes
     slice-aggregate-fill-bytes
     fill-bytes-requires
-    array-share-prefix-all
+    array-borrow-prefix-all
     slice-aggregate-solve
     slice-relend-prefix-solve
     slice-aggregate-solve-2
     slice-relend-prefix-solve-2
     slice-aggregate-solve-3
     solve-requires
-    enum-told
-    enum-known-outcome
     same-length
     same-length-2
     same-length-3
-    returns
-    same-length-4
-    same-length-5
-    same-length-6
-    returns-2)
+    returns)

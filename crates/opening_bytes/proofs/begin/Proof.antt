@@ -4,15 +4,14 @@ use mathlib.Core.Path.{_≡_}
 use Rattle.residue.specs.Modulus.{modulus, modulus-prime}
 use Rattle.matching.specs.Decision.{because, refused}
 use Rattle.matching.specs.Graph.{over}
-use Rattle.matching.specs.Opening.{Buffers, ruling, refuses-opening}
+use Rattle.matching.specs.Opening.{Buffers, ruling}
 use Rattle.matching.specs.Pairs.{everything}
 use Rattle.matching.specs.Host.{words, unpacked, HostOpens}
 use Rattle.laws.specs.Determined.{host-opened-exactly}
 use Rattle.checks.specs.declared.Refusal.{Refusal}
 use Rattle.checks.specs.declared.Ruling.the-variants.{Refused}
 use Rattle.opening.specs.Answers.{buffers}
-use Rattle.opening_bytes.specs.Lent.{room-refused, room-accepted}
-use Rattle.opening_bytes.specs.Opened.{opens-small, host-refuses}
+use Rattle.opening_bytes.specs.Opened.{room-refused, room-accepted, host-refuses, refusal-small}
 use borrow.Author.Needs.{needs}
 use Rattle.opening_bytes.proofs.begin.Statement.{statement}
 use Rattle.opening_bytes.proofs.begin.Tie as tie
@@ -24,7 +23,7 @@ refuses : (at : tie.After-judge-room) {why : Refusal} → at .judge-room .result
     → (let a = at .before .before .before .before .before .before .before .args in ruling modulus (over (a .n) (a .adjacency .now) (words (a .weights .now))) (unpacked (host at)) ≡ refused (because (why .cause) (why .place)))
 refuses at e =
     let a = at .before .before .before .before .before .before .before .args in
-    room-refused (a .n) (a .adjacency .now) (a .weights .now) (host at) modulus (rw e at (at .judge-room .ensures))
+    room-refused (a .n) (a .adjacency .now) (a .weights .now) (host at) (rw e at (at .judge-room .ensures))
 
 judge-room-requires : tie.Need-judge-room-requires
 judge-room-requires c κs = search needs
@@ -32,16 +31,18 @@ judge-room-requires c κs = search needs
 enum-known-ruling : tie.Need-enum-known-ruling
 enum-known-ruling c = search needs
 
-number-requires : tie.Need-number-requires
-number-requires c κs =
-    let at = c .before .before .before in opens-small {S = everything} {b = unpacked (host at)} (refuses-opening _ (refuses at (c .before .ruling .given .1)))
+refused-requires : tie.Need-refused-requires
+refused-requires c κs =
+    let at = c .before .before .before in
+    let a = at .before .before .before .before .before .before .before .args in
+    refusal-small (a .n) (a .adjacency .now) (a .weights .now) (host at) (refuses at (c .before .ruling .given .1))
 
 returns : tie.Need-returns
 returns c =
     let at = c .before .before .before .before in
     let a = c .before .before .before .before .before .before .before .before .before .before .before .args in
-    let o : HostOpens modulus (a .n) (a .adjacency .now) (a .weights .now) everything (host at) (c .number .result) (host at) =
-    rw (c .number .ensures) (host-refuses (a .n) (a .adjacency .now) (a .weights .now) (host at) (refuses at (c .before .before .ruling .given .1))) in
+    let o : HostOpens modulus (a .n) (a .adjacency .now) (a .weights .now) everything (host at) (c .refused .result) (host at) =
+    rw (c .refused .ensures) (host-refuses (a .n) (a .adjacency .now) (a .weights .now) (host at) (refuses at (c .before .before .ruling .given .1))) in
     (o, host-opened-exactly modulus-prime _ o)
 
 enum-told : tie.Need-enum-told
@@ -75,7 +76,7 @@ begin-spec =
     (tie.spec
     judge-room-requires
     enum-known-ruling
-    number-requires
+    refused-requires
     returns
     enum-told
     open-words-requires

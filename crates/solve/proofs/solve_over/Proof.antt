@@ -14,7 +14,7 @@ use Rattle.solve.proofs.solve_over.Tie as tie
 
 -- where the table is filled, and where the function starts
 abbrev start : tie.After-fill → tie.Start
-start at = at .before .before .before .before .before .before .before .before .before .before .before .before .before
+start at = at .before .before .before .before .before .before .before .before .before
 
 abbrev graph : tie.After-fill → Graph
 graph at = let s = start at in over (s .args .n) (s .args .adjacency .now) (s .args .weights .now)
@@ -29,10 +29,7 @@ ends at e =
     let w = filling at in
     let s = start w in
     subst (λ (o : Outcome). Ended (s .args .n) (tutte (graph w) modulus) (marked (s .args .set .now)) (at .run .last .0) (at .run .last .1 .1 .0) o) e
-    (rw (w .before .before .before .before .copy-bytes .ensures) at (at .run .ensures) (tutte (graph w) modulus) (filled-holds (graph w) (marked (s .args .set .now)) (s .pre .0 .2) (w .fill .ensures)))
-
-copy-bytes-requires : tie.Need-copy-bytes-requires
-copy-bytes-requires c κs = search needs
+    (at .run .ensures (tutte (graph w) modulus) (filled-holds (graph w) (marked (s .args .set .now)) (s .pre .0 .2) (w .fill .ensures)))
 
 fill-requires : tie.Need-fill-requires
 fill-requires c κs = search needs
@@ -42,10 +39,10 @@ run-requires c κs =
     let w = c .before .before .before .before in
     let s = start w in
     let b = s .pre .0 .2 in
-    let B = w .fill .ensures in (
-      record { small = b .table-square .small; size = B .size ∙ b .table-square .size },
-      filled-small (graph w) (marked (s .args .set .now)) b B (λ i j _ _. upper-word (graph w) (λ x. let h = c .before .before .before .before .before .before .before .before .before .before .before .before .before .before .before .shared-slice-known2 .given x in omega arith) i j),
-      w .before .before .before .before .copy-bytes .kept .1 .0 ∙ s .pre .0 .3,
+    let F = w .fill .ensures in (
+      record { small = b .table-square .small; size = F .size ∙ b .table-square .size },
+      filled-small (graph w) (marked (s .args .set .now)) b F (λ i j _ _. upper-word (graph w) (λ x. let h = w .before .before .before .before .before .before .before .shared-slice-known2 .given x in omega arith) i j),
+      s .pre .0 .1,
     )
 
 enum-told : tie.Need-enum-told
@@ -67,7 +64,7 @@ write-witness-requires c κs =
     let s = start w in
     let b = s .pre .0 .2 in
     let E = ends at (c .before .before .before .before .outcome .given .1) in
-    (record { small = b .table-square .small; size = at .run .kept .0 ∙ w .fill .ensures .size ∙ b .table-square .size }, E .1 .below, at .run .kept .1 .1 .0 ∙ w .before .before .before .before .copy-bytes .kept .1 .0 ∙ s .pre .0 .3, s .pre .1 .1)
+    (record { small = b .table-square .small; size = at .run .kept .0 ∙ w .fill .ensures .size ∙ b .table-square .size }, E .1 .below, at .run .kept .1 .1 .0 ∙ s .pre .0 .1, s .pre .1 .1)
 
 fill-words-requires-2 : tie.Need-fill-words-requires-2
 fill-words-requires-2 c κs = search needs
@@ -114,7 +111,6 @@ pub solve-over-spec : {M : Type 1} → statement M
 solve-over-spec =
     tie.close
     (tie.spec
-    copy-bytes-requires
     fill-requires
     run-requires
     enum-told
