@@ -41,9 +41,17 @@ fn partner(t: &[u64], n: usize, c: usize, waiting: &[u8]) -> usize
     r
 }
 
-// Exchanges c with its lowest partner, and neither waits any more; n where it has none, and c where it does not wait.
-fn turn(t: &mut [u64], n: usize, c: usize, waiting: &mut [u8]) -> usize
-    requires { ⌜ Ready n c (now t) (now waiting) ⌝ }
+// Exchanges c with its lowest partner, and neither waits any more; n where it has none, and c where it does not wait. Has room for two
+// columns.
+fn turn(
+    t: &mut [u64],
+    n: usize,
+    c: usize,
+    waiting: &mut [u8],
+    x: &mut [u64],
+    y: &mut [u64],
+) -> usize
+    requires { ⌜ Ready n c (now t) (now waiting) × (length (now x) ≡ n) × (length (now y) ≡ n) ⌝ }
     ensures { λ r. ⌜ Turned n c (now (t .entry)) (now (waiting .entry)) (now (t .exit)) (now (waiting .exit)) r ⌝ }
 {
     if waiting[c] == 0 {
@@ -53,7 +61,7 @@ fn turn(t: &mut [u64], n: usize, c: usize, waiting: &mut [u8]) -> usize
     if r == n {
         return r;
     }
-    pivot::exchange(t, n, c, r);
+    pivot::exchange(t, n, c, r, x, y);
     waiting[c] = 0;
     waiting[r] = 0;
     r
@@ -65,9 +73,11 @@ pub fn run(t: &mut [u64], n: usize, waiting: &mut [u8]) -> Outcome
     requires { ⌜ Square n (now t) × Small 65536 n (now t) × (length (now waiting) ≡ n) ⌝ }
     ensures { λ o. ⌜ ((A : Matrix) → Holds n A (marked (now (waiting .entry))) (now (t .entry)) → Ended n A (marked (now (waiting .entry))) (now (t .exit)) (now (waiting .exit)) o) ⌝ }
 {
+    let mut x = [0u64; 96];
+    let mut y = [0u64; 96];
     let mut c = 0;
     while c < n {
-        let r = turn(t, n, c, waiting);
+        let r = turn(t, n, c, waiting, &mut x[..n], &mut y[..n]);
         if r == n {
             return Outcome::Column(c);
         }

@@ -6,7 +6,7 @@ use lib.ListN.{length, drop, replicate, length-replicate}
 use Rattle.residue.specs.Modulus.{modulus}
 use Rattle.matching.specs.Decision.{accepted}
 use Rattle.matching.specs.Graph.{Graph, over}
-use Rattle.matching.specs.Pairs.{everything}
+use Rattle.matching.specs.Pairs.{unused, everything}
 use Rattle.matching.specs.Session.{InverseTable, onto}
 use Rattle.matching.specs.Opening.{Singular, ruling, Opens, opens, finds-singular}
 use Rattle.matching.specs.Causes.{opening-ruling}
@@ -17,7 +17,7 @@ use Rattle.exchange.specs.declared.Outcome.the-variants.{Inverse, Column}
 use Rattle.solve.specs.Solved.{Solved}
 use Rattle.opening.specs.Answers.{found, buffers}
 
--- what a graph that is accepted makes ready
+-- what opening works on; an accepted graph makes it ready
 pub record Ready (n : ℕ) (adjacency weights inverse sequence witness : List ℕ) : Type 0 where
   pub lent : Complete n adjacency weights
   pub inverse-fits : n * n ≤ length inverse
@@ -38,12 +38,12 @@ ready n adjacency weights inverse sequence witness work e =
       k .0 .1 .1 .1 .1 .1 .0,
     )
 
--- what opening leaves of a graph that is accepted, but for the work buffer
+-- what opening leaves of a graph that is not refused, but for the work buffer
 pub data Begun (g : Graph) (inverse sequence witness : List ℕ) : Outcome → (inverse′ sequence′ witness′ : List ℕ) → Type 0 where
   leaves-inverse : (new : List ℕ) → length new ≡ g .n * g .n → InverseTable modulus g everything new
-      → Begun g inverse sequence witness Inverse (onto new inverse) (onto (replicate (g .n) 255) sequence) (onto (replicate (g .n) 0) witness)
+      → Begun g inverse sequence witness Inverse (onto new inverse) (onto (replicate (g .n) unused) sequence) (onto (replicate (g .n) 0) witness)
   leaves-witness : (f : ℕ) (new : List ℕ) → length new ≡ g .n → Singular modulus g everything f new
-      → Begun g inverse sequence witness (Column f) (onto (replicate (g .n * g .n) 0) inverse) (onto (replicate (g .n) 255) sequence) (onto new witness)
+      → Begun g inverse sequence witness (Column f) (onto (replicate (g .n * g .n) 0) inverse) (onto (replicate (g .n) unused) sequence) (onto new witness)
 
 -- as it is solved, in the first parts of the buffers
 pub begun : {n : ℕ} {adjacency weights inverse sequence witness sequence′ : List ℕ} (inverse′ witness′ : List ℕ) → length inverse′ ≡ n * n

@@ -18,7 +18,8 @@ pub enum Opening {
     Refused(Refusal),
 }
 
-// Opening of a graph that is accepted, but for the work buffer, whose first words the caller makes 0. For proved callers.
+// Opening over tables and buffers that are long enough. For proved callers, who have judged what the tables hold, and make the work buffer's
+// first words 0.
 pub fn begin_accepted(
     n: usize,
     adjacency: &[u8],

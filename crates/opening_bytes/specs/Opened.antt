@@ -39,9 +39,9 @@ pub record Lends (n : ℕ) (values table vector : List ℕ) : Type 0 where
   pub cells : length table ≡ n * n
   pub vertices : length vector ≡ n
 
--- the parts of an answer fit their bits
+-- what the number carries fits its bits: nothing, or the dependent column
 abbrev pub Small : Outcome → Type 0
-Small Inverse = 0 < 2 ^ 8
+Small Inverse = 0 < 2 ^ 16
 Small (Column f) = f < 2 ^ 16
 
 -- the size and the lengths are judged

@@ -121,22 +121,12 @@ fn columns(t: &mut [u64], n: usize, c: usize, r: usize, x: &mut [u64], y: &mut [
     h
 }
 
-// Exchanges c and r, with room for two columns, of which the first is multiplied by the reciprocal.
-fn exchange_over(t: &mut [u64], n: usize, c: usize, r: usize, x: &mut [u64], y: &mut [u64])
+// Exchanges c and r, where c < r, with room for two columns, of which the first is multiplied by the reciprocal. For proved callers.
+pub fn exchange(t: &mut [u64], n: usize, c: usize, r: usize, x: &mut [u64], y: &mut [u64])
     requires { ⌜ Stepping n c r (now t) × (length (now x) ≡ n) × (length (now y) ≡ n) ⌝ }
     ensures { λ _. ⌜ Stepped n c r (now (t .entry)) (now (t .exit)) ⌝ }
 {
     let h = columns(t, n, c, r, x, y);
     scale(x, h);
     update(t, n, x, y);
-}
-
-// Exchanges c and r, where c < r. For proved callers.
-pub fn exchange(t: &mut [u64], n: usize, c: usize, r: usize)
-    requires { ⌜ Stepping n c r (now t) ⌝ }
-    ensures { λ _. ⌜ Stepped n c r (now (t .entry)) (now (t .exit)) ⌝ }
-{
-    let mut x = [0u64; 96];
-    let mut y = [0u64; 96];
-    exchange_over(t, n, c, r, &mut x[..n], &mut y[..n]);
 }

@@ -1,9 +1,10 @@
 -- `exchange::run` meets its contract: before each turn the indices before c are exchanged.
 -- Assumes nothing.
 use mathlib.Core.Path.{_≡_, sym, _∙_}
-use Prim.Native.Nat.{_-_}
+use Prim.Native.Nat.{_-_, _≤_}
 use native.Mathlib.Omega.{arith}
-use lib.ListN.{length}
+use lib.ListN.{length, take, length-append}
+use lib.Seq.{length-take-le}
 use Rattle.skew.specs.Subset.{marked}
 use Rattle.skew.specs.Inverse.{Matrix}
 use Rattle.exchange.specs.Run.{Holds, Running, Bounded, bounded-ready, bounded-next, running-start, running-next, running-stuck, running-end}
@@ -12,10 +13,14 @@ use Rattle.exchange.proofs.run.Statement.{statement}
 use Rattle.exchange.proofs.run.Tie as tie
 
 abbrev Inv-loop : tie.InvT-loop
-Inv-loop t₀ n waiting₀ c₀ t waiting c = Bounded n c t waiting × ((A : Matrix) → Holds n A (marked waiting₀) t₀ → Running n A (marked waiting₀) c t waiting)
+Inv-loop t₀ n waiting₀ x₀ y₀ c₀ t waiting x y c =
+    Bounded n c t waiting
+    × ((A : Matrix) → Holds n A (marked waiting₀) t₀ → Running n A (marked waiting₀) c t waiting)
+    × (n ≤ length x)
+    × (n ≤ length y)
 
 abbrev μ-loop : tie.MeasureT-loop
-μ-loop t₀ n waiting₀ c₀ t waiting c = n - c
+μ-loop t₀ n waiting₀ x₀ y₀ c₀ t waiting x y c = n - c
 
 abbrev start : tie.At-loop Inv-loop μ-loop → tie.Start Inv-loop μ-loop
 start at = at .before .before .before
@@ -27,6 +32,13 @@ table-size at = at .loop .inv .0 .table-square .size ∙ sym (start at .pre .0 .
 waiting-size : (at : tie.At-loop Inv-loop μ-loop) → length (at .loop .waiting) ≡ length (start at .args .waiting .now)
 waiting-size at = at .loop .inv .0 .size ∙ sym (start at .pre .2)
 
+-- room for two columns
+x-size : (at : tie.At-loop Inv-loop μ-loop) → length (take (start at .args .n) (at .loop .x)) ≡ start at .args .n
+x-size at = length-take-le _ (at .loop .x) (at .loop .inv .2)
+
+y-size : (at : tie.At-loop Inv-loop μ-loop) → length (take (start at .args .n) (at .loop .y)) ≡ start at .args .n
+y-size at = length-take-le _ (at .loop .y) (at .loop .inv .3)
+
 loop-holds : tie.Need-loop-holds Inv-loop μ-loop
 loop-holds c =
     let s = c .before .before in (
@@ -37,19 +49,35 @@ loop-holds c =
         reached = omega arith;
       },
       λ A H. running-start (s .args .waiting .now) H,
+      s .pre .0 .small,
+      s .pre .0 .small,
     )
 
+array-borrow-prefix-x : tie.Need-array-borrow-prefix-x Inv-loop μ-loop
+array-borrow-prefix-x c = c .before .before .before .loop .inv .2
+
+slice-aggregate-turn : tie.Need-slice-aggregate-turn Inv-loop μ-loop
+slice-aggregate-turn c = sym (x-size (c .before .before .before .before))
+
+array-borrow-prefix-y : tie.Need-array-borrow-prefix-y Inv-loop μ-loop
+array-borrow-prefix-y c = c .before .before .before .before .loop .inv .3
+
+slice-aggregate-turn-2 : tie.Need-slice-aggregate-turn-2 Inv-loop μ-loop
+slice-aggregate-turn-2 c = sym (y-size (c .before .before .before .before .before))
+
 turn-requires : tie.Need-turn-requires Inv-loop μ-loop
-turn-requires c κs = bounded-ready (c .before .before .before .loop .inv .0) (c .before .before .loop-test .taken)
+turn-requires c κs =
+    let at = c .before .before .before .before .before in (bounded-ready (at .loop .inv .0) (c .before .before .before .before .loop-test .taken), x-size at, y-size at)
 
 same-length : tie.Need-same-length Inv-loop μ-loop
-same-length c = c .before .before .before .before .before .turn .kept .0 ∙ table-size (c .before .before .before .before .before .before .before .before .before)
+same-length c = c .before .before .before .before .before .before .before .turn .kept .0 ∙ table-size (c .before .before .before .before .before .before .before .before .before .before .before .before .before)
 
 same-length-2 : tie.Need-same-length-2 Inv-loop μ-loop
-same-length-2 c = c .before .before .before .before .before .turn .kept .1 .1 .1 .0 ∙ waiting-size (c .before .before .before .before .before .before .before .before .before)
+same-length-2 c = c .before .before .before .before .before .before .before .turn .kept .1 .1 .1 .0 ∙ waiting-size (c .before .before .before .before .before .before .before .before .before .before .before .before .before)
 
 returns : tie.Need-returns Inv-loop μ-loop
-returns c = λ A H. running-stuck (c .before .before .before .before .before .before .before .before .before .loop .inv .1 A H) (c .before .before .before .before .before .before .before .before .loop-test .taken) (c .before .before .before .before .before .turn .ensures) (c .if1 .taken)
+returns c =
+    λ A H. running-stuck (c .before .before .before .before .before .before .before .before .before .before .before .before .before .loop .inv .1 A H) (c .before .before .before .before .before .before .before .before .before .before .before .before .loop-test .taken) (c .before .before .before .before .before .before .before .turn .ensures) (c .if1 .taken)
 
 add-c : tie.Need-add-c Inv-loop μ-loop
 add-c c = search needs
@@ -59,10 +87,10 @@ loop-less c = search needs
 
 loop-again : tie.Need-loop-again Inv-loop μ-loop
 loop-again c =
-    let at = c .before .before .before .before .before .before .before .before .before .loop in
-    let h = c .before .before .before .before .before .before .before .before .loop-test .taken in
-    let k = c .before .before .before .before .before .turn in
-    (bounded-next (at .inv .0) h (k .ensures) (k .kept .0) (k .kept .1 .1 .1 .0), λ A H. running-next (at .inv .1 A H) h (at .inv .0 .size) (k .ensures) (c .if1 .left))
+    let at = c .before .before .before .before .before .before .before .before .before .before .before .before .before in
+    let h = c .before .before .before .before .before .before .before .before .before .before .before .before .loop-test .taken in
+    let k = c .before .before .before .before .before .before .before .turn in
+    (bounded-next (at .loop .inv .0) h (k .ensures) (k .kept .0) (k .kept .1 .1 .1 .0), λ A H. running-next (at .loop .inv .1 A H) h (at .loop .inv .0 .size) (k .ensures) (c .if1 .left), simp length-append (omega (arith, k .kept .1 .1 .1 .1 .0, x-size at)), simp length-append (omega (arith, k .kept .1 .1 .1 .1 .1 .0, y-size at)))
 
 same-length-3 : tie.Need-same-length-3 Inv-loop μ-loop
 same-length-3 c = table-size (c .before)
@@ -80,6 +108,10 @@ run-spec =
     Inv-loop
     μ-loop
     loop-holds
+    array-borrow-prefix-x
+    slice-aggregate-turn
+    array-borrow-prefix-y
+    slice-aggregate-turn-2
     turn-requires
     same-length
     same-length-2
