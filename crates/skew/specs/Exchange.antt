@@ -12,7 +12,7 @@ use Rattle.modular.specs.Sum.{sum-one}
 use Rattle.modular.specs.Prime.{Odd}
 use Rattle.skew.specs.Choose.{choose, choose-yes, choose-no}
 use Rattle.skew.specs.Subset.{Subset, _∈_, _∉_, Member, inside, outside, member?, Without, Place, at-a, at-b, stays, never, place, not-first, not-second, clash}
-use Rattle.skew.specs.Inverse.{Matrix, Vector, column, apply, apply-linear, Skew, Inverse, apply-congruent, apply-zero, same-members}
+use Rattle.skew.specs.Inverse.{Matrix, Vector, column, apply, apply-linear, Skew, Inverse, apply-congruent, apply-zero}
 
 -- an entry of the identity
 unfoldable pub delta : Matrix
@@ -198,49 +198,31 @@ module _ (p n : ℕ) (A : Matrix) (S : Subset) where
                 ≡ apply n A u j + a * apply n A (source P M c) j + b * apply n A (source P M r) j
             split u a b = apply-linear n A _ (source P M r) b j ∙ ap (λ z. z + b * apply n A (source P M r) j) (apply-linear n A u (source P M c) a j)
 
-  -- a table that is M on P, and 0 elsewhere, is the inverse on P
-  pub exchange-inverse : {P : Subset} {M T : Matrix} → Exchange p n A S P M → ((i j : ℕ) → i < n → j < n → i ∈ P → j ∈ P → T i j ≈ M i j)
-      → ((i j : ℕ) → i < n → j < n → i ∉ P → T i j ≈ 0) → ((i j : ℕ) → i < n → j < n → j ∉ P → T i j ≈ 0) → Inverse p n A P T
-  exchange-inverse {P} {M} {T} E on rows columns = record {
-    rows = rows;
-    columns = columns;
-    one = λ i hi m. read i i hi hi m m ⨾ equals (delta-same i);
-    off = λ i j hi hj m m' d. read i j hi hj m m' ⨾ equals (delta-other j i (λ e. d (sym e)));
-  }
-    where
-      index : (i : ℕ) → i < n → i ∈ P → Index n S i
-      index i hi m = record { below = hi; inside = E .within i m }
-
-      opposite : (j k : ℕ) → j < n → k < n → j ∈ P → T k j + 1 * source P M j k ≈ 0
-      opposite j k hj hk m = go (member? P k)
-        where
-          go : Member P k → T k j + 1 * source P M j k ≈ 0
-          go (inside m') = rw m' (linear (on k j hk hj m' m ⊕ E .skew .turn k j hk hj) (omega arith))
-          go (outside o) = rw (o, delta-other j k (λ e. clash m (ap P e ∙ o))) (linear (rows k j hk hj o) (omega arith))
-
-      read : (i j : ℕ) → i < n → j < n → i ∈ P → j ∈ P → apply n A (column T j) i ≈ delta j i
-      read i j hi hj m m' =
-          linear
-          (apply-zero p n A (λ k. T k j + 1 * source P M j k) i (λ k hk. opposite j k hj hk m')
-          ⊖ E .product j i (index j hj m') (index i hi m))
-          (omega (arith, apply-linear n A (column T j) (source P M j) 1 i, ap (λ z. select z (delta j i) (M j i)) m))
-
-  -- with all of S exchanged, it is the inverse on S
+  -- with all of S exchanged, a table that is M on S, and 0 elsewhere, is the inverse on S
   pub exchange-whole : {P : Subset} {M T : Matrix} → Exchange p n A S P M → ((i : ℕ) → Index n S i → i ∈ P)
       → ((i j : ℕ) → Index n S i → Index n S j → T i j ≈ M i j)
       → ((i j : ℕ) → i < n → j < n → i ∉ S → T i j ≈ 0) → ((i j : ℕ) → i < n → j < n → j ∉ S → T i j ≈ 0) → Inverse p n A S T
-  exchange-whole {P} {M} {T} E full on rows columns =
-      same-members p n A same
-      (exchange-inverse E (λ i j hi hj m m'. on i j (index i hi m) (index j hj m')) (λ i j hi hj o. rows i j hi hj (same i hi ∙ o))
-      (λ i j hi hj o. columns i j hi hj (same j hj ∙ o)))
+  exchange-whole {P} {M} {T} E full on rows columns = record {
+    rows = rows;
+    columns = columns;
+    one = λ i hi l. let li : Index n S i = record { below = hi; inside = l } in read i i li li ⨾ equals (delta-same i);
+    off = λ i j hi hj l l' d.
+        read i j (record { below = hi; inside = l }) (record { below = hj; inside = l' }) ⨾ equals (delta-other j i (λ e. d (sym e)));
+  }
     where
-      index : (i : ℕ) → i < n → i ∈ P → Index n S i
-      index i hi m = record { below = hi; inside = E .within i m }
-
-      same : (i : ℕ) → i < n → S i ≡ P i
-      same i hi = go (member? S i) (member? P i)
+      opposite : (j k : ℕ) → Index n S j → k < n → T k j + 1 * source P M j k ≈ 0
+      opposite j k lj hk = go (member? S k) (member? P k)
         where
-          go : Member S i → Member P i → S i ≡ P i
-          go (inside l) _ = l ∙ sym (full i (record { below = hi; inside = l }))
-          go (outside o) (inside m) = clash (E .within i m) o
-          go (outside o) (outside o') = o ∙ sym o'
+          go : Member S k → Member P k → T k j + 1 * source P M j k ≈ 0
+          go (inside l) _ =
+              let lk : Index n S k = record { below = hk; inside = l } in
+              rw (full k lk) (linear (on k j lk lj ⊕ E .skew .turn k j hk (lj .below)) (omega arith))
+          go (outside o) (inside m) = clash (E .within k m) o
+          go (outside o) (outside o') =
+              rw (o', delta-other j k (λ e. clash (lj .inside) (ap S e ∙ o))) (linear (rows k j hk (lj .below) o) (omega arith))
+
+      read : (i j : ℕ) → Index n S i → Index n S j → apply n A (column T j) i ≈ delta j i
+      read i j li lj =
+          linear
+          (apply-zero p n A (λ k. T k j + 1 * source P M j k) i (λ k hk. opposite j k lj hk) ⊖ E .product j i lj li)
+          (omega (arith, apply-linear n A (column T j) (source P M j) 1 i, ap (λ z. select z (delta j i) (M j i)) (full i li)))
