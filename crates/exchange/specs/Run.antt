@@ -16,9 +16,9 @@ use Rattle.modular.specs.Prime.{by-remainders, remainders-equal}
 use Rattle.residue.specs.Modulus.{modulus, modulus-prime}
 use Rattle.skew.specs.Choose.{choose, choose-yes, choose-no}
 use Rattle.skew.specs.Subset.{Subset, _∈_, _∉_, Member, inside, outside, member?, marked, marked-in, marked-out, marked-same, Without, clash}
-use Rattle.skew.specs.Inverse.{Matrix, Vector, Skew, Inverse}
+use Rattle.skew.specs.Inverse.{Matrix, Vector, delta, delta-same, delta-other, Skew, Inverse}
 use Rattle.skew.specs.Column.{FirstDependent, Witness}
-use Rattle.skew.specs.Exchange.{delta, delta-same, delta-other, source, Index, exchanged-zero, exchange-whole}
+use Rattle.skew.specs.Exchange.{source, Index, exchanged-zero, exchange-whole}
 use Rattle.skew.specs.Triangle.{mirror-above, mirror-skew, mirror-diagonal}
 use Rattle.skew.specs.Run.{State, Full, Lowest, Alone, state-start, state-skip, state-pair, state-witness, state-first}
 use Rattle.skew.specs.Decide.{full-next}

@@ -8,24 +8,9 @@ use Prim.Native.Nat.{ℕ, _+_, _*_, _<_}
 use native.Mathlib.Omega.{arith}
 use native.Mathlib.Decide.{ℕ-discrete}
 use Rattle.modular.specs.Congruence.{Congruent, equals, _⨾_, _⊕_, _⊖_, _⊛_, linear, halve}
-use Rattle.modular.specs.Sum.{sum-one}
 use Rattle.modular.specs.Prime.{Odd}
-use Rattle.skew.specs.Choose.{choose, choose-yes, choose-no}
 use Rattle.skew.specs.Subset.{Subset, _∈_, _∉_, Member, inside, outside, member?, Without, Place, at-a, at-b, stays, never, place, not-first, not-second, clash}
-use Rattle.skew.specs.Inverse.{Matrix, Vector, column, apply, apply-linear, Skew, Inverse, apply-congruent, apply-zero}
-
--- an entry of the identity
-unfoldable pub delta : Matrix
-unfolding ℕ-discrete
-delta i j = choose (ℕ-discrete i j) 1 0
-
-pub delta-same : (i : ℕ) → delta i i ≡ 1
-unfolding delta
-delta-same i = choose-yes (ℕ-discrete i i) _ _ refl
-
-pub delta-other : (i j : ℕ) → i ≢ j → delta i j ≡ 0
-unfolding delta
-delta-other i j d = choose-no (ℕ-discrete i j) _ _ d
+use Rattle.skew.specs.Inverse.{Matrix, Vector, column, delta, delta-same, delta-other, apply, apply-linear, Skew, Inverse, apply-congruent, apply-zero, apply-delta}
 
 abbrev pub select : Bool → ℕ → ℕ → ℕ
 select true x y = x
@@ -89,22 +74,17 @@ module _ (p n : ℕ) (A : Matrix) (S : Subset) where
   -- with nothing exchanged, M is A on S
   pub exchange-start : (P : Subset) {M : Matrix} → Skew p n M → ((i : ℕ) → i ∉ P) → ((i j : ℕ) → Index n S i → Index n S j → M i j ≈ A i j)
       → Exchange p n A S P M
-  unfolding apply
-  exchange-start P {M} K none same = record { within = λ i m. clash m (none i); skew = K; product = product }
-    where
-      product : (i j : ℕ) → Index n S i → Index n S j → apply n A (source P M i) j + target P M i j ≈ 0
-      product i j li lj =
-          linear
-          (sum-one n i (λ k. A j k * source P M i k) (li .below) other ⊕ K .turn i j (li .below) (lj .below) ⊖ same j i lj li)
-          (omega (
-            arith,
-            ap (λ z. A j i * select z (M i i) (delta i i)) (none i),
-            ap (λ z. A j i * z) (delta-same i),
-            ap (λ z. select z (delta i j) (M i j)) (none j),
-          ))
-        where
-          other : (k : ℕ) → k < n → k ≢ i → A j k * source P M i k ≈ 0
-          other k hk d = equals (rw (none k, delta-other i k (λ e. d (sym e))) (omega arith))
+  exchange-start P {M} K none same = record {
+    within = λ i m. clash m (none i);
+    skew = K;
+    product = λ i j li lj.
+        linear
+        (apply-congruent p n A (source P M i) (delta i) j (λ k _. equals (rw (none k) refl))
+        ⊕ apply-delta p n A i j (li .below)
+        ⊕ K .turn i j (li .below) (lj .below)
+        ⊖ same j i lj li)
+        (omega (arith, ap (λ z. select z (delta i j) (M i j)) (none j)));
+  }
 
   -- c and r are exchanged besides: sources and targets become the new ones by the same row operation
   module _ (O : Odd p) {P P' : Subset} {M M' : Matrix} {c r g : ℕ} (E : Exchange p n A S P M) (s : Without P' c r P) (lc : Index n S c)

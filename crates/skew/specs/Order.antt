@@ -9,9 +9,9 @@ use Rattle.modular.specs.Congruence.{Congruent, equals, _⨾_, _⊕_, _⊖_, _�
 use Rattle.modular.specs.Sum.{sum-one}
 use Rattle.modular.specs.Prime.{Odd, OddPrime, one-not-zero}
 use Rattle.skew.specs.Subset.{Subset, _∈_, _∉_, Member, inside, outside, member?, Without, Place, at-a, at-b, stays, never, place, smaller, not-first, not-second, clash}
-use Rattle.skew.specs.Inverse.{Matrix, Vector, apply, form, form-zero, form-skew, apply-congruent, Supported, Skew}
+use Rattle.skew.specs.Inverse.{Matrix, Vector, delta, delta-same, delta-other, apply, form, form-zero, form-skew, apply-congruent, Supported, Skew}
 use Rattle.skew.specs.Column.{Dependent, Witness, witness-of-dependent, dependent-of-witness}
-use Rattle.skew.specs.Exchange.{delta, delta-same, delta-other, select, source, target, Index, Exchange, Exchanged}
+use Rattle.skew.specs.Exchange.{select, source, target, Index, Exchange, Exchanged}
 
 pub record Staircase (p n : ℕ) (S P : Subset) (M : Matrix) : Type 0 where
   pub zero : (q j : ℕ) → Index n S q → Index n S j → q ∈ P → j ∉ P → j < q → Congruent p (M q j) 0

@@ -8,9 +8,9 @@ use native.Mathlib.Decide.{ℕ-discrete}
 use Rattle.modular.specs.Congruence.{Congruent, equals, _⊕_, _⊖_, _⊛_, linear}
 use Rattle.modular.specs.Prime.{Odd, minus-one, negate}
 use Rattle.skew.specs.Choose.{choose, choose-yes, choose-no}
-use Rattle.skew.specs.Inverse.{Matrix, Vector, Skew}
+use Rattle.skew.specs.Inverse.{Matrix, Vector, delta, delta-same, delta-other, Skew}
 use Rattle.skew.specs.Update.{Update, updated, update-skew}
-use Rattle.skew.specs.Exchange.{delta, delta-same, delta-other, Exchanged, skew-diagonal}
+use Rattle.skew.specs.Exchange.{Exchanged, skew-diagonal}
 
 -- 0 at c and r, and 1 elsewhere
 unfoldable pub keep : ℕ → ℕ → Vector
