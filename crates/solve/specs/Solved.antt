@@ -14,9 +14,9 @@ use Rattle.modular.specs.Congruence.{Congruent, equals, _⨾_}
 use Rattle.residue.specs.Modulus.{modulus, modulus-prime}
 use Rattle.skew.specs.Choose.{choose-yes, choose-no}
 use Rattle.skew.specs.Subset.{Subset, Member, inside, outside, member?}
-use Rattle.skew.specs.Inverse.{Matrix, Skew, Inverse, same-entries, same-members}
+use Rattle.skew.specs.Inverse.{Matrix, Skew, Inverse}
 use Rattle.skew.specs.Column.{FirstDependent, Witness}
-use Rattle.skew.specs.Same.{members-first, members-witness}
+use Rattle.skew.specs.Same.{inverse-same, witness-same, first-same}
 use Rattle.skew.specs.Exchange.{select}
 use Rattle.skew.specs.Triangle.{mirror-above, mirror-skew, by-triangle}
 use Rattle.matching.specs.Graph.{Graph, tutte, tutte-upper, weight, upper}
@@ -220,10 +220,7 @@ module _ (g : Graph) {S L : Subset} (agree : (i : ℕ) → i < g .n → L i ≡ 
     small = λ x l.
         rw (← index-of (g .n) x, C .row (x / g .n) (x % g .n) (row-below (g .n) x l) (column-below (g .n) x l))
         (word-small (g .n) t (x / g .n) (x % g .n));
-    is-inverse =
-        same-members modulus (g .n) (tutte g modulus) agree
-        (same-entries modulus (g .n) (tutte g modulus) (table (g .n) words)
-        (λ i j hi hj. equals (C .row i j hi hj) ⨾ word-matrix (g .n) t i j) I);
+    is-inverse = inverse-same (λ _ _ _ _. refl) agree (λ i j hi hj. equals (C .row i j hi hj) ⨾ word-matrix (g .n) t i j) I;
   }
 
   pub column-solved : {f : ℕ} (waiting : List ℕ) {witness : List ℕ} → witness ≡ list-of (g .n) (witness-word (g .n) t waiting f)
@@ -231,8 +228,8 @@ module _ (g : Graph) {S L : Subset} (agree : (i : ℕ) → i < g .n → L i ≡ 
       → Singular modulus g L f witness
   column-solved {f} waiting {witness} e F W = record {
     small = λ x l. rw (at x l) (witness-small (g .n) t waiting f x);
-    first = members-first (tutte g modulus) agree F;
-    kernel = members-witness (tutte g modulus) agree (λ k l. equals (at k l)) W;
+    first = first-same (λ _ _ _ _. refl) agree F;
+    kernel = witness-same (λ _ _ _ _. refl) agree (λ k l. equals (at k l)) W;
   }
     where
       at : (x : ℕ) → x < g .n → getD witness x 0 ≡ witness-word (g .n) t waiting f x
