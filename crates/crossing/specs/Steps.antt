@@ -8,7 +8,7 @@ use Rattle.modular.specs.Congruence.{equals}
 use Rattle.skew.specs.Subset.{Subset}
 use Rattle.skew.specs.Same.{inverse-same}
 use Rattle.matching.specs.Decision.{Every, both?, not?, when, judge}
-use Rattle.matching.specs.Graph.{pair-count, over, tutte}
+use Rattle.matching.specs.Graph.{pair-count, over}
 use Rattle.matching.specs.Pairs.{Pairs, pair-of, unmatched, in?, pairs-on}
 use Rattle.matching.specs.Session.{InverseTable, WellFormed}
 use Rattle.matching.specs.Decided.{well-formed?, inverse-table?}
