@@ -1,10 +1,10 @@
 -- The order of exchange: c goes up, and its partner is the lowest. Then M is 0 in the rows of P before their diagonal, off P; hence the
 -- indices in P have independent columns, and an index without a partner has a dependent one. Assumes nothing.
-use mathlib.Core.Path.{_≡_, refl, sym, ap, _∙_}
+use mathlib.Core.Path.{refl, sym, ap, _∙_}
 use mathlib.Core.Logic.{_≢_, _↔_}
 use Prim.Native.Nat.{ℕ, suc, _+_, _*_, _<_}
 use native.Mathlib.Omega.{arith}
-use native.Mathlib.Decide.{ℕ-discrete, decLt}
+use native.Mathlib.Decide.{decLt}
 use Rattle.modular.specs.Congruence.{Congruent, equals, _⨾_, _⊕_, _⊖_, _⊛_, linear}
 use Rattle.modular.specs.Sum.{sum-one}
 use Rattle.modular.specs.Prime.{Odd, OddPrime, one-not-zero}
@@ -22,15 +22,6 @@ pub record Passed (p n : ℕ) (S P : Subset) (M : Matrix) (c : ℕ) : Type 0 whe
 
 pub staircase-start : {p n : ℕ} {S P : Subset} {M : Matrix} → ((i : ℕ) → i ∉ P) → Staircase p n S P M
 staircase-start none = record { zero = λ q j _ _ m. clash m (none q) }
-
--- one index further: c is in P, or not in S, or has no partner
-pub passed-on : {p n : ℕ} {S P : Subset} {M : Matrix} {c : ℕ} → Passed p n S P M c
-    → (Index n S c → c ∉ P → (k : ℕ) → Index n S k → k ∉ P → Congruent p (M c k) 0) → Passed p n S P M (suc c)
-passed-on {p} {n} {S} {P} {M} {c} Z z = record { zero = λ j k lj lk o o' h. go j k lj lk o o' h (ℕ-discrete j c) }
-  where
-    go : (j k : ℕ) → Index n S j → Index n S k → j ∉ P → k ∉ P → j < suc c → Dec (j ≡ c) → Congruent p (M j k) 0
-    go j k lj lk o o' h (yes e) = rw e (z (rw e at lj) (ap P (sym e) ∙ o) k lk o')
-    go j k lj lk o o' h (no d) = Z .zero j k lj lk o o' (omega arith)
 
 module _ (p n : ℕ) (A : Matrix) (S : Subset) where
   infix 50 _≈_

@@ -1,15 +1,15 @@
 -- Exchange, index by index: what holds at c on the way. Assumes nothing.
-use mathlib.Core.Path.{_≡_}
+use mathlib.Core.Path.{_≡_, sym, ap, _∙_}
 use Prim.Native.Nat.{ℕ, suc, _<_}
 use native.Mathlib.Omega.{arith}
-use native.Mathlib.Decide.{decLt}
+use native.Mathlib.Decide.{ℕ-discrete, decLt}
 use Rattle.modular.specs.Congruence.{Congruent, _⊖_, linear}
 use Rattle.modular.specs.Prime.{Odd, OddPrime}
 use Rattle.skew.specs.Subset.{Subset, _∈_, _∉_, Without, clash}
 use Rattle.skew.specs.Inverse.{Matrix, Vector, Skew}
 use Rattle.skew.specs.Column.{FirstDependent, Witness, dependent-of-witness}
 use Rattle.skew.specs.Exchange.{source, Index, Exchange, Exchanged, exchange-start, exchange-step, skew-diagonal}
-use Rattle.skew.specs.Order.{Staircase, Passed, staircase-start, staircase-step, passed-on, passed-step, exchange-independent, exchange-witness}
+use Rattle.skew.specs.Order.{Staircase, Passed, staircase-start, staircase-step, passed-step, exchange-independent, exchange-witness}
 
 -- at c: P is exchanged in M, in order, and the indices before c are in P or have no partner
 pub record State (p n : ℕ) (A : Matrix) (S P : Subset) (M : Matrix) (c : ℕ) : Type 0 where
@@ -43,13 +43,20 @@ module _ (p n : ℕ) (A : Matrix) (S : Subset) where
   }
 
   module _ (O : Odd p) {P : Subset} {M : Matrix} {c : ℕ} (H : State p n A S P M c) where
-    -- c is in P already, or not in S
-    pub state-skip : (Index n S c → c ∈ P) → State p n A S P M (suc c)
-    state-skip f = record {
+    -- one index further: c is in P, or not in S, or has no partner
+    state-on : (Index n S c → c ∉ P → (k : ℕ) → Index n S k → k ∉ P → Congruent p (M c k) 0) → State p n A S P M (suc c)
+    state-on z = record {
       exchange = H .exchange;
       staircase = H .staircase;
-      passed = passed-on (H .passed) (λ l o. clash (f l) o);
+      passed = record { zero = λ j k lj lk o o' h. go j k lj lk o o' h (ℕ-discrete j c) };
     }
+      where
+        go : (j k : ℕ) → Index n S j → Index n S k → j ∉ P → k ∉ P → j < suc c → Dec (j ≡ c) → Congruent p (M j k) 0
+        go j k lj lk o o' h (yes e) = rw e (z (rw e at lj) (ap P (sym e) ∙ o) k lk o')
+        go j k lj lk o o' h (no d) = H .passed .zero j k lj lk o o' (omega arith)
+
+    pub state-skip : (Index n S c → c ∈ P) → State p n A S P M (suc c)
+    state-skip f = state-on (λ l o. clash (f l) o)
 
     -- c and its lowest partner are exchanged
     pub state-pair : {P' : Subset} {M' : Matrix} {r g : ℕ} → Index n S c → Lowest p n S P M c r → Without P' c r P → Exchanged p n c r g M M'
@@ -74,11 +81,7 @@ module _ (p n : ℕ) (A : Matrix) (S : Subset) where
 
     -- such a c may be passed: see `exchange-kept` for the end
     pub state-pass : (Index n S c → Alone p n S P M c n) → State p n A S P M (suc c)
-    state-pass a = record {
-      exchange = H .exchange;
-      staircase = H .staircase;
-      passed = passed-on (H .passed) (λ lc oc. state-alone lc oc (a lc));
-    }
+    state-pass a = state-on (λ lc oc. state-alone lc oc (a lc))
 
     -- its source is a witness
     pub state-witness : Index n S c → c ∉ P → Alone p n S P M c n → {w : Vector} → ((k : ℕ) → k < n → Congruent p (w k) (source P M c k))
