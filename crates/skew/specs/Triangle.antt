@@ -4,11 +4,10 @@ use mathlib.Core.Logic.{_≢_}
 use Prim.Native.Nat.{ℕ, _+_, _*_, _<_}
 use native.Mathlib.Omega.{arith}
 use native.Mathlib.Decide.{decLt}
-use Rattle.modular.specs.Congruence.{Congruent, equals, _⊕_, _⊖_, linear}
+use Rattle.modular.specs.Congruence.{Congruent, equals, _⊖_, linear}
 use Rattle.modular.specs.Prime.{Odd, minus-one, negate}
 use Rattle.skew.specs.Choose.{choose, choose-yes, choose-no}
 use Rattle.skew.specs.Inverse.{Matrix, Vector, Skew}
-use Rattle.skew.specs.Update.{Update, updated, update-skew}
 use Rattle.skew.specs.Exchange.{Exchanged, skew-diagonal}
 use Rattle.skew.specs.Pivot.{cleared, cleared-skew, Bordered, update-exchanged}
 
@@ -38,12 +37,12 @@ module _ {p : ℕ} (O : Odd p) (t : Matrix) where
       go i j (no _) (yes l) = rw (mirror-above j i l, mirror-below i j l) (linear (negate O (t j i)) (omega arith))
       go i j (no d) (no e) = let q : j ≡ i = omega arith in rw (q, mirror-diagonal i) (equals (omega arith))
 
--- skew matrices that are congruent above the diagonal are so everywhere
-pub by-triangle : {p n : ℕ} {M N : Matrix} → Odd p → Skew p n M → Skew p n N → ((i j : ℕ) → i < j → j < n → Congruent p (M i j) (N i j))
-    → (i j : ℕ) → i < n → j < n → Congruent p (M i j) (N i j)
-by-triangle {p} {n} {M} {N} O K K' h i j hi hj = go (decLt i j) (decLt j i)
+-- skew matrices that differ above the diagonal by E less its transpose do so everywhere
+pub by-triangle : {p n : ℕ} {M N : Matrix} (E : Matrix) → Odd p → Skew p n M → Skew p n N
+    → ((i j : ℕ) → i < j → j < n → Congruent p (M i j + E i j) (N i j + E j i)) → (i j : ℕ) → i < n → j < n → Congruent p (M i j + E i j) (N i j + E j i)
+by-triangle {p} {n} {M} {N} E O K K' h i j hi hj = go (decLt i j) (decLt j i)
   where
-    go : Dec (i < j) → Dec (j < i) → Congruent p (M i j) (N i j)
+    go : Dec (i < j) → Dec (j < i) → Congruent p (M i j + E i j) (N i j + E j i)
     go (yes l) _ = h i j l hj
     go (no _) (yes l) = linear (K .turn i j hi hj ⊖ K' .turn i j hi hj ⊖ h j i l hi) (omega arith)
     go (no d) (no e) =
@@ -57,21 +56,10 @@ pub exchanged-above : {p : ℕ} (O : Odd p) (n : ℕ) {c r g : ℕ} (t t' : Matr
     → Exchanged p n c r g (mirror O t) (mirror O t')
 exchanged-above {p} O n {c} {r} {g} t t' {x} {y} d hc hr unit X Y h =
     update-exchanged O c r (mirror O t) (mirror-skew O t n) d hc hr unit X Y
-    (record { entry = λ i j hi hj. linear (by-triangle O (mirror-skew O t' n) skew above i j hi hj ⊕ U .entry i j hi hj) (omega arith) })
+    (record { entry = λ i j hi hj. linear (by-triangle E O (mirror-skew O t' n) (cleared-skew c r (mirror-skew O t n)) above i j hi hj) (omega arith) })
   where
-    new : Matrix
-    new i j = cleared c r (mirror O t) i j + g * x j * y i + minus-one O * (g * y j * x i)
+    E : Matrix
+    E i j = g * y j * x i
 
-    U : Update p n (cleared c r (mirror O t)) x y g new
-    U = updated O (cleared c r (mirror O t)) x y g
-
-    skew : Skew p n new
-    skew = record {
-      turn = λ i j hi hj. update-skew U i j hi hj (cleared-skew c r (mirror-skew O t n) .turn i j hi hj);
-    }
-
-    above : (i j : ℕ) → i < j → j < n → Congruent p (mirror O t' i j) (new i j)
-    above i j l hj =
-        let e : Congruent p (mirror O t' i j + g * y j * x i) (cleared c r (mirror O t) i j + g * x j * y i) =
-        rw (mirror-above O t' i j l, mirror-above O t i j l) (h i j l hj) in
-        linear (e ⊖ U .entry i j (omega arith) hj) (omega arith)
+    above : (i j : ℕ) → i < j → j < n → Congruent p (mirror O t' i j + E i j) (cleared c r (mirror O t) i j + E j i)
+    above i j l hj = rw (mirror-above O t' i j l, mirror-above O t i j l) (linear (h i j l hj) (omega arith))

@@ -10,7 +10,7 @@ use lib.Seq.{getD-take, getD-set-same, getD-set-other}
 use Rattle.lists.specs.Values.{list-of, getD-list-of}
 use Rattle.lists.specs.Part.{length-part}
 use Rattle.lists.specs.Table.{table, row-below, column-below, index-of, index-below, same-place, Square}
-use Rattle.modular.specs.Congruence.{Congruent, equals, _⨾_}
+use Rattle.modular.specs.Congruence.{Congruent, equals, _⨾_, linear}
 use Rattle.residue.specs.Modulus.{modulus, modulus-prime}
 use Rattle.skew.specs.Choose.{choose-yes, choose-no}
 use Rattle.skew.specs.Subset.{Subset, Member, inside, outside, member?}
@@ -55,9 +55,11 @@ blank-part n m h l = record {
 module _ {n : ℕ} {E : Matrix} {t t' : List ℕ} (F : Filled n E n t t') where
   pub filled-matrix : {M : Matrix} → Skew modulus n M → ((i j : ℕ) → i < j → j < n → M i j ≡ E i j)
       → (i j : ℕ) → i < n → j < n → Congruent modulus (matrix n t' i j) (M i j)
-  filled-matrix S h =
-      by-triangle (modulus-prime .odd) (mirror-skew (modulus-prime .odd) (table n t') n) S
-      (λ i j l hj. rw (mirror-above (modulus-prime .odd) (table n t') i j l, F .above i j (omega arith) l hj, h i j l hj) (equals refl))
+  filled-matrix S h i j hi hj =
+      linear
+      (by-triangle (λ _ _. 0) (modulus-prime .odd) (mirror-skew (modulus-prime .odd) (table n t') n) S
+      (λ i j l hj. rw (mirror-above (modulus-prime .odd) (table n t') i j l, F .above i j (omega arith) l hj, h i j l hj) (equals refl)) i j hi hj)
+      (omega arith)
 
   pub filled-below : {b : ℕ} → Blank n t → 0 < b → ((i j : ℕ) → i < j → j < n → E i j < b) → Small b n t'
   filled-below {b} B positive small = record { at = λ i j hi hj. go i j hi hj (decLt i j) }
