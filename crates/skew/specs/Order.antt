@@ -16,9 +16,13 @@ use Rattle.skew.specs.Exchange.{select, source, target, Index, Exchange,
 pub record Staircase (p n : ℕ) (S P : Subset) (M : Matrix) : Type 0 where
   pub zero : (q j : ℕ) → Index n S q → Index n S j → q ∈ P → j ∉ P → j < q → Congruent p (M q j) 0
 
--- the indices before c that are not in P have no partner
+-- j, if it is not in P, has no partner
+abbrev pub Lone : ℕ → ℕ → Subset → Subset → Matrix → ℕ → Type 0
+Lone p n S P M j = Index n S j → j ∉ P → (k : ℕ) → Index n S k → k ∉ P → Congruent p (M j k) 0
+
+-- so it is with all before c
 pub record Passed (p n : ℕ) (S P : Subset) (M : Matrix) (c : ℕ) : Type 0 where
-  pub zero : (j k : ℕ) → Index n S j → Index n S k → j ∉ P → k ∉ P → j < c → Congruent p (M j k) 0
+  pub zero : (j : ℕ) → j < c → Lone p n S P M j
 
 pub staircase-start : {p n : ℕ} {S P : Subset} {M : Matrix} → ((i : ℕ) → i ∉ P) → Staircase p n S P M
 staircase-start none = record { zero = λ q j _ _ m. clash m (none q) }
@@ -43,16 +47,16 @@ module _ (p n : ℕ) (A : Matrix) (S : Subset) where
     pub passed-step : Passed p n S P' M' (suc c)
     passed-step = record { zero = zero }
       where
-        zero : (j k : ℕ) → Index n S j → Index n S k → j ∉ P' → k ∉ P' → j < suc c → M' j k ≈ 0
-        zero j k lj lk o o' h =
+        zero : (j : ℕ) → j < suc c → Lone p n S P' M' j
+        zero j h lj o k lk o' =
             let d : j ≢ c = not-first s j o in
             let l : j < c = omega arith in
             let f = smaller s j o in
             linear
             (entry-rest j k lj lk d (not-second s j o) o'
-            ⊕ Z .zero j k lj lk f (smaller s k o') l
-            ⊖ (g * M c k) ⊛ Z .zero j r lj lr f (s .b-out) l
-            ⊕ (g * M r k) ⊛ Z .zero j c lj lc f (s .a-out) l)
+            ⊕ Z .zero j l lj f k lk (smaller s k o')
+            ⊖ (g * M c k) ⊛ Z .zero j l lj f r lr (s .b-out)
+            ⊕ (g * M r k) ⊛ Z .zero j l lj f c lc (s .a-out))
             (omega arith)
 
     -- r is the lowest partner of c
@@ -60,7 +64,7 @@ module _ (p n : ℕ) (A : Matrix) (S : Subset) where
     staircase-step h lowest = record { zero = λ q j lq lj m o l. zero q j lq lj m o l (place s q) }
       where
         passed : (j k : ℕ) → Index n S j → Index n S k → j ∉ P' → k ∉ P → j < c → M k j ≈ 0
-        passed j k lj lk o o' l = linear (E .skew .turn j k (lj .below) (lk .below) ⊖ Z .zero j k lj lk (smaller s j o) o' l) (omega arith)
+        passed j k lj lk o o' l = linear (E .skew .turn j k (lj .below) (lk .below) ⊖ Z .zero j l lj (smaller s j o) k lk o') (omega arith)
 
         row-c : (j : ℕ) → Index n S j → j ∉ P' → j < r → M c j ≈ 0
         row-c j lj o l = go (decLt j c)
@@ -176,4 +180,4 @@ module _ (p n : ℕ) (A : Matrix) (S : Subset) where
         go : ¬ Dependent p n A S i → Member P i → i ∈ P
         go f (inside m) = m
         go f (outside o) =
-            absurd (f (dependent-of-witness p n A S (prime .odd) (exchange-witness i li o (λ j lj o'. Z .zero i j li lj o o' (li .below)) (λ k hk. equals refl))))
+            absurd (f (dependent-of-witness p n A S (prime .odd) (exchange-witness i li o (Z .zero i (li .below) li o) (λ k hk. equals refl))))

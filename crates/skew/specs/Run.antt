@@ -1,15 +1,15 @@
 -- Exchange, index by index: what holds at c on the way. Assumes nothing.
-use mathlib.Core.Path.{_≡_, sym, ap, _∙_}
+use mathlib.Core.Path.{_≡_}
 use Prim.Native.Nat.{ℕ, suc, _<_}
 use native.Mathlib.Omega.{arith}
-use native.Mathlib.Decide.{ℕ-discrete, decLt}
+use native.Mathlib.Decide.{decLt}
 use Rattle.modular.specs.Congruence.{Congruent, _⊖_, linear}
 use Rattle.modular.specs.Prime.{Odd, OddPrime}
-use Rattle.skew.specs.Subset.{Subset, _∈_, _∉_, Without, clash}
+use Rattle.skew.specs.Subset.{Subset, _∈_, _∉_, one-more, Without, clash}
 use Rattle.skew.specs.Inverse.{Matrix, Vector, Skew}
 use Rattle.skew.specs.Column.{FirstDependent, Witness, dependent-of-witness}
 use Rattle.skew.specs.Exchange.{source, Index, Exchange, Exchanged, exchange-start, exchange-step, skew-diagonal}
-use Rattle.skew.specs.Order.{Staircase, Passed, staircase-start, staircase-step, passed-step, exchange-independent, exchange-witness}
+use Rattle.skew.specs.Order.{Staircase, Lone, Passed, staircase-start, staircase-step, passed-step, exchange-independent, exchange-witness}
 
 -- at c: P is exchanged in M, in order, and the indices before c are in P or have no partner
 pub record State (p n : ℕ) (A : Matrix) (S P : Subset) (M : Matrix) (c : ℕ) : Type 0 where
@@ -39,21 +39,17 @@ module _ (p n : ℕ) (A : Matrix) (S : Subset) where
   state-start P K none same = record {
     exchange = exchange-start p n A S P K none same;
     staircase = staircase-start none;
-    passed = record { zero = λ j k _ _ _ _ l. absurd (omega arith) };
+    passed = record { zero = λ j l. absurd (omega arith) };
   }
 
   module _ (O : Odd p) {P : Subset} {M : Matrix} {c : ℕ} (H : State p n A S P M c) where
     -- one index further: c is in P, or not in S, or has no partner
-    state-on : (Index n S c → c ∉ P → (k : ℕ) → Index n S k → k ∉ P → Congruent p (M c k) 0) → State p n A S P M (suc c)
+    state-on : Lone p n S P M c → State p n A S P M (suc c)
     state-on z = record {
       exchange = H .exchange;
       staircase = H .staircase;
-      passed = record { zero = λ j k lj lk o o' h. go j k lj lk o o' h (ℕ-discrete j c) };
+      passed = record { zero = one-more (Lone p n S P M) c (H .passed .zero) z };
     }
-      where
-        go : (j k : ℕ) → Index n S j → Index n S k → j ∉ P → k ∉ P → j < suc c → Dec (j ≡ c) → Congruent p (M j k) 0
-        go j k lj lk o o' h (yes e) = rw e (z (rw e at lj) (ap P (sym e) ∙ o) k lk o')
-        go j k lj lk o o' h (no d) = H .passed .zero j k lj lk o o' (omega arith)
 
     pub state-skip : (Index n S c → c ∈ P) → State p n A S P M (suc c)
     state-skip f = state-on (λ l o. clash (f l) o)
@@ -68,25 +64,25 @@ module _ (p n : ℕ) (A : Matrix) (S : Subset) where
     }
 
     -- a c that has no partner after it has none at all
-    state-alone : Index n S c → c ∉ P → Alone p n S P M c n → (k : ℕ) → Index n S k → k ∉ P → Congruent p (M c k) 0
-    state-alone lc oc a k lk o = go (decLt c k) (decLt k c)
+    state-alone : Alone p n S P M c n → Lone p n S P M c
+    state-alone a lc oc k lk o = go (decLt c k) (decLt k c)
       where
         go : Dec (c < k) → Dec (k < c) → Congruent p (M c k) 0
         go (yes l) _ = a k lk o l (lk .below)
         go (no _) (yes l) =
-            linear (H .exchange .skew .turn c k (lc .below) (lk .below) ⊖ H .passed .zero k c lk lc o oc l) (omega arith)
+            linear (H .exchange .skew .turn c k (lc .below) (lk .below) ⊖ H .passed .zero k l lk o c lc oc) (omega arith)
         go (no d) (no e) =
             let q : k ≡ c = omega arith in
             rw q (skew-diagonal O (H .exchange .skew) c (lc .below))
 
     -- such a c may be passed: see `exchange-kept` for the end
     pub state-pass : (Index n S c → Alone p n S P M c n) → State p n A S P M (suc c)
-    state-pass a = state-on (λ lc oc. state-alone lc oc (a lc))
+    state-pass a = state-on (λ lc. state-alone (a lc) lc)
 
     -- its source is a witness
     pub state-witness : Index n S c → c ∉ P → Alone p n S P M c n → {w : Vector} → ((k : ℕ) → k < n → Congruent p (w k) (source P M c k))
         → Witness p n A S c w
-    state-witness lc oc a = exchange-witness p n A S (H .exchange) (H .staircase) c lc oc (state-alone lc oc a)
+    state-witness lc oc a = exchange-witness p n A S (H .exchange) (H .staircase) c lc oc (state-alone a lc oc)
 
   -- and where all before it are in P, its column is the first dependent one
   pub state-first : OddPrime p → Skew p n A → {P : Subset} {M : Matrix} {c : ℕ} {w : Vector} → State p n A S P M c → Full S P c → Witness p n A S c w
