@@ -1,15 +1,15 @@
 -- The order of exchange: c goes up, and its partner is the lowest. Then M is 0 in the rows of P before their diagonal, off P; hence the
 -- indices in P have independent columns, and an index without a partner has a dependent one. Assumes nothing.
-use mathlib.Core.Path.{refl, sym, ap, _∙_}
+use mathlib.Core.Path.{sym, ap, _∙_}
 use mathlib.Core.Logic.{_≢_, _↔_}
 use Prim.Native.Nat.{ℕ, suc, _+_, _*_, _<_}
 use native.Mathlib.Omega.{arith}
 use native.Mathlib.Decide.{decLt}
-use Rattle.modular.specs.Congruence.{Congruent, equals, _⨾_, _⊕_, _⊖_, _⊛_, linear}
+use Rattle.modular.specs.Congruence.{Congruent, equals, _⊕_, _⊖_, _⊛_, linear}
 use Rattle.modular.specs.Sum.{sum-one}
 use Rattle.modular.specs.Prime.{Odd, OddPrime, one-not-zero}
 use Rattle.skew.specs.Subset.{Subset, _∈_, _∉_, Member, inside, outside, member?, Without, Place, at-a, at-b, stays, never, place, smaller, not-first, not-second, clash}
-use Rattle.skew.specs.Inverse.{Matrix, Vector, delta, delta-same, delta-other, apply, form, form-zero, form-skew, apply-congruent, Supported, Skew}
+use Rattle.skew.specs.Inverse.{Matrix, Vector, delta, delta-same, delta-other, apply, form, form-zero, form-skew, Supported, Skew}
 use Rattle.skew.specs.Column.{Dependent, Witness, witness-of-dependent, dependent-of-witness}
 use Rattle.skew.specs.Exchange.{select, source, target, Index, Exchange, Exchanged}
 
@@ -124,47 +124,39 @@ module _ (p n : ℕ) (A : Matrix) (S : Subset) where
     -- the columns of P are independent
     pub exchange-independent : OddPrime p → Skew p n A → (q : ℕ) → Index n S q → q ∈ P → ¬ Dependent p n A S q
     unfolding form
-    exchange-independent prime K q lq m D =
-        one-not-zero (prime .prime)
-        (linear
-        (form-zero p n A {L = S} (source P M q) w (source-supported q lq) (W .sent)
-        ⊖ form-skew p n A (prime .odd) K w (source P M q)
-        ⊕ sum-one n q (λ k. w k * apply n A (source P M q) k) (lq .below) other
-        ⊕ apply n A (source P M q) q ⊛ W .last
-        ⊕ E .product q q lq lq)
-        (omega (arith, ap (λ z. select z (delta q q) (M q q)) m, delta-same q)))
+    exchange-independent prime K q lq m D = none (witness-of-dependent p n A S (prime .odd) D .1)
       where
-        witness : (w : Vector) × Witness p n A S q w
-        witness = witness-of-dependent p n A S (prime .odd) D
-
-        w : Vector
-        w = witness .0
-
-        W : Witness p n A S q w
-        W = witness .1
-
-        other : (k : ℕ) → k < n → k ≢ q → w k * apply n A (source P M q) k ≈ 0
-        other k hk d = go (member? S k) (decLt k q)
+        none : {w : Vector} → ¬ Witness p n A S q w
+        none {w} W =
+            one-not-zero (prime .prime)
+            (linear
+            (form-zero p n A {L = S} (source P M q) w (source-supported q lq) (W .sent)
+            ⊖ form-skew p n A (prime .odd) K w (source P M q)
+            ⊕ sum-one n q (λ k. w k * apply n A (source P M q) k) (lq .below) other
+            ⊕ apply n A (source P M q) q ⊛ W .last
+            ⊕ E .product q q lq lq)
+            (omega (arith, ap (λ z. select z (delta q q) (M q q)) m, delta-same q)))
           where
-            go : Member S k → Dec (k < q) → w k * apply n A (source P M q) k ≈ 0
-            go (outside o) _ = linear (apply n A (source P M q) k ⊛ W .supported k hk o) (omega arith)
-            go (inside l) (no b) = linear (apply n A (source P M q) k ⊛ W .after k hk (omega arith)) (omega arith)
-            go (inside l) (yes b) =
-                let lk : Index n S k = record { below = hk; inside = l } in
-                linear (w k ⊛ vanish q k lq lk (λ _ e. d (sym e)) (λ o. F .zero q k lq lk m o b)) (omega arith)
+            other : (k : ℕ) → k < n → k ≢ q → w k * apply n A (source P M q) k ≈ 0
+            other k hk d = go (member? S k) (decLt k q)
+              where
+                go : Member S k → Dec (k < q) → w k * apply n A (source P M q) k ≈ 0
+                go (outside o) _ = linear (apply n A (source P M q) k ⊛ W .supported k hk o) (omega arith)
+                go (inside l) (no b) = linear (apply n A (source P M q) k ⊛ W .after k hk (omega arith)) (omega arith)
+                go (inside l) (yes b) =
+                    let lk : Index n S k = record { below = hk; inside = l } in
+                    linear (w k ⊛ vanish q k lq lk (λ _ e. d (sym e)) (λ o. F .zero q k lq lk m o b)) (omega arith)
 
     -- an index that is not in P and has no partner: its source is a witness
-    pub exchange-witness : (d : ℕ) → Index n S d → d ∉ P → ((j : ℕ) → Index n S j → j ∉ P → M d j ≈ 0)
-        → {w : Vector} → ((k : ℕ) → k < n → w k ≈ source P M d k) → Witness p n A S d w
-    exchange-witness d ld o alone {w} h = record {
+    pub exchange-witness : (d : ℕ) → Index n S d → d ∉ P → ((j : ℕ) → Index n S j → j ∉ P → M d j ≈ 0) → Witness p n A S d (source P M d)
+    exchange-witness d ld o alone = record {
       below = ld .below;
       in-L = ld .inside;
-      supported = λ k hk o'. h k hk ⨾ source-supported d ld k hk o';
+      supported = source-supported d ld;
       sent = λ j hj l.
-          let lj : Index n S j = record { below = hj; inside = l } in
-          apply-congruent p n A w (source P M d) j h ⨾ vanish d j ld lj (λ m e. clash m (ap P (sym e) ∙ o)) (alone j lj);
-      last = h d (ld .below) ⨾ equals (rw o (delta-same d));
-      after = λ k hk l. h k hk ⨾ after k hk l (member? P k);
+          let lj : Index n S j = record { below = hj; inside = l } in vanish d j ld lj (λ m e. clash m (ap P (sym e) ∙ o)) (alone j lj);
+      last = equals (rw o (delta-same d));
+      after = λ k hk l. after k hk l (member? P k);
     }
       where
         after : (k : ℕ) → k < n → d < k → Member P k → source P M d k ≈ 0
@@ -180,4 +172,4 @@ module _ (p n : ℕ) (A : Matrix) (S : Subset) where
         go : ¬ Dependent p n A S i → Member P i → i ∈ P
         go f (inside m) = m
         go f (outside o) =
-            absurd (f (dependent-of-witness p n A S (prime .odd) (exchange-witness i li o (Z .zero i (li .below) li o) (λ k hk. equals refl))))
+            absurd (f (dependent-of-witness p n A S (prime .odd) (exchange-witness i li o (Z .zero i (li .below) li o))))

@@ -80,8 +80,7 @@ module _ (p n : ℕ) (A : Matrix) (S : Subset) where
     state-pass a = state-on (λ lc. state-alone (a lc) lc)
 
     -- its source is a witness
-    pub state-witness : Index n S c → c ∉ P → Alone p n S P M c n → {w : Vector} → ((k : ℕ) → k < n → Congruent p (w k) (source P M c k))
-        → Witness p n A S c w
+    pub state-witness : Index n S c → c ∉ P → Alone p n S P M c n → Witness p n A S c (source P M c)
     state-witness lc oc a = exchange-witness p n A S (H .exchange) (H .staircase) c lc oc (state-alone a lc oc)
 
   -- and where all before it are in P, its column is the first dependent one
