@@ -6,10 +6,9 @@ use mathlib.Core.Logic.{_≢_}
 use mathlib.Core.Bool.{Bool, true, false}
 use Prim.Native.Nat.{ℕ, _+_, _*_, _<_}
 use native.Mathlib.Omega.{arith}
-use native.Mathlib.Decide.{ℕ-discrete}
 use Rattle.modular.specs.Congruence.{Congruent, equals, _⨾_, _⊕_, _⊖_, _⊛_, linear, halve}
 use Rattle.modular.specs.Prime.{Odd}
-use Rattle.skew.specs.Subset.{Subset, _∈_, _∉_, Member, inside, outside, member?, Without, Place, at-a, at-b, stays, never, place, not-first, not-second, clash}
+use Rattle.skew.specs.Subset.{Subset, _∈_, _∉_, Member, inside, outside, member?, Without, Place, at-a, at-b, elsewhere, place, clash}
 use Rattle.skew.specs.Inverse.{Matrix, Vector, column, delta, delta-same, delta-other, apply, apply-linear, Skew, Inverse, apply-congruent, apply-zero, apply-delta}
 
 abbrev pub select : Bool → ℕ → ℕ → ℕ
@@ -50,7 +49,7 @@ module _ {p n : ℕ} (O : Odd p) {M : Matrix} (K : Skew p n M) where
 -- a row that is 0 stays 0
 pub exchanged-zero : {p n c r g : ℕ} {M M' : Matrix} → Exchanged p n c r g M M' → c < n → r < n → (i : ℕ) → i < n → i ≢ c → i ≢ r
     → ((j : ℕ) → j < n → Congruent p (M i j) 0) → (j : ℕ) → j < n → Congruent p (M' i j) 0
-exchanged-zero {p} {n} {c} {r} {g} {M} {M'} X hc hr i hi d e z j hj = go (ℕ-discrete j c) (ℕ-discrete j r)
+exchanged-zero {p} {n} {c} {r} {g} {M} {M'} X hc hr i hi d e z j hj = go (place c r j)
   where
     at-c : Congruent p (M' i c) 0
     at-c = linear (rw (delta-other i c d, delta-other i r e) at (X .first i hi) ⊖ g ⊛ z r hr) (omega arith)
@@ -58,10 +57,10 @@ exchanged-zero {p} {n} {c} {r} {g} {M} {M'} X hc hr i hi d e z j hj = go (ℕ-di
     at-r : Congruent p (M' i r) 0
     at-r = linear (rw (delta-other i c d, delta-other i r e) at (X .second i hi) ⊕ g ⊛ z c hc) (omega arith)
 
-    go : Dec (j ≡ c) → Dec (j ≡ r) → Congruent p (M' i j) 0
-    go (yes q) _ = rw q at-c
-    go (no _) (yes q) = rw q at-r
-    go (no d') (no e') =
+    go : Place c r j → Congruent p (M' i j) 0
+    go (at-a q) = rw q at-c
+    go (at-b q) = rw q at-r
+    go (elsewhere d' e') =
         linear
         (rw (delta-other i c d, delta-other i r e) at (X .rest i j hi hj d' e') ⊕ z j hj ⊕ M c j ⊛ at-c ⊕ M r j ⊛ at-r)
         (omega arith)
@@ -136,32 +135,31 @@ module _ (p n : ℕ) (A : Matrix) (S : Subset) where
         ⊖ delta i r ⊛ X .reciprocal)
         (omega arith)
 
-    source-row : (i k : ℕ) → i < n → k < n → Place P' c r P k → Row i (source P' M' i k) (λ h. source P M h k)
-    source-row i k l hk (at-a q) = rw (q, s .a-in, s .a-out) (enter-c i)
-    source-row i k l hk (at-b q) = rw (q, s .b-in, s .b-out) (enter-r i)
-    source-row i k l hk (stays m m' d e) = rw (m, m') (X .rest i k l hk d e)
-    source-row i k l hk (never o o') = rw (o, o') (keep i k (not-first s k o') (not-second s k o'))
+    source-row : (i k : ℕ) → i < n → k < n → Place c r k → Member P k → Row i (source P' M' i k) (λ h. source P M h k)
+    source-row i k l hk (at-a q) _ = rw (q, s .a-in, s .a-out) (enter-c i)
+    source-row i k l hk (at-b q) _ = rw (q, s .b-in, s .b-out) (enter-r i)
+    source-row i k l hk (elsewhere d e) (inside m) = rw (← s .others k d e, m) (X .rest i k l hk d e)
+    source-row i k l hk (elsewhere d e) (outside o) = rw (← s .others k d e, o) (keep i k d e)
 
-    target-row : (i k : ℕ) → i < n → k < n → Place P' c r P k → Row i (target P' M' i k) (λ h. target P M h k)
-    target-row i k l hk (at-a q) = rw (q, s .a-in, s .a-out) (leave-c i l)
-    target-row i k l hk (at-b q) = rw (q, s .b-in, s .b-out) (leave-r i l)
-    target-row i k l hk (stays m m' d e) = rw (m, m') (keep i k d e)
-    target-row i k l hk (never o o') = rw (o, o') (X .rest i k l hk (not-first s k o') (not-second s k o'))
+    target-row : (i k : ℕ) → i < n → k < n → Place c r k → Member P k → Row i (target P' M' i k) (λ h. target P M h k)
+    target-row i k l hk (at-a q) _ = rw (q, s .a-in, s .a-out) (leave-c i l)
+    target-row i k l hk (at-b q) _ = rw (q, s .b-in, s .b-out) (leave-r i l)
+    target-row i k l hk (elsewhere d e) (inside m) = rw (← s .others k d e, m) (keep i k d e)
+    target-row i k l hk (elsewhere d e) (outside o) = rw (← s .others k d e, o) (X .rest i k l hk d e)
 
     pub exchange-step : Exchange p n A S P' M'
-    exchange-step = record { within = λ i m. within i m (place s i); skew = X .skew; product = product }
+    exchange-step = record { within = λ i m. within i m (place c r i); skew = X .skew; product = product }
       where
-        within : (i : ℕ) → i ∈ P' → Place P' c r P i → i ∈ S
+        within : (i : ℕ) → i ∈ P' → Place c r i → i ∈ S
         within i m (at-a q) = ap S q ∙ lc .inside
         within i m (at-b q) = ap S q ∙ lr .inside
-        within i m (stays m' _ _ _) = E .within i m'
-        within i m (never _ o) = clash m o
+        within i m (elsewhere d e) = E .within i (s .others i d e ∙ m)
 
         product : (i j : ℕ) → Index n S i → Index n S j → apply n A (source P' M' i) j + target P' M' i j ≈ 0
         product i j li lj =
             linear
-            (apply-congruent p n A _ _ j (λ k hk. source-row i k (li .below) hk (place s k))
-            ⊕ target-row i j (li .below) (lj .below) (place s j)
+            (apply-congruent p n A _ _ j (λ k hk. source-row i k (li .below) hk (place c r k) (member? P k))
+            ⊕ target-row i j (li .below) (lj .below) (place c r j) (member? P j)
             ⊕ E .product i j li lj
             ⊕ M' i c ⊛ E .product c j lc lj
             ⊕ M' i r ⊛ E .product r j lr lj

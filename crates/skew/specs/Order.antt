@@ -8,7 +8,7 @@ use native.Mathlib.Decide.{decLt}
 use Rattle.modular.specs.Congruence.{Congruent, equals, _⊕_, _⊖_, _⊛_, linear}
 use Rattle.modular.specs.Sum.{sum-one}
 use Rattle.modular.specs.Prime.{Odd, OddPrime, one-not-zero}
-use Rattle.skew.specs.Subset.{Subset, _∈_, _∉_, Member, inside, outside, member?, Without, Place, at-a, at-b, stays, never, place, smaller, not-first, not-second, clash}
+use Rattle.skew.specs.Subset.{Subset, _∈_, _∉_, Member, inside, outside, member?, Without, Place, at-a, at-b, elsewhere, place, smaller, not-first, not-second, clash}
 use Rattle.skew.specs.Inverse.{Matrix, Vector, delta, delta-same, delta-other, apply, form, form-zero, form-skew, Supported, Skew}
 use Rattle.skew.specs.Column.{Dependent, Witness, witness-of-dependent, dependent-of-witness}
 use Rattle.skew.specs.Exchange.{select, source, target, Index, Exchange, Exchanged}
@@ -61,7 +61,7 @@ module _ (p n : ℕ) (A : Matrix) (S : Subset) where
 
     -- r is the lowest partner of c
     pub staircase-step : c < r → ((j : ℕ) → Index n S j → j ∉ P → c < j → j < r → M c j ≈ 0) → Staircase p n S P' M'
-    staircase-step h lowest = record { zero = λ q j lq lj m o l. zero q j lq lj m o l (place s q) }
+    staircase-step h lowest = record { zero = λ q j lq lj m o l. zero q j lq lj m o l (place c r q) }
       where
         passed : (j k : ℕ) → Index n S j → Index n S k → j ∉ P' → k ∉ P → j < c → M k j ≈ 0
         passed j k lj lk o o' l = linear (E .skew .turn j k (lj .below) (lk .below) ⊖ Z .zero j l lj (smaller s j o) k lk o') (omega arith)
@@ -73,8 +73,7 @@ module _ (p n : ℕ) (A : Matrix) (S : Subset) where
             go (yes b) = passed j c lj lc o (s .a-out) b
             go (no b) = lowest j lj (smaller s j o) (omega (arith, not-first s j o)) l
 
-        zero : (q j : ℕ) → Index n S q → Index n S j → q ∈ P' → j ∉ P' → j < q → Place P' c r P q → M' q j ≈ 0
-        zero q j lq lj m o l (never _ o') = clash m o'
+        zero : (q j : ℕ) → Index n S q → Index n S j → q ∈ P' → j ∉ P' → j < q → Place c r q → M' q j ≈ 0
         zero q j lq lj m o l (at-a e) =
             rw e
             (linear
@@ -93,11 +92,14 @@ module _ (p n : ℕ) (A : Matrix) (S : Subset) where
             ⊕ (g * M r j) ⊛ E .skew .turn r c (lr .below) (lc .below)
             ⊖ M r j ⊛ X .reciprocal)
             (omega arith))
-        zero q j lq lj m o l (stays m' _ d e) =
+        zero q j lq lj m o l (elsewhere d e) =
             linear
             (entry-rest q j lq lj d e o ⊕ F .zero q j lq lj m' (smaller s j o) l ⊖ g ⊛ one (decLt j r) ⊕ g ⊛ two (decLt j c))
             (omega arith)
           where
+            m' : q ∈ P
+            m' = s .others q d e ∙ m
+
             one : Dec (j < r) → M q r * M c j ≈ 0
             one (yes b) = linear (M q r ⊛ row-c j lj o b) (omega arith)
             one (no b) = linear (M c j ⊛ F .zero q r lq lr m' (s .b-out) (omega arith)) (omega arith)

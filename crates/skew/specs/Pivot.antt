@@ -8,6 +8,7 @@ use native.Mathlib.Decide.{ℕ-discrete}
 use Rattle.modular.specs.Congruence.{Congruent, equals, _⊕_, _⊖_, _⊛_, linear}
 use Rattle.modular.specs.Prime.{Odd, minus-one, negate}
 use Rattle.skew.specs.Choose.{choose, choose-yes, choose-no}
+use Rattle.skew.specs.Subset.{Place, at-a, at-b, elsewhere, place}
 use Rattle.skew.specs.Inverse.{Matrix, Vector, delta, delta-same, delta-other, Skew}
 use Rattle.skew.specs.Update.{Update, updated, update-skew}
 use Rattle.skew.specs.Exchange.{Exchanged, skew-diagonal}
@@ -47,12 +48,12 @@ module _ {p n : ℕ} (O : Odd p) (M : Matrix) (K : Skew p n M) where
   -- x with its two places filled is column c
   filled : {a b : ℕ} {z : Vector} → a < n → a ≢ b → Bordered p n a b M z → (i : ℕ) → i < n
       → Congruent p (z i + delta i a + delta i b * M b a) (M i a)
-  filled {a} {b} {z} ha d Z i hi = go (ℕ-discrete i a) (ℕ-discrete i b)
+  filled {a} {b} {z} ha d Z i hi = go (place a b i)
     where
-      go : Dec (i ≡ a) → Dec (i ≡ b) → Congruent p (z i + delta i a + delta i b * M b a) (M i a)
-      go (yes e) _ = rw (e, delta-same a, delta-other a b d) (linear (Z .own ⊖ skew-diagonal O K a ha) (omega arith))
-      go (no d') (yes e) = rw (e, delta-same b, delta-other b a (λ q. d (sym q))) (linear (Z .other) (omega arith))
-      go (no d') (no e') = rw (delta-other i a d', delta-other i b e') (linear (Z .rest i hi d' e') (omega arith))
+      go : Place a b i → Congruent p (z i + delta i a + delta i b * M b a) (M i a)
+      go (at-a e) = rw (e, delta-same a, delta-other a b d) (linear (Z .own ⊖ skew-diagonal O K a ha) (omega arith))
+      go (at-b e) = rw (e, delta-same b, delta-other b a (λ q. d (sym q))) (linear (Z .other) (omega arith))
+      go (elsewhere d' e') = rw (delta-other i a d', delta-other i b e') (linear (Z .rest i hi d' e') (omega arith))
 
   -- there always is such a column
   unfoldable border : ℕ → ℕ → Vector
@@ -109,12 +110,12 @@ module _ {p n : ℕ} (O : Odd p) (c r : ℕ) (M : Matrix) (K : Skew p n M) where
           ⊖ (g * x i) ⊛ K .turn j r hj hr
           ⊖ M c j ⊛ column-c i hi
           ⊖ M r j ⊛ column-r i hi)
-          (omega (arith, kept (ℕ-discrete i c) (ℕ-discrete i r)))
+          (omega (arith, kept (place c r i)))
         where
-          kept : Dec (i ≡ c) → Dec (i ≡ r) → keep c r i * 1 * M i j + delta i c * M c j + delta i r * M r j ≡ M i j
-          kept (yes q) _ = rw (q, keep-first, delta-same c, delta-other c r differ) (omega arith)
-          kept (no _) (yes q) = rw (q, keep-second c r differ, delta-other r c differ', delta-same r) (omega arith)
-          kept (no d') (no e') = rw (keep-other c r i d' e', delta-other i c d', delta-other i r e') (omega arith)
+          kept : Place c r i → keep c r i * 1 * M i j + delta i c * M c j + delta i r * M r j ≡ M i j
+          kept (at-a q) = rw (q, keep-first, delta-same c, delta-other c r differ) (omega arith)
+          kept (at-b q) = rw (q, keep-second c r differ, delta-other r c differ', delta-same r) (omega arith)
+          kept (elsewhere d' e') = rw (keep-other c r i d' e', delta-other i c d', delta-other i r e') (omega arith)
 
   unfoldable pub exchange-table : ℕ → Matrix
   unfolding border keep minus-one
