@@ -56,17 +56,16 @@ module _ {p n : ℕ} (O : Odd p) (M : Matrix) (K : Skew p n M) where
       go (elsewhere d' e') = rw (delta-other i a d', delta-other i b e') (linear (Z .rest i hi d' e') (omega arith))
 
   -- there always is such a column
-  unfoldable border : ℕ → ℕ → Vector
+  unfoldable bordered : (a b : ℕ) → a ≢ b → (x : Vector) × Bordered p n a b M x
   unfolding keep delta minus-one
-  border a b i = keep a b i * M i a + minus-one O * delta i a
-
-  bordered : (a b : ℕ) → a ≢ b → Bordered p n a b M (border a b)
-  unfolding border
-  bordered a b d = record {
-    own = rw (keep-first, delta-same a) (linear (negate O 1) (omega arith));
-    other = rw (keep-second a b d, delta-other b a (λ e. d (sym e))) (equals (omega arith));
-    rest = λ i _ d' e'. rw (keep-other a b i d' e', delta-other i a d') (equals (omega arith));
-  }
+  bordered a b d = (
+    λ i. keep a b i * M i a + minus-one O * delta i a,
+    record {
+      own = rw (keep-first, delta-same a) (linear (negate O 1) (omega arith));
+      other = rw (keep-second a b d, delta-other b a (λ e. d (sym e))) (equals (omega arith));
+      rest = λ i _ d' e'. rw (keep-other a b i d' e', delta-other i a d') (equals (omega arith));
+    },
+  )
 
 module _ {p n : ℕ} (O : Odd p) (c r : ℕ) (M : Matrix) (K : Skew p n M) where
   pub update-exchanged : {M' : Matrix} {x y : Vector} {g : ℕ} → c ≢ r → c < n → r < n → Congruent p (g * M c r) 1 → Bordered p n c r M x
@@ -117,12 +116,10 @@ module _ {p n : ℕ} (O : Odd p) (c r : ℕ) (M : Matrix) (K : Skew p n M) where
           kept (at-b q) = rw (q, keep-second c r differ, delta-other r c differ', delta-same r) (omega arith)
           kept (elsewhere d' e') = rw (keep-other c r i d' e', delta-other i c d', delta-other i r e') (omega arith)
 
-  unfoldable pub exchange-table : ℕ → Matrix
-  unfolding border keep minus-one
-  exchange-table g i j = cleared c r M i j + g * border O M K c r j * border O M K r c i + minus-one O * (g * border O M K r c j * border O M K c r i)
-
-  pub exchanged : (g : ℕ) → c ≢ r → c < n → r < n → Congruent p (g * M c r) 1 → Exchanged p n c r g M (exchange-table g)
-  unfolding exchange-table
+  -- so there is a table with c and r exchanged
+  unfoldable pub exchanged : (g : ℕ) → c ≢ r → c < n → r < n → Congruent p (g * M c r) 1 → (M' : Matrix) × Exchanged p n c r g M M'
+  unfolding bordered keep minus-one
   exchanged g d hc hr unit =
-      update-exchanged d hc hr unit (bordered O M K c r d) (bordered O M K r c (λ e. d (sym e)))
-      (updated O (cleared c r M) (border O M K c r) (border O M K r c) g)
+      let x = bordered O M K c r d in
+      let y = bordered O M K r c (λ e. d (sym e)) in
+      (_, update-exchanged d hc hr unit (x .1) (y .1) (updated O (cleared c r M) (x .0) (y .0) g))
