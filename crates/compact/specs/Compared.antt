@@ -316,7 +316,7 @@ module _ (g : Graph) {marks vertices : List ℕ} (N : Numbered (g .n) marks vert
         equal i j hi hj =
             let below = numbered-ascending N .below in
             below-equal (I .small (v i * n + v j) (index-below n (v i) (v j) (below i hi) (below j hj))) (word-small k t i j)
-            (inverse-unique modulus k (along v A) (modulus-prime .odd) listed-skew (reduced I) J i j hi hj ⨾ flip (word-matrix k t i j))
+            (inverse-unique modulus k (along v A) listed-skew (reduced I) J i j hi hj ⨾ flip (word-matrix k t i j))
 
         pub is-equal : AllEqual n inverse vertices t k
         is-equal = record { at = λ i hi. record { at = λ j _ hj. (equal i j hi hj, equal j i hj hi) } }

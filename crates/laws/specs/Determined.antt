@@ -47,7 +47,7 @@ module _ {p : ℕ} (P : OddPrime p) (g : Graph) (S : Subset) where
       same x l =
           let k : x < g .n * g .n = omega arith in
           let e =
-          inverse-unique p (g .n) (tutte g p) (P .odd) (skew P g S) (U .is-inverse) (W .is-inverse) (x / g .n) (x % g .n) (row-below (g .n) x k)
+          inverse-unique p (g .n) (tutte g p) (skew P g S) (U .is-inverse) (W .is-inverse) (x / g .n) (x % g .n) (row-below (g .n) x k)
           (column-below (g .n) x k) in
           let i = index-of (g .n) x in
           below-equal (U .small x k) (W .small x k) (equals (ap (λ z. getD u z 0) (sym i)) ⨾ e ⨾ equals (ap (λ z. getD v z 0) i))

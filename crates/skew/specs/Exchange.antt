@@ -6,10 +6,10 @@ use mathlib.Core.Logic.{_≢_}
 use mathlib.Core.Bool.{Bool, true, false}
 use Prim.Native.Nat.{ℕ, _+_, _*_, _<_}
 use native.Mathlib.Omega.{arith}
-use Rattle.modular.specs.Congruence.{Congruent, equals, _⨾_, _⊕_, _⊖_, _⊛_, linear, halve}
+use Rattle.modular.specs.Congruence.{Congruent, equals, _⨾_, _⊕_, _⊖_, _⊛_, linear}
 use Rattle.modular.specs.Prime.{Odd}
 use Rattle.skew.specs.Subset.{Subset, _∈_, _∉_, Member, inside, outside, member?, Without, Place, at-a, at-b, elsewhere, place, clash}
-use Rattle.skew.specs.Inverse.{Matrix, Vector, column, delta, delta-same, delta-other, apply, apply-linear, Skew, Inverse, apply-congruent, apply-zero, apply-delta}
+use Rattle.skew.specs.Inverse.{Matrix, Vector, column, delta, delta-same, delta-other, apply, apply-linear, Skew, Inverse, apply-congruent, apply-zero, apply-delta, skew-diagonal}
 
 abbrev pub select : Bool → ℕ → ℕ → ℕ
 select true x y = x
@@ -41,10 +41,6 @@ pub record Exchanged (p n c r g : ℕ) (M M' : Matrix) : Type 0 where
   pub second : (i : ℕ) → i < n → Congruent p (M' i r + g * delta i c) (g * M i c + delta i r)
   pub rest : (i j : ℕ) → i < n → j < n → j ≢ c → j ≢ r
       → Congruent p (M' i j + delta i c * M c j + delta i r * M r j) (M i j + M' i c * M c j + M' i r * M r j)
-
-module _ {p n : ℕ} (O : Odd p) {M : Matrix} (K : Skew p n M) where
-  pub skew-diagonal : (i : ℕ) → i < n → Congruent p (M i i) 0
-  skew-diagonal i hi = halve (O .half) (O .odd) (K .turn i i hi hi)
 
 -- a row that is 0 stays 0
 pub exchanged-zero : {p n c r g : ℕ} {M M' : Matrix} → Exchanged p n c r g M M' → c < n → r < n → (i : ℕ) → i < n → i ≢ c → i ≢ r

@@ -6,9 +6,9 @@ use native.Mathlib.Decide.{decLt}
 use Rattle.modular.specs.Congruence.{Congruent, _⊖_, linear}
 use Rattle.modular.specs.Prime.{Odd, OddPrime}
 use Rattle.skew.specs.Subset.{Subset, _∈_, _∉_, one-more, Without, clash}
-use Rattle.skew.specs.Inverse.{Matrix, Vector, Skew}
+use Rattle.skew.specs.Inverse.{Matrix, Vector, Skew, skew-diagonal}
 use Rattle.skew.specs.Column.{FirstDependent, Witness, dependent-of-witness}
-use Rattle.skew.specs.Exchange.{source, Index, Exchange, Exchanged, exchange-start, exchange-step, skew-diagonal}
+use Rattle.skew.specs.Exchange.{source, Index, Exchange, Exchanged, exchange-start, exchange-step}
 use Rattle.skew.specs.Order.{Staircase, Lone, Passed, staircase-start, staircase-step, passed-step, exchange-independent, exchange-witness}
 
 -- at c: P is exchanged in M, in order, and the indices before c are in P or have no partner
@@ -59,8 +59,8 @@ module _ (p n : ℕ) (A : Matrix) (S : Subset) where
         → State p n A S P' M' (suc c)
     state-pair lc L s X = record {
       exchange = exchange-step p n A S O (H .exchange) s lc (L .index) X;
-      staircase = staircase-step p n A S O (H .exchange) (H .staircase) (H .passed) s lc (L .index) X (L .after) (L .between);
-      passed = passed-step p n A S O (H .exchange) (H .staircase) (H .passed) s lc (L .index) X;
+      staircase = staircase-step p n A S (H .exchange) (H .staircase) (H .passed) s lc (L .index) X (L .after) (L .between);
+      passed = passed-step p n A S (H .exchange) (H .staircase) (H .passed) s lc (L .index) X;
     }
 
     -- a c that has no partner after it has none at all
