@@ -16,8 +16,9 @@ use Rattle.modular.specs.Congruence.{Congruent, equals, flip, _⨾_}
 use Rattle.modular.specs.Prime.{below-equal}
 use Rattle.residue.specs.Modulus.{modulus, modulus-prime}
 use Rattle.skew.specs.Subset.{Subset, _∈_, _∉_, Member, inside, outside, member?, clash, count, count-suc, count-most, count-below, marked, marked-in, marked-out}
-use Rattle.skew.specs.Inverse.{Matrix, Skew, Inverse, same-entries, same-members, inverse-unique}
+use Rattle.skew.specs.Inverse.{Matrix, Skew, Inverse, inverse-unique}
 use Rattle.skew.specs.Column.{Witness}
+use Rattle.skew.specs.Same.{inverse-same}
 use Rattle.skew.specs.Decide.{witness-singular}
 use Rattle.skew.specs.Listing.{Listed, along, element, ascending, skew-along, inverse-along, along-inverse}
 use Rattle.matching.specs.Graph.{Graph, tutte, tutte-upper, upper}
@@ -273,7 +274,7 @@ module _ (g : Graph) {marks vertices : List ℕ} (N : Numbered (g .n) marks vert
               go (no l) = E .at j hj .at i (omega arith) hi .1
 
           whole : Inverse modulus k (along v A) S (along v T)
-          whole = same-entries modulus k (along v A) (along v T) (λ i j hi hj. equals (same i j hi hj) ⨾ word-matrix k t i j) J
+          whole = inverse-same (λ _ _ _ _. refl) (λ _ _. refl) (λ i j hi hj. equals (same i j hi hj) ⨾ word-matrix k t i j) J
 
           unmarked : (a : ℕ) → a ∉ marked marks → vector marks a ≡ 0
           unmarked a o = go (ℕ-discrete (vector marks a) 0)
@@ -315,7 +316,7 @@ module _ (g : Graph) {marks vertices : List ℕ} (N : Numbered (g .n) marks vert
         equal i j hi hj =
             let below = numbered-ascending N .below in
             below-equal (I .small (v i * n + v j) (index-below n (v i) (v j) (below i hi) (below j hj))) (word-small k t i j)
-            (inverse-unique modulus k (along v A) (modulus-prime .odd) listed-skew (reduced I) J i j hi hj ⨾ flip (word-matrix k t i j))
+            (inverse-unique modulus k (along v A) listed-skew (reduced I) J i j hi hj ⨾ flip (word-matrix k t i j))
 
         pub is-equal : AllEqual n inverse vertices t k
         is-equal = record { at = λ i hi. record { at = λ j _ hj. (equal i j hi hj, equal j i hj hi) } }
@@ -324,8 +325,8 @@ module _ (g : Graph) {marks vertices : List ℕ} (N : Numbered (g .n) marks vert
 pub tells-members : (g : Graph) {S L : Subset} (inverse : List ℕ) (r : Bool) → ((i : ℕ) → i < g .n → L i ≡ S i) → Tells (InverseTable modulus g S inverse) r
     → Tells (InverseTable modulus g L inverse) r
 tells-members g {S} {L} inverse r e X = record {
-  when-true = λ q. let I = X .when-true q in record { small = I .small; is-inverse = same-members modulus (g .n) (tutte g modulus) e (I .is-inverse) };
+  when-true = λ q. let I = X .when-true q in record { small = I .small; is-inverse = inverse-same (λ _ _ _ _. refl) e (λ _ _ _ _. equals refl) (I .is-inverse) };
   when-false = λ q I.
       X .when-false q
-      (record { small = I .small; is-inverse = same-members modulus (g .n) (tutte g modulus) (λ i l. sym (e i l)) (I .is-inverse) });
+      (record { small = I .small; is-inverse = inverse-same (λ _ _ _ _. refl) (λ i l. sym (e i l)) (λ _ _ _ _. equals refl) (I .is-inverse) });
 }

@@ -6,6 +6,7 @@ use native.Mathlib.Omega.{arith}
 use native.Mathlib.Decide.{ℕ-discrete, decLt}
 use lib.ListN.{getD}
 use Rattle.modular.specs.Operations.{negative}
+use Rattle.modular.specs.Congruence.{equals}
 use Rattle.skew.specs.Choose.{choose}
 use Rattle.skew.specs.Subset.{Subset}
 use Rattle.skew.specs.Same.{inverse-same, witness-same, first-same}
@@ -53,12 +54,12 @@ module _ (n : ℕ) (adjacency u v : List ℕ) where
     pub table-same : {p : ℕ} {S : Subset} {T : List ℕ} → InverseTable p (over n adjacency u) S T → InverseTable p (over n adjacency v) S T
     table-same {p} I = record {
       small = I .small;
-      is-inverse = inverse-same (tutte (over n adjacency u) p) (tutte (over n adjacency v) p) (tutte-same p) (I .is-inverse);
+      is-inverse = inverse-same (tutte-same p) (λ _ _. refl) (λ _ _ _ _. equals refl) (I .is-inverse);
     }
 
     pub singular-same : {p : ℕ} {S : Subset} {f : ℕ} {w : List ℕ} → Singular p (over n adjacency u) S f w → Singular p (over n adjacency v) S f w
     singular-same {p} s = record {
       small = s .small;
-      first = first-same (tutte (over n adjacency u) p) (tutte (over n adjacency v) p) (tutte-same p) (s .first);
-      kernel = witness-same (tutte (over n adjacency u) p) (tutte (over n adjacency v) p) (tutte-same p) (s .kernel);
+      first = first-same (tutte-same p) (λ _ _. refl) (s .first);
+      kernel = witness-same (tutte-same p) (λ _ _. refl) (λ _ _. equals refl) (s .kernel);
     }

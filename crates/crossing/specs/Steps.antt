@@ -4,10 +4,11 @@ use mathlib.Core.List.{List, [], _∷_}
 use Prim.Native.Nat.{ℕ, _*_}
 use lib.ListN.{getD}
 use Rattle.modular.specs.Prime.{OddPrime}
+use Rattle.modular.specs.Congruence.{equals}
 use Rattle.skew.specs.Subset.{Subset}
 use Rattle.skew.specs.Same.{inverse-same}
 use Rattle.matching.specs.Decision.{Every, both?, not?, when, judge}
-use Rattle.matching.specs.Graph.{pair-count, over, tutte}
+use Rattle.matching.specs.Graph.{pair-count, over}
 use Rattle.matching.specs.Pairs.{Pairs, pair-of, unmatched, in?, pairs-on}
 use Rattle.matching.specs.Session.{InverseTable, WellFormed}
 use Rattle.matching.specs.Decided.{well-formed?, inverse-table?}
@@ -35,10 +36,7 @@ turned count u v agree x l = sym (agree x l)
 
 module _ {p : ℕ} (P : OddPrime p) (S : Subset) (n : ℕ) (adjacency : List ℕ) where
   nonsingular-same : (u v : List ℕ) → Agree (pair-count n) u v → (pairs : Pairs) → Nonsingular P (over n adjacency u) S pairs → Nonsingular P (over n adjacency v) S pairs
-  nonsingular-same u v agree pairs I = (
-    I .0,
-    inverse-same (tutte (over n adjacency u) p) (tutte (over n adjacency v) p) (tutte-same n adjacency u v agree p) (I .1),
-  )
+  nonsingular-same u v agree pairs I = (I .0, inverse-same (tutte-same n adjacency u v agree p) (λ _ _. refl) (λ _ _ _ _. equals refl) (I .1))
 
   module _ (u v : List ℕ) (agree : Agree (pair-count n) u v) where
     to : (pairs : Pairs) → Nonsingular P (over n adjacency u) S pairs → Nonsingular P (over n adjacency v) S pairs

@@ -16,9 +16,10 @@ use Rattle.modular.specs.Prime.{by-remainders, remainders-equal}
 use Rattle.residue.specs.Modulus.{modulus, modulus-prime}
 use Rattle.skew.specs.Choose.{choose, choose-yes, choose-no}
 use Rattle.skew.specs.Subset.{Subset, _∈_, _∉_, Member, inside, outside, member?, marked, marked-in, marked-out, marked-same, Without, clash}
-use Rattle.skew.specs.Inverse.{Matrix, Vector, Skew, Inverse}
+use Rattle.skew.specs.Inverse.{Matrix, Vector, delta, delta-same, delta-other, Skew, Inverse}
 use Rattle.skew.specs.Column.{FirstDependent, Witness}
-use Rattle.skew.specs.Exchange.{delta, delta-same, delta-other, source, Index, exchanged-zero, exchange-whole}
+use Rattle.skew.specs.Same.{witness-same}
+use Rattle.skew.specs.Exchange.{source, Index, exchanged-zero, exchange-whole}
 use Rattle.skew.specs.Triangle.{mirror-above, mirror-skew, mirror-diagonal}
 use Rattle.skew.specs.Run.{State, Full, Lowest, Alone, state-start, state-skip, state-pair, state-witness, state-first}
 use Rattle.skew.specs.Decide.{full-next}
@@ -215,7 +216,7 @@ module _ {n : ℕ} {A : Matrix} {S : Subset} {c : ℕ} {t waiting : List ℕ} (R
   not-done i d = done-out S waiting i (marked-in waiting i d)
 
   alone : {m : ℕ} → Between n c t waiting m → Alone modulus n S (done S waiting) (matrix n t) c m
-  alone between k lk o l l' =
+  alone between k l' lk o l =
       rw (mirror-above (modulus-prime .odd) (table n t) c k l)
       (by-remainders _ 0 (between k l l' (waits S waiting k (lk .inside) o) ∙ sym (zero-mod modulus)))
 
@@ -299,8 +300,8 @@ module _ {n : ℕ} {A : Matrix} {S : Subset} {c : ℕ} {t waiting : List ℕ} (R
 
       W : Witness modulus n A S c (witness-word n t waiting c)
       W =
-          state-witness modulus n A S (modulus-prime .odd) (R .state) lc (not-done c z)
-          (λ k lk o l l'. alone (F .between) k lk o l (omega arith)) (λ k hk. same k hk (ℕ-discrete (vector waiting k) 0) (member? S k))
+          witness-same (λ _ _ _ _. refl) (λ _ _. refl) (λ k hk. same k hk (ℕ-discrete (vector waiting k) 0) (member? S k))
+          (state-witness modulus n A S (modulus-prime .odd) (R .state) lc (not-done c z) (λ k l' lk o l. alone (F .between) k (omega arith) lk o l))
 
 pub running-end : {n : ℕ} {A : Matrix} {S : Subset} {c : ℕ} {t waiting : List ℕ} → Running n A S c t waiting → n ≤ c → Inverse modulus n A S (matrix n t)
 running-end {n} {A} {S} {c} {t} R l =

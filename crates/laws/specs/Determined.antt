@@ -14,8 +14,9 @@ use Rattle.modular.specs.Prime.{OddPrime, below-equal, remainder}
 use Rattle.modular.specs.Congruence.{Congruent, equals, _⨾_}
 use Rattle.skew.specs.Subset.{Subset, count, count-none, count-suc}
 use Rattle.skew.specs.Matching.{invertible-even}
-use Rattle.skew.specs.Inverse.{Matrix, Inverse, Invertible, apply-congruent, inverse-unique, same-entries}
+use Rattle.skew.specs.Inverse.{Matrix, Inverse, Invertible, inverse-unique}
 use Rattle.skew.specs.Column.{FirstDependent, Witness, witness-unique}
+use Rattle.skew.specs.Same.{inverse-same, witness-same}
 use Rattle.skew.specs.Decide.{Outcome, inverse, column, outcome, witness-singular, first-unique}
 use Rattle.matching.specs.Decision.{Every, Ruling, accepted, refused}
 use Rattle.matching.specs.Graph.{Graph, over, tutte}
@@ -34,7 +35,7 @@ pub table-over : {p : ℕ} {g : Graph} {L : Subset} (words other : List ℕ) →
     → InverseTable p g L other
 table-over {p} {g} words other e I = record {
   small = λ x h. rw (e x h) (I .small x h);
-  is-inverse = same-entries p (g .n) (tutte g p) _ (λ i j hi hj. equals (e (i * g .n + j) (index-below (g .n) i j hi hj))) (I .is-inverse);
+  is-inverse = inverse-same (λ _ _ _ _. refl) (λ _ _. refl) (λ i j hi hj. equals (e (i * g .n + j) (index-below (g .n) i j hi hj))) (I .is-inverse);
 }
 
 module _ {p : ℕ} (P : OddPrime p) (g : Graph) (S : Subset) where
@@ -46,14 +47,14 @@ module _ {p : ℕ} (P : OddPrime p) (g : Graph) (S : Subset) where
       same x l =
           let k : x < g .n * g .n = omega arith in
           let e =
-          inverse-unique p (g .n) (tutte g p) (P .odd) (skew P g S) (U .is-inverse) (W .is-inverse) (x / g .n) (x % g .n) (row-below (g .n) x k)
+          inverse-unique p (g .n) (tutte g p) (skew P g S) (U .is-inverse) (W .is-inverse) (x / g .n) (x % g .n) (row-below (g .n) x k)
           (column-below (g .n) x k) in
           let i = index-of (g .n) x in
           below-equal (U .small x k) (W .small x k) (equals (ap (λ z. getD u z 0) (sym i)) ⨾ e ⨾ equals (ap (λ z. getD v z 0) i))
 
   -- and where there is an inverse, one does
   pub inverse-table-of : {L : Subset} {T : Matrix} → Inverse p (g .n) (tutte g p) L T → (words : List ℕ) × (length words ≡ g .n * g .n) × InverseTable p g L words
-  inverse-table-of {L} {T} I = (words, length-list-of (g .n * g .n) word, record { small = small; is-inverse = same-entries p (g .n) (tutte g p) _ entries I })
+  inverse-table-of {L} {T} I = (words, length-list-of (g .n * g .n) word, record { small = small; is-inverse = inverse-same (λ _ _ _ _. refl) (λ _ _. refl) entries I })
     where
       word : ℕ → ℕ
       word x = T (x / g .n) (x % g .n) % p
@@ -93,14 +94,7 @@ module _ {p : ℕ} (P : OddPrime p) (g : Graph) (S : Subset) where
     record {
       small = λ x l. rw (at x l) (mod-lt _ (omega (arith, P .prime .above-one)));
       first = F;
-      kernel = record {
-        below = W .below;
-        in-L = W .in-L;
-        supported = λ k l o. same k l ⨾ W .supported k l o;
-        sent = λ i hi l. apply-congruent p (g .n) (tutte g p) (vector words) w i same ⨾ W .sent i hi l;
-        last = same f (W .below) ⨾ W .last;
-        after = λ k l o. same k l ⨾ W .after k l o;
-      };
+      kernel = witness-same (λ _ _ _ _. refl) (λ _ _. refl) same W;
     },
   )
     where

@@ -11,7 +11,7 @@ use Rattle.modular.specs.Operations.{negative-plus}
 use Rattle.modular.specs.Prime.{OddPrime}
 use Rattle.skew.specs.Choose.{choose-yes, choose-no}
 use Rattle.skew.specs.Subset.{Subset, _∈_, _∉_, Member, inside, outside, member?, Without, swap, without, without-same, count, count-of-empty, count-without}
-use Rattle.skew.specs.Inverse.{same-set}
+use Rattle.skew.specs.Same.{inverse-same}
 use Rattle.skew.specs.Matching.{pick-exists}
 use Rattle.matching.specs.Decision.{Refusal, because, First, nowhere, first-at, first?, both?, Ruling, accepted, refused, judge, Accepted, accepted?, Every, Lowest}
 use Rattle.matching.specs.Graph.{Graph, cell, upper, tutte, tutte-upper, tutte-lower, tutte-diagonal}
@@ -131,7 +131,7 @@ module _ {p : ℕ} (P : OddPrime p) (g : Graph) (S : Subset) where
           a-left = l;
           b-left = k .sets .b-in;
           adjacent = nonzero-adjacent c (s .0) (k .entry);
-          nonsingular = same-set p (g .n) (tutte g p) (λ i _. without-same w (k .sets) i) (k .remaining);
+          nonsingular = (_, inverse-same (λ _ _ _ _. refl) (λ i _. without-same w (k .sets) i) (λ _ _ _ _. equals refl) (k .remaining .1));
         }),
       )
 

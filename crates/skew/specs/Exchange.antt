@@ -6,26 +6,10 @@ use mathlib.Core.Logic.{_≢_}
 use mathlib.Core.Bool.{Bool, true, false}
 use Prim.Native.Nat.{ℕ, _+_, _*_, _<_}
 use native.Mathlib.Omega.{arith}
-use native.Mathlib.Decide.{ℕ-discrete}
-use Rattle.modular.specs.Congruence.{Congruent, equals, _⨾_, _⊕_, _⊖_, _⊛_, linear, halve}
-use Rattle.modular.specs.Sum.{sum-one}
+use Rattle.modular.specs.Congruence.{Congruent, equals, _⨾_, _⊕_, _⊖_, _⊛_, linear}
 use Rattle.modular.specs.Prime.{Odd}
-use Rattle.skew.specs.Choose.{choose, choose-yes, choose-no}
-use Rattle.skew.specs.Subset.{Subset, _∈_, _∉_, Member, inside, outside, member?, Without, Place, at-a, at-b, stays, never, place, not-first, not-second, clash}
-use Rattle.skew.specs.Inverse.{Matrix, Vector, column, apply, apply-linear, Skew, Inverse, apply-congruent, apply-zero, same-members}
-
--- an entry of the identity
-unfoldable pub delta : Matrix
-unfolding ℕ-discrete
-delta i j = choose (ℕ-discrete i j) 1 0
-
-pub delta-same : (i : ℕ) → delta i i ≡ 1
-unfolding delta
-delta-same i = choose-yes (ℕ-discrete i i) _ _ refl
-
-pub delta-other : (i j : ℕ) → i ≢ j → delta i j ≡ 0
-unfolding delta
-delta-other i j d = choose-no (ℕ-discrete i j) _ _ d
+use Rattle.skew.specs.Subset.{Subset, _∈_, _∉_, Member, inside, outside, member?, Without, Place, at-a, at-b, elsewhere, place, clash}
+use Rattle.skew.specs.Inverse.{Matrix, Vector, column, delta, delta-same, delta-other, apply, apply-linear, Skew, Inverse, apply-congruent, apply-zero, apply-delta, skew-diagonal}
 
 abbrev pub select : Bool → ℕ → ℕ → ℕ
 select true x y = x
@@ -58,14 +42,10 @@ pub record Exchanged (p n c r g : ℕ) (M M' : Matrix) : Type 0 where
   pub rest : (i j : ℕ) → i < n → j < n → j ≢ c → j ≢ r
       → Congruent p (M' i j + delta i c * M c j + delta i r * M r j) (M i j + M' i c * M c j + M' i r * M r j)
 
-module _ {p n : ℕ} (O : Odd p) {M : Matrix} (K : Skew p n M) where
-  pub skew-diagonal : (i : ℕ) → i < n → Congruent p (M i i) 0
-  skew-diagonal i hi = halve (O .half) (O .odd) (K .turn i i hi hi)
-
 -- a row that is 0 stays 0
 pub exchanged-zero : {p n c r g : ℕ} {M M' : Matrix} → Exchanged p n c r g M M' → c < n → r < n → (i : ℕ) → i < n → i ≢ c → i ≢ r
     → ((j : ℕ) → j < n → Congruent p (M i j) 0) → (j : ℕ) → j < n → Congruent p (M' i j) 0
-exchanged-zero {p} {n} {c} {r} {g} {M} {M'} X hc hr i hi d e z j hj = go (ℕ-discrete j c) (ℕ-discrete j r)
+exchanged-zero {p} {n} {c} {r} {g} {M} {M'} X hc hr i hi d e z j hj = go (place c r j)
   where
     at-c : Congruent p (M' i c) 0
     at-c = linear (rw (delta-other i c d, delta-other i r e) at (X .first i hi) ⊖ g ⊛ z r hr) (omega arith)
@@ -73,10 +53,10 @@ exchanged-zero {p} {n} {c} {r} {g} {M} {M'} X hc hr i hi d e z j hj = go (ℕ-di
     at-r : Congruent p (M' i r) 0
     at-r = linear (rw (delta-other i c d, delta-other i r e) at (X .second i hi) ⊕ g ⊛ z c hc) (omega arith)
 
-    go : Dec (j ≡ c) → Dec (j ≡ r) → Congruent p (M' i j) 0
-    go (yes q) _ = rw q at-c
-    go (no _) (yes q) = rw q at-r
-    go (no d') (no e') =
+    go : Place c r j → Congruent p (M' i j) 0
+    go (at-a q) = rw q at-c
+    go (at-b q) = rw q at-r
+    go (elsewhere d' e') =
         linear
         (rw (delta-other i c d, delta-other i r e) at (X .rest i j hi hj d' e') ⊕ z j hj ⊕ M c j ⊛ at-c ⊕ M r j ⊛ at-r)
         (omega arith)
@@ -89,22 +69,17 @@ module _ (p n : ℕ) (A : Matrix) (S : Subset) where
   -- with nothing exchanged, M is A on S
   pub exchange-start : (P : Subset) {M : Matrix} → Skew p n M → ((i : ℕ) → i ∉ P) → ((i j : ℕ) → Index n S i → Index n S j → M i j ≈ A i j)
       → Exchange p n A S P M
-  unfolding apply
-  exchange-start P {M} K none same = record { within = λ i m. clash m (none i); skew = K; product = product }
-    where
-      product : (i j : ℕ) → Index n S i → Index n S j → apply n A (source P M i) j + target P M i j ≈ 0
-      product i j li lj =
-          linear
-          (sum-one n i (λ k. A j k * source P M i k) (li .below) other ⊕ K .turn i j (li .below) (lj .below) ⊖ same j i lj li)
-          (omega (
-            arith,
-            ap (λ z. A j i * select z (M i i) (delta i i)) (none i),
-            ap (λ z. A j i * z) (delta-same i),
-            ap (λ z. select z (delta i j) (M i j)) (none j),
-          ))
-        where
-          other : (k : ℕ) → k < n → k ≢ i → A j k * source P M i k ≈ 0
-          other k hk d = equals (rw (none k, delta-other i k (λ e. d (sym e))) (omega arith))
+  exchange-start P {M} K none same = record {
+    within = λ i m. clash m (none i);
+    skew = K;
+    product = λ i j li lj.
+        linear
+        (apply-congruent p n A (source P M i) (delta i) j (λ k _. equals (rw (none k) refl))
+        ⊕ apply-delta p n A i j (li .below)
+        ⊕ K .turn i j (li .below) (lj .below)
+        ⊖ same j i lj li)
+        (omega (arith, ap (λ z. select z (delta i j) (M i j)) (none j)));
+  }
 
   -- c and r are exchanged besides: sources and targets become the new ones by the same row operation
   module _ (O : Odd p) {P P' : Subset} {M M' : Matrix} {c r g : ℕ} (E : Exchange p n A S P M) (s : Without P' c r P) (lc : Index n S c)
@@ -156,32 +131,31 @@ module _ (p n : ℕ) (A : Matrix) (S : Subset) where
         ⊖ delta i r ⊛ X .reciprocal)
         (omega arith)
 
-    source-row : (i k : ℕ) → i < n → k < n → Place P' c r P k → Row i (source P' M' i k) (λ h. source P M h k)
-    source-row i k l hk (at-a q) = rw (q, s .a-in, s .a-out) (enter-c i)
-    source-row i k l hk (at-b q) = rw (q, s .b-in, s .b-out) (enter-r i)
-    source-row i k l hk (stays m m' d e) = rw (m, m') (X .rest i k l hk d e)
-    source-row i k l hk (never o o') = rw (o, o') (keep i k (not-first s k o') (not-second s k o'))
+    source-row : (i k : ℕ) → i < n → k < n → Place c r k → Member P k → Row i (source P' M' i k) (λ h. source P M h k)
+    source-row i k l hk (at-a q) _ = rw (q, s .a-in, s .a-out) (enter-c i)
+    source-row i k l hk (at-b q) _ = rw (q, s .b-in, s .b-out) (enter-r i)
+    source-row i k l hk (elsewhere d e) (inside m) = rw (← s .others k d e, m) (X .rest i k l hk d e)
+    source-row i k l hk (elsewhere d e) (outside o) = rw (← s .others k d e, o) (keep i k d e)
 
-    target-row : (i k : ℕ) → i < n → k < n → Place P' c r P k → Row i (target P' M' i k) (λ h. target P M h k)
-    target-row i k l hk (at-a q) = rw (q, s .a-in, s .a-out) (leave-c i l)
-    target-row i k l hk (at-b q) = rw (q, s .b-in, s .b-out) (leave-r i l)
-    target-row i k l hk (stays m m' d e) = rw (m, m') (keep i k d e)
-    target-row i k l hk (never o o') = rw (o, o') (X .rest i k l hk (not-first s k o') (not-second s k o'))
+    target-row : (i k : ℕ) → i < n → k < n → Place c r k → Member P k → Row i (target P' M' i k) (λ h. target P M h k)
+    target-row i k l hk (at-a q) _ = rw (q, s .a-in, s .a-out) (leave-c i l)
+    target-row i k l hk (at-b q) _ = rw (q, s .b-in, s .b-out) (leave-r i l)
+    target-row i k l hk (elsewhere d e) (inside m) = rw (← s .others k d e, m) (keep i k d e)
+    target-row i k l hk (elsewhere d e) (outside o) = rw (← s .others k d e, o) (X .rest i k l hk d e)
 
     pub exchange-step : Exchange p n A S P' M'
-    exchange-step = record { within = λ i m. within i m (place s i); skew = X .skew; product = product }
+    exchange-step = record { within = λ i m. within i m (place c r i); skew = X .skew; product = product }
       where
-        within : (i : ℕ) → i ∈ P' → Place P' c r P i → i ∈ S
+        within : (i : ℕ) → i ∈ P' → Place c r i → i ∈ S
         within i m (at-a q) = ap S q ∙ lc .inside
         within i m (at-b q) = ap S q ∙ lr .inside
-        within i m (stays m' _ _ _) = E .within i m'
-        within i m (never _ o) = clash m o
+        within i m (elsewhere d e) = E .within i (s .others i d e ∙ m)
 
         product : (i j : ℕ) → Index n S i → Index n S j → apply n A (source P' M' i) j + target P' M' i j ≈ 0
         product i j li lj =
             linear
-            (apply-congruent p n A _ _ j (λ k hk. source-row i k (li .below) hk (place s k))
-            ⊕ target-row i j (li .below) (lj .below) (place s j)
+            (apply-congruent p n A _ _ j (λ k hk. source-row i k (li .below) hk (place c r k) (member? P k))
+            ⊕ target-row i j (li .below) (lj .below) (place c r j) (member? P j)
             ⊕ E .product i j li lj
             ⊕ M' i c ⊛ E .product c j lc lj
             ⊕ M' i r ⊛ E .product r j lr lj
@@ -198,49 +172,31 @@ module _ (p n : ℕ) (A : Matrix) (S : Subset) where
                 ≡ apply n A u j + a * apply n A (source P M c) j + b * apply n A (source P M r) j
             split u a b = apply-linear n A _ (source P M r) b j ∙ ap (λ z. z + b * apply n A (source P M r) j) (apply-linear n A u (source P M c) a j)
 
-  -- a table that is M on P, and 0 elsewhere, is the inverse on P
-  pub exchange-inverse : {P : Subset} {M T : Matrix} → Exchange p n A S P M → ((i j : ℕ) → i < n → j < n → i ∈ P → j ∈ P → T i j ≈ M i j)
-      → ((i j : ℕ) → i < n → j < n → i ∉ P → T i j ≈ 0) → ((i j : ℕ) → i < n → j < n → j ∉ P → T i j ≈ 0) → Inverse p n A P T
-  exchange-inverse {P} {M} {T} E on rows columns = record {
-    rows = rows;
-    columns = columns;
-    one = λ i hi m. read i i hi hi m m ⨾ equals (delta-same i);
-    off = λ i j hi hj m m' d. read i j hi hj m m' ⨾ equals (delta-other j i (λ e. d (sym e)));
-  }
-    where
-      index : (i : ℕ) → i < n → i ∈ P → Index n S i
-      index i hi m = record { below = hi; inside = E .within i m }
-
-      opposite : (j k : ℕ) → j < n → k < n → j ∈ P → T k j + 1 * source P M j k ≈ 0
-      opposite j k hj hk m = go (member? P k)
-        where
-          go : Member P k → T k j + 1 * source P M j k ≈ 0
-          go (inside m') = rw m' (linear (on k j hk hj m' m ⊕ E .skew .turn k j hk hj) (omega arith))
-          go (outside o) = rw (o, delta-other j k (λ e. clash m (ap P e ∙ o))) (linear (rows k j hk hj o) (omega arith))
-
-      read : (i j : ℕ) → i < n → j < n → i ∈ P → j ∈ P → apply n A (column T j) i ≈ delta j i
-      read i j hi hj m m' =
-          linear
-          (apply-zero p n A (λ k. T k j + 1 * source P M j k) i (λ k hk. opposite j k hj hk m')
-          ⊖ E .product j i (index j hj m') (index i hi m))
-          (omega (arith, apply-linear n A (column T j) (source P M j) 1 i, ap (λ z. select z (delta j i) (M j i)) m))
-
-  -- with all of S exchanged, it is the inverse on S
+  -- with all of S exchanged, a table that is M on S, and 0 elsewhere, is the inverse on S
   pub exchange-whole : {P : Subset} {M T : Matrix} → Exchange p n A S P M → ((i : ℕ) → Index n S i → i ∈ P)
       → ((i j : ℕ) → Index n S i → Index n S j → T i j ≈ M i j)
       → ((i j : ℕ) → i < n → j < n → i ∉ S → T i j ≈ 0) → ((i j : ℕ) → i < n → j < n → j ∉ S → T i j ≈ 0) → Inverse p n A S T
-  exchange-whole {P} {M} {T} E full on rows columns =
-      same-members p n A same
-      (exchange-inverse E (λ i j hi hj m m'. on i j (index i hi m) (index j hj m')) (λ i j hi hj o. rows i j hi hj (same i hi ∙ o))
-      (λ i j hi hj o. columns i j hi hj (same j hj ∙ o)))
+  exchange-whole {P} {M} {T} E full on rows columns = record {
+    rows = rows;
+    columns = columns;
+    one = λ i hi l. let li : Index n S i = record { below = hi; inside = l } in read i i li li ⨾ equals (delta-same i);
+    off = λ i j hi hj l l' d.
+        read i j (record { below = hi; inside = l }) (record { below = hj; inside = l' }) ⨾ equals (delta-other j i (λ e. d (sym e)));
+  }
     where
-      index : (i : ℕ) → i < n → i ∈ P → Index n S i
-      index i hi m = record { below = hi; inside = E .within i m }
-
-      same : (i : ℕ) → i < n → S i ≡ P i
-      same i hi = go (member? S i) (member? P i)
+      opposite : (j k : ℕ) → Index n S j → k < n → T k j + 1 * source P M j k ≈ 0
+      opposite j k lj hk = go (member? S k) (member? P k)
         where
-          go : Member S i → Member P i → S i ≡ P i
-          go (inside l) _ = l ∙ sym (full i (record { below = hi; inside = l }))
-          go (outside o) (inside m) = clash (E .within i m) o
-          go (outside o) (outside o') = o ∙ sym o'
+          go : Member S k → Member P k → T k j + 1 * source P M j k ≈ 0
+          go (inside l) _ =
+              let lk : Index n S k = record { below = hk; inside = l } in
+              rw (full k lk) (linear (on k j lk lj ⊕ E .skew .turn k j hk (lj .below)) (omega arith))
+          go (outside o) (inside m) = clash (E .within k m) o
+          go (outside o) (outside o') =
+              rw (o', delta-other j k (λ e. clash (lj .inside) (ap S e ∙ o))) (linear (rows k j hk (lj .below) o) (omega arith))
+
+      read : (i j : ℕ) → Index n S i → Index n S j → apply n A (column T j) i ≈ delta j i
+      read i j li lj =
+          linear
+          (apply-zero p n A (λ k. T k j + 1 * source P M j k) i (λ k hk. opposite j k lj hk) ⊖ E .product j i lj li)
+          (omega (arith, apply-linear n A (column T j) (source P M j) 1 i, ap (λ z. select z (delta j i) (M j i)) (full i li)))

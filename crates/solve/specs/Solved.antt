@@ -10,13 +10,13 @@ use lib.Seq.{getD-take, getD-set-same, getD-set-other}
 use Rattle.lists.specs.Values.{list-of, getD-list-of}
 use Rattle.lists.specs.Part.{length-part}
 use Rattle.lists.specs.Table.{table, row-below, column-below, index-of, index-below, same-place, Square}
-use Rattle.modular.specs.Congruence.{Congruent, equals, _⨾_}
+use Rattle.modular.specs.Congruence.{Congruent, equals, _⨾_, linear}
 use Rattle.residue.specs.Modulus.{modulus, modulus-prime}
 use Rattle.skew.specs.Choose.{choose-yes, choose-no}
 use Rattle.skew.specs.Subset.{Subset, _∈_, Member, inside, outside, member?, marked, marked-in}
-use Rattle.skew.specs.Inverse.{Matrix, Skew, Inverse, same-entries, same-members}
+use Rattle.skew.specs.Inverse.{Matrix, Skew, Inverse}
 use Rattle.skew.specs.Column.{FirstDependent, Witness}
-use Rattle.skew.specs.Same.{members-first, members-witness}
+use Rattle.skew.specs.Same.{inverse-same, witness-same, first-same}
 use Rattle.skew.specs.Exchange.{select}
 use Rattle.skew.specs.Triangle.{mirror-above, mirror-skew, by-triangle}
 use Rattle.matching.specs.Graph.{Graph, tutte, tutte-upper, weight, upper}
@@ -55,9 +55,11 @@ all-in k h i l =
 module _ {n : ℕ} {E : Matrix} {t t' : List ℕ} (F : Filled n E n t t') where
   pub filled-matrix : {M : Matrix} → Skew modulus n M → ((i j : ℕ) → i < j → j < n → M i j ≡ E i j)
       → (i j : ℕ) → i < n → j < n → Congruent modulus (matrix n t' i j) (M i j)
-  filled-matrix S h =
-      by-triangle (modulus-prime .odd) (mirror-skew (modulus-prime .odd) (table n t') n) S
-      (λ i j l hj. rw (mirror-above (modulus-prime .odd) (table n t') i j l, F .above i j (omega arith) l hj, h i j l hj) (equals refl))
+  filled-matrix S h i j hi hj =
+      linear
+      (by-triangle (λ _ _. 0) (modulus-prime .odd) (mirror-skew (modulus-prime .odd) (table n t') n) S
+      (λ i j l hj. rw (mirror-above (modulus-prime .odd) (table n t') i j l, F .above i j (omega arith) l hj, h i j l hj) (equals refl)) i j hi hj)
+      (omega arith)
 
   pub filled-below : {b : ℕ} → Blank n t → 0 < b → ((i j : ℕ) → i < j → j < n → E i j < b) → Small b n t'
   filled-below {b} B positive small = record { at = λ i j hi hj. go i j hi hj (decLt i j) }
@@ -220,10 +222,7 @@ module _ (g : Graph) {S L : Subset} (agree : (i : ℕ) → i < g .n → L i ≡ 
     small = λ x l.
         rw (← index-of (g .n) x, C .row (x / g .n) (x % g .n) (row-below (g .n) x l) (column-below (g .n) x l))
         (word-small (g .n) t (x / g .n) (x % g .n));
-    is-inverse =
-        same-members modulus (g .n) (tutte g modulus) agree
-        (same-entries modulus (g .n) (tutte g modulus) (table (g .n) words)
-        (λ i j hi hj. equals (C .row i j hi hj) ⨾ word-matrix (g .n) t i j) I);
+    is-inverse = inverse-same (λ _ _ _ _. refl) agree (λ i j hi hj. equals (C .row i j hi hj) ⨾ word-matrix (g .n) t i j) I;
   }
 
   pub column-solved : {f : ℕ} (waiting : List ℕ) {witness : List ℕ} → witness ≡ list-of (g .n) (witness-word (g .n) t waiting f)
@@ -231,8 +230,8 @@ module _ (g : Graph) {S L : Subset} (agree : (i : ℕ) → i < g .n → L i ≡ 
       → Singular modulus g L f witness
   column-solved {f} waiting {witness} e F W = record {
     small = λ x l. rw (at x l) (witness-small (g .n) t waiting f x);
-    first = members-first (tutte g modulus) agree F;
-    kernel = members-witness (tutte g modulus) agree (λ k l. equals (at k l)) W;
+    first = first-same (λ _ _ _ _. refl) agree F;
+    kernel = witness-same (λ _ _ _ _. refl) agree (λ k l. equals (at k l)) W;
   }
     where
       at : (x : ℕ) → x < g .n → getD witness x 0 ≡ witness-word (g .n) t waiting f x
