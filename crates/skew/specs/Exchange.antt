@@ -88,12 +88,6 @@ module _ (p n : ℕ) (A : Matrix) (S : Subset) where
     abbrev Row : ℕ → ℕ → Vector → Type 0
     Row i f' f = f' + delta i c * f c + delta i r * f r ≈ f i + M' i c * f c + M' i r * f r
 
-    c-r : delta c r ≡ 0
-    c-r = delta-other c r (s .differ)
-
-    r-c : delta r c ≡ 0
-    r-c = delta-other r c (λ e. s .differ (sym e))
-
     turn : M r c + M c r ≈ 0
     turn = E .skew .turn r c (lr .below) (lc .below)
 
@@ -104,10 +98,10 @@ module _ (p n : ℕ) (A : Matrix) (S : Subset) where
     keep i k d e = equals (rw (delta-other c k (λ q. d (sym q)), delta-other r k (λ q. e (sym q))) (omega arith))
 
     enter-c : (i : ℕ) → Row i (M' i c) (λ h. delta h c)
-    enter-c i = equals (rw (delta-same c, r-c) (omega arith))
+    enter-c i = equals (rw (delta-same c, delta-other r c (λ e. s .differ (sym e))) (omega arith))
 
     enter-r : (i : ℕ) → Row i (M' i r) (λ h. delta h r)
-    enter-r i = equals (rw (delta-same r, c-r) (omega arith))
+    enter-r i = equals (rw (delta-same r, delta-other c r (s .differ)) (omega arith))
 
     leave-c : (i : ℕ) → i < n → Row i (delta i c) (λ h. M h c)
     leave-c i l =
