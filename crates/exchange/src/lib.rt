@@ -41,8 +41,8 @@ fn partner(t: &[u64], n: usize, c: usize, waiting: &[u8]) -> usize
     r
 }
 
-// Exchanges c with its lowest partner, and neither waits any more; n where it has none, and c where it does not wait. Has room for two
-// columns.
+// Exchanges c with its lowest partner, and neither waits any more; n where it has none, and c where it does not wait. x and y are room for
+// two columns.
 fn turn(
     t: &mut [u64],
     n: usize,
