@@ -77,7 +77,7 @@ module _ (n : ℕ) (adjacency weights : List ℕ) (b : Buffers) where
     pub refusal-small : r .place < 2 ^ 16
     refusal-small = numbers.opens-small {S = everything} {b = unpacked b} (refuses-opening r e) .place-below
 
-pub same-buffers : {i i′ s s′ w w′ k k′ : List ℕ} → i ≡ i′ → s ≡ s′ → w ≡ w′ → k ≡ k′ → buffers i s w k ≡ buffers i′ s′ w′ k′
+same-buffers : {i i′ s s′ w w′ k k′ : List ℕ} → i ≡ i′ → s ≡ s′ → w ≡ w′ → k ≡ k′ → buffers i s w k ≡ buffers i′ s′ w′ k′
 same-buffers ei es ew ek = rw (ei, es, ew, ek)
 
 -- bytes of zeros are stored words of zeros
