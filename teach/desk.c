@@ -23,8 +23,8 @@ static struct log calls_log = {-1, 0, 0, ""};
 static int person; /* whether a person types */
 static int typed;  /* and sees the answers, so that lines need not be repeated */
 static int leave;
-static int asked; /* whether the last command was one to leave that was put off; a word that is
-                     none, such as yes, does not count */
+static int asked; /* whether the last line was one to leave that was put off; a yes to it does not
+                     count */
 
 static int number_of(const struct word *word, uint64_t *number)
 {
@@ -397,6 +397,7 @@ static void carry_out(struct line *line)
     struct word words[MOST_WORDS];
     const size_t count = split(line, words);
     if (line->cut) {
+        asked = 0;
         printf("  not understood: a line has at most %u bytes.\n", (unsigned)LINE_BYTES);
         return;
     }
@@ -414,6 +415,8 @@ static void carry_out(struct line *line)
         explain_usage(&commands[i]);
         return;
     }
+    if (!is_word(&words[0], "yes") && !is_word(&words[0], "y"))
+        asked = 0;
     explain_unknown(&words[0]);
 }
 
@@ -479,8 +482,6 @@ static void set_signals(void)
     action.sa_handler = SIG_IGN;
     sigaction(SIGXFSZ, &action, NULL);
     sigaction(SIGPIPE, &action, NULL);
-    if (person)
-        allow_interrupts();
 }
 
 /* Whether what was printed could be written; said once if not. */
@@ -501,6 +502,8 @@ static int written(void)
 static int serve(void)
 {
     static struct line line;
+    if (person)
+        allow_interrupts();
     while (!leave) {
         if (typed)
             printf("> ");

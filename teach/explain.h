@@ -5,8 +5,7 @@
 #include "session.h"
 
 /* Says what a session call returned, and what to do if it was refused. Of the
-   session only the graph, sequence and made are looked at; made and sequence are
-   those after the call. */
+   session, made and sequence are those after the call. */
 void explain_call(const struct session *s, const struct call *call, uint64_t number);
 
 /* Says in one line, after the call itself, what a call of a list returned. */

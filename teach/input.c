@@ -10,11 +10,11 @@
 #include <unistd.h>
 
 #define LINE_COLUMNS 160
-#define WORD_COLUMNS 40
+#define WORD_COLUMNS 30
 
 static int interruptible; /* whether a line of stdin can be given up */
 static volatile sig_atomic_t interrupted;
-static sigset_t blocked; /* while a byte is awaited */
+static sigset_t while_waiting; /* the signals that are blocked then */
 
 static void interrupt(int signal_number)
 {
@@ -32,9 +32,9 @@ void allow_interrupts(void)
     sigemptyset(&held);
     sigaddset(&held, SIGINT);
     sigaddset(&held, SIGQUIT);
-    sigprocmask(SIG_BLOCK, &held, &blocked);
-    sigdelset(&blocked, SIGINT);
-    sigdelset(&blocked, SIGQUIT);
+    sigprocmask(SIG_BLOCK, &held, &while_waiting);
+    sigdelset(&while_waiting, SIGINT);
+    sigdelset(&while_waiting, SIGQUIT);
     sigaction(SIGINT, &action, NULL);
     sigaction(SIGQUIT, &action, NULL);
     setvbuf(stdin, NULL, _IONBF, 0); /* every byte is awaited */
@@ -48,7 +48,7 @@ static int await_byte(void)
         fd_set input;
         FD_ZERO(&input);
         FD_SET(STDIN_FILENO, &input);
-        if (pselect(STDIN_FILENO + 1, &input, NULL, NULL, NULL, &blocked) > 0 || errno != EINTR)
+        if (pselect(STDIN_FILENO + 1, &input, NULL, NULL, NULL, &while_waiting) > 0 || errno != EINTR)
             return 1;
     }
     return 0;

@@ -78,6 +78,8 @@ int log_begin(struct log *log, const char *name, const struct session *s)
     }
     if (!done) {
         print_failure("no log: cannot write", name, errno);
+        if (log->fd >= 0)
+            printf("  The log kept so far goes on.\n");
         printf("  what to do: name a file in a folder with room.\n");
         close(new.fd);
         unlink(name); /* it was made here */
@@ -202,8 +204,6 @@ static int take(struct line *line, struct calls *calls)
 static int read_calls(FILE *file, const char *name, struct calls *calls)
 {
     static struct line line, shown;
-    calls->named = 0;
-    calls->count = 0;
     for (unsigned long number = 1;; number++) {
         switch (read_line(file, &line)) {
         case READ_FAILED:
@@ -275,7 +275,10 @@ int log_read(const char *name, struct calls *calls)
         close(fd);
         return 0;
     }
-    const int done = read_calls(file, name, calls);
+    calls->named = 0;
+    calls->count = 0;
+    /* What has no size has no lines: some files of the system then never end. */
+    const int done = about.st_size == 0 || read_calls(file, name, calls);
     fclose(file);
     return done;
 }
