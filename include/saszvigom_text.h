@@ -26,8 +26,8 @@ enum saszvigom_from SASZVIGOM_ENUM_TYPE {
     SASZVIGOM_FROM_SHEET = 2
 };
 
-/* A cause as text, without its place; "an unknown cause" for what is none of
-   such a call. */
+/* A cause as text, without its place; "an unknown cause" for 12 to 15 where such
+   a call does not return them, and for every number above 15. */
 static inline const char *saszvigom_cause_text(enum saszvigom_cause cause,
                                                enum saszvigom_from from)
 {

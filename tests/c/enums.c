@@ -11,7 +11,7 @@
 
 static unsigned known, values;
 
-/* Counts a value; whether it was known has been counted. */
+/* Counts a value, which must have a text. */
 static void count(const char *text)
 {
     values++;
