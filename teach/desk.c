@@ -19,12 +19,13 @@
 #include <unistd.h>
 
 static struct session session;
-static struct log calls_log = {-1, 0, 0, ""};
+static struct log calls_log = NO_LOG;
 static int person; /* whether a person types */
 static int typed;  /* and sees the answers, so that lines need not be repeated */
 static int leave;
-static int asked; /* whether the last line was one to leave that was put off; a yes to it does not
-                     count */
+static int given_up; /* whether it is left by quit, so that boxes in no log are not wanted */
+static int asked;    /* whether the last line was one to leave that was put off; a yes to it does
+                        not count */
 
 static int number_of(const struct word *word, uint64_t *number)
 {
@@ -170,27 +171,19 @@ static void do_draws(const struct word *words)
                (unsigned)session.seed);
         return;
     }
-    if (calls_log.fd >= 0)
+    if (calls_log.fd >= 0 && !calls_log.unasked)
         printf("  The log ends here: it is of the draws of seed %u.\n"
                "  what to do: log FILE begins a new one.\n",
                (unsigned)session.seed);
-    log_end(&calls_log);
+    log_discard(&calls_log);
     session_redraw(&session, (uint32_t)seed);
     explain_opening(&session);
 }
 
 static void do_log(const struct word *words)
 {
-    static struct log before;
-    before = calls_log;
-    if (!is_name(&words[1]) || !log_begin(&calls_log, words[1].text, &session))
-        return;
-    if (before.fd >= 0) {
-        printf("  ");
-        print_name(before.name);
-        printf(" ends here.\n");
-    }
-    printf("  log: boxes made so far %u, and each call from now on\n", session.made);
+    if (is_name(&words[1]) && log_begin(&calls_log, words[1].text, &session))
+        printf("  log: boxes made so far %u, and each call from now on\n", session.made);
 }
 
 /* Says what each call of a list returned; how many answers are not as in the
@@ -198,21 +191,17 @@ static void do_log(const struct word *words)
 static unsigned explain_calls(const struct calls *calls, const uint64_t *answers)
 {
     unsigned others = 0;
-    char text[64];
+    char text[CALL_BYTES];
     for (size_t i = 0; i < calls->count; i++) {
         const uint64_t *const numbers = calls->numbers + SASZVIGOM_NUMBERS_A_CALL * i;
         const struct call call = {numbers[0], numbers[1], numbers[2]};
-        const int undone = call.kind == SASZVIGOM_CALL_UNDO;
-        if (call.kind == SASZVIGOM_CALL_PICK)
-            snprintf(text, sizeof text, "pick %" PRIu64 " %" PRIu64, call.a, call.b);
-        else
-            snprintf(text, sizeof text, "%s", undone ? "undo" : "auto");
+        call_text(text, &call);
         printf("  %-12s%s", text, strlen(text) < 12 ? "" : "\n              ");
         explain_briefly(&call, answers[i]);
         log_call(&calls_log, &call, answers[i]);
         if (calls->answers[i] != NO_ANSWER && calls->answers[i] != (answers[i] & UINT32_MAX)) {
             printf("              not as in the file, which has: ");
-            print_answer(calls->answers[i], undone);
+            print_answer(calls->answers[i], call.kind == SASZVIGOM_CALL_UNDO);
             printf("\n");
             others++;
         }
@@ -283,11 +272,12 @@ static void do_replay(const struct word *words)
     print_comparison(&calls, explain_calls(&calls, answers));
 }
 
-/* Leaves; but a person is asked first where the pairs are in no log. */
+/* Leaves, by the command or, without words, at the end of input; but a person is
+   asked first where the pairs are in no log that was asked for. */
 static void do_quit(const struct word *words)
 {
-    (void)words;
-    if (person && session.made > 0 && calls_log.fd < 0 && !asked) {
+    const int logged = log_is_kept(&calls_log) && !calls_log.unasked;
+    if (person && session.made > 0 && !logged && !asked) {
         printf("  not left yet: boxes made %u, and no log is kept.\n"
                "  what to do: keep them with log FILE; or quit once more, and they are gone.\n",
                session.made);
@@ -295,6 +285,7 @@ static void do_quit(const struct word *words)
         return;
     }
     leave = 1;
+    given_up = words != NULL;
 }
 
 static void do_help(const struct word *words);
@@ -352,6 +343,24 @@ static void explain_usage(const struct command *command)
         printf("%s alone.\n", command->name);
 }
 
+/* The command that a word may stand for, or null. */
+static const struct command *command_meant(const struct word *word)
+{
+    const char *const other = other_word(word);
+    uint64_t number;
+    for (size_t i = 0; i < COMMANDS; i++) {
+        const struct command *const command = &commands[i];
+        if (other != NULL) {
+            if (strcmp(command->name, other) == 0)
+                return command;
+        } else if (nearly(word, command->name) ||
+                   (command->run == do_pick && is_number(word, &number))) {
+            return command;
+        }
+    }
+    return NULL;
+}
+
 static void explain_unknown(const struct word *word)
 {
     if (word->text[0] == '>') {
@@ -369,14 +378,7 @@ static void explain_unknown(const struct word *word)
                "  what to do: type the whole line.\n");
         return;
     }
-    const char *const other = other_word(word);
-    const struct command *meant = NULL;
-    uint64_t number;
-    for (size_t i = 0; i < COMMANDS && meant == NULL; i++)
-        if (other != NULL ? strcmp(commands[i].name, other) == 0
-                          : nearly(word, commands[i].name) ||
-                                (is_number(word, &number) && commands[i].run == do_pick))
-            meant = &commands[i];
+    const struct command *const meant = command_meant(word);
     printf("  not understood: ");
     print_word(word->text, word->length);
     printf(" is no command of the desk.\n  what to do: ");
@@ -497,13 +499,50 @@ static int written(void)
     return !failed;
 }
 
+/* Sees to it that the boxes of a person are on the disk after every command, in a
+   log that nobody has asked for if there is no other: a window may be closed. */
+static void keep_boxes(void)
+{
+    static int failed;
+    if (log_is_kept(&calls_log) || session.made == 0)
+        failed = 0;
+    else if (!failed && !log_begin_unasked(&calls_log, &session)) {
+        failed = 1;
+        printf("  Until log FILE keeps them, boxes are gone where the desk is stopped.\n");
+    }
+    log_sync(&calls_log);
+}
+
+/* Names a log that a session has left which was not ended. */
+static void say_what_is_left(void)
+{
+    const char *const left = log_unasked_left();
+    if (left != NULL)
+        printf("  %s is here, of a session that was not ended.\n"
+               "  what to do: replay %s, and keep the boxes with log FILE.\n",
+               left, left);
+}
+
+/* Ends the log. One that nobody has asked for stays if it has boxes that were not
+   given up. */
+static int end_log(void)
+{
+    if (given_up || session.made == 0)
+        return log_discard(&calls_log);
+    if (calls_log.fd >= 0 && calls_log.unasked)
+        fprintf(stderr, "desk: the boxes are kept in %s, for a replay\n", calls_log.name);
+    return log_end(&calls_log);
+}
+
 /* Carries out commands to the end; 0 if they cannot be read, or the answers not
    be written. The log, if one is kept, then has every call that was made. */
 static int serve(void)
 {
     static struct line line;
-    if (person)
+    if (person) {
         allow_interrupts();
+        say_what_is_left();
+    }
     while (!leave) {
         if (typed)
             printf("> ");
@@ -533,6 +572,8 @@ static int serve(void)
             printf("\n");
         }
         carry_out(&line);
+        if (person && !leave)
+            keep_boxes();
     }
     printf("left with boxes made %u, sleeves loose %u\n", session.made,
            session.n - 2 * session.made);
@@ -551,6 +592,6 @@ int main(int argc, char **argv)
     typed = person && isatty(STDOUT_FILENO);
     set_signals();
     const int done = start(argv[1]) && serve();
-    const int kept = log_end(&calls_log);
+    const int kept = end_log();
     return written() && done && kept ? 0 : 1;
 }

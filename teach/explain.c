@@ -35,7 +35,7 @@ static int say_matched(const struct session *s, uint64_t a)
     if (place == SASZVIGOM_UNUSED)
         return 0;
     printf("sleeve %" PRIu64 " is not loose; box %u has it, with %u.\n", a, place / 2 + 1,
-           s->sequence[place ^ 1u]);
+           s->graph.sequence[place ^ 1u]);
     return 1;
 }
 

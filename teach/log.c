@@ -10,7 +10,7 @@
 #include <sys/stat.h>
 #include <unistd.h>
 
-#define LOG_LINE_BYTES 128
+#define LOG_LINE_BYTES (2 * CALL_BYTES + 8)
 
 static void print_failure(const char *what, const char *name, int error)
 {
@@ -39,86 +39,151 @@ static int append(struct log *log, const char *text)
     return 1;
 }
 
+void call_text(char text[CALL_BYTES], const struct call *call)
+{
+    if (call->kind == SASZVIGOM_CALL_PICK)
+        snprintf(text, CALL_BYTES, "pick %" PRIu64 " %" PRIu64, call->a, call->b);
+    else
+        snprintf(text, CALL_BYTES, "%s", call->kind == SASZVIGOM_CALL_UNDO ? "undo" : "auto");
+}
+
 /* Writes the answer of a call into a text. */
-static void answer_text(char text[LOG_LINE_BYTES], uint64_t number, int undo)
+static void answer_text(char text[CALL_BYTES], uint64_t number, int undo)
 {
     if (saszvigom_cause_of(number) != SASZVIGOM_NO_CAUSE)
-        snprintf(text, LOG_LINE_BYTES, "refused %u", (unsigned)saszvigom_cause_of(number));
+        snprintf(text, CALL_BYTES, "refused %u", (unsigned)saszvigom_cause_of(number));
     else
-        snprintf(text, LOG_LINE_BYTES, "%s %u %u", undo ? "back" : "box",
+        snprintf(text, CALL_BYTES, "%s %u %u", undo ? "back" : "box",
                  saszvigom_smaller_of(number), saszvigom_larger_of(number));
 }
 
 void print_answer(uint64_t answer, int undo)
 {
-    char text[LOG_LINE_BYTES];
+    char text[CALL_BYTES];
     answer_text(text, answer, undo);
     printf("%s", text);
 }
 
+/* Writes the graph, and the pairs made so far as picks; else 0, with errno. */
+static int append_session(struct log *log, const struct session *s)
+{
+    char text[LOG_LINE_BYTES];
+    snprintf(text, sizeof text, "sleeves %u links %u seed %u\n", s->n, s->edges,
+             (unsigned)s->seed);
+    int done = append(log, text);
+    for (unsigned k = 0; done && k < s->made; k++) {
+        const unsigned a = s->graph.sequence[2 * k], b = s->graph.sequence[2 * k + 1];
+        snprintf(text, sizeof text, "pick %u %u = box %u %u\n", a, b, a, b);
+        done = append(log, text);
+    }
+    return done;
+}
+
 int log_begin(struct log *log, const char *name, const struct session *s)
 {
-    struct log new = {-1, 0, s->made, ""};
-    char text[LOG_LINE_BYTES];
+    struct log new = NO_LOG;
+    const int asked_for = log->fd >= 0 && !log->unasked;
+    const char *const goes_on = asked_for ? "  The log kept so far goes on.\n" : "";
     new.fd = open(name, O_WRONLY | O_CREAT | O_EXCL | O_NOCTTY, 0666);
     if (new.fd < 0) {
         print_failure("no log: cannot make", name, errno);
-        if (log->fd >= 0)
-            printf("  The log kept so far goes on.\n");
-        printf("  what to do: name a new file, in a folder that is there; none is overwritten.\n");
+        printf("%s  what to do: name a new file, in a folder that is there; none is overwritten.\n",
+               goes_on);
         return 0;
     }
-    snprintf(text, sizeof text, "sleeves %u links %u seed %u\n", s->n, s->edges,
-             (unsigned)s->seed);
-    int done = append(&new, text);
-    for (unsigned k = 0; done && k < s->made; k++) {
-        const unsigned a = s->sequence[2 * k], b = s->sequence[2 * k + 1];
-        snprintf(text, sizeof text, "pick %u %u = box %u %u\n", a, b, a, b);
-        done = append(&new, text);
-    }
-    if (!done) {
+    if (!append_session(&new, s)) {
         print_failure("no log: cannot write", name, errno);
-        if (log->fd >= 0)
-            printf("  The log kept so far goes on.\n");
-        printf("  what to do: name a file in a folder with room.\n");
+        printf("%s  what to do: name a file in a folder with room.\n", goes_on);
         close(new.fd);
         unlink(name); /* it was made here */
         return 0;
     }
-    log_end(log);
+    if (asked_for) {
+        printf("  ");
+        print_name(log->name);
+        printf(" ends here.\n");
+    }
+    log_discard(log);
+    new.count = s->made;
+    strcpy(new.name, name);
     *log = new;
-    strcpy(log->name, name);
     return 1;
+}
+
+/* The first of the names unsaved-1.log to unsaved-99.log that a file has, or that
+   none has; null if there is no such name. */
+static const char *find_unasked(int taken)
+{
+    static char name[32];
+    struct stat about;
+    for (unsigned k = 1; k < 100; k++) {
+        snprintf(name, sizeof name, "%sunsaved-%u.log", access(".", W_OK) == 0 ? "" : "/tmp/", k);
+        if ((lstat(name, &about) == 0) == taken)
+            return name;
+    }
+    return NULL;
+}
+
+const char *log_unasked_left(void)
+{
+    return find_unasked(1);
+}
+
+int log_begin_unasked(struct log *log, const struct session *s)
+{
+    const char *const name = find_unasked(0);
+    if (!log_begin(log, name != NULL ? name : "unsaved-1.log", s))
+        return 0;
+    log->unasked = 1;
+    return 1;
+}
+
+/* Ends a log while the session goes on. */
+static void end_early(struct log *log, const char *where)
+{
+    printf("  The session goes on, and no log is kept.\n  what to do: log to a new file%s.\n",
+           where);
+    log_end(log);
+}
+
+int log_is_kept(struct log *log)
+{
+    struct stat about;
+    if (log->fd >= 0 && fstat(log->fd, &about) == 0 && about.st_nlink == 0) {
+        printf("  the log is no longer there: ");
+        print_name(log->name);
+        printf("\n");
+        end_early(log, "");
+    }
+    return log->fd >= 0;
 }
 
 void log_call(struct log *log, const struct call *call, uint64_t number)
 {
-    char text[2 * LOG_LINE_BYTES], answer[LOG_LINE_BYTES];
-    if (log->fd < 0)
+    char text[LOG_LINE_BYTES], called[CALL_BYTES], answer[CALL_BYTES];
+    if (!log_is_kept(log))
         return;
     if (log->count == MOST_CALLS) {
-        printf("  the log ends before this call: it has %u calls, as many as a replay takes.\n"
-               "  The session goes on, and no log is kept.\n"
-               "  what to do: log to a new file.\n",
+        printf("  the log ends before this call: it has %u calls, as many as a replay takes.\n",
                (unsigned)MOST_CALLS);
-        log_end(log);
+        end_early(log, "");
         return;
     }
+    call_text(called, call);
     answer_text(answer, number, call->kind == SASZVIGOM_CALL_UNDO);
-    if (call->kind == SASZVIGOM_CALL_PICK)
-        snprintf(text, sizeof text, "pick %" PRIu64 " %" PRIu64 " = %s\n", call->a, call->b,
-                 answer);
-    else
-        snprintf(text, sizeof text, "%s = %s\n",
-                 call->kind == SASZVIGOM_CALL_UNDO ? "undo" : "auto", answer);
+    snprintf(text, sizeof text, "%s = %s\n", called, answer);
     if (!append(log, text)) {
         print_failure("the log ends before this call: cannot write", log->name, errno);
-        printf("  The session goes on, and no log is kept.\n"
-               "  what to do: log to a new file, in a folder with room.\n");
-        log_end(log);
+        end_early(log, ", in a folder with room");
         return;
     }
     log->count++;
+}
+
+void log_sync(const struct log *log)
+{
+    if (log->fd >= 0)
+        fsync(log->fd);
 }
 
 int log_end(struct log *log)
@@ -128,6 +193,16 @@ int log_end(struct log *log)
         print_failure("the log may not be whole: cannot close", log->name, errno);
     log->fd = -1;
     return whole;
+}
+
+int log_discard(struct log *log)
+{
+    struct stat kept, named;
+    /* Another file may have taken its name. */
+    if (log->fd >= 0 && log->unasked && fstat(log->fd, &kept) == 0 &&
+        lstat(log->name, &named) == 0 && kept.st_dev == named.st_dev && kept.st_ino == named.st_ino)
+        unlink(log->name);
+    return log_end(log);
 }
 
 /* The call that begins a line, in words; the number of these, or 0. */

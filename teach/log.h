@@ -22,22 +22,43 @@
 
 struct log {
     int fd;            /* -1 if no log is kept */
+    int unasked;       /* whether nobody has asked for it */
     long long written; /* the bytes of its whole lines */
     size_t count;      /* its calls */
     char name[LINE_BYTES + 1];
 };
+#define NO_LOG {-1, 0, 0, 0, ""}
 
 /* Begins a log in a new file, in place of the one that was kept: the graph, and
    the pairs made so far as picks. A failure is reported, and the log that was
    kept goes on. */
 int log_begin(struct log *log, const char *name, const struct session *s);
 
+/* Begins one that nobody has asked for, under the first name that is free:
+   unsaved-1.log, unsaved-2.log and so on, in this folder or, where that cannot be
+   written, in /tmp. */
+int log_begin_unasked(struct log *log, const struct session *s);
+
+/* The first such file that is there, which a session that was not ended has left,
+   in a text that the next call of this or of log_begin_unasked writes over; or
+   null. */
+const char *log_unasked_left(void);
+
 /* Writes a call with the number that it returned, if a log is kept. A failure,
    and a log that is full, is reported, and ends the log. */
 void log_call(struct log *log, const struct call *call, uint64_t number);
 
+/* Whether a log is kept. One whose file was removed is ended, which is reported. */
+int log_is_kept(struct log *log);
+
+/* Has the log, if one is kept, brought to the disk, as far as it can be. */
+void log_sync(const struct log *log);
+
 /* Ends the log, if one is kept; 0 if it may not be whole, which is reported. */
 int log_end(struct log *log);
+
+/* Ends it too, and removes the file of one that nobody has asked for. */
+int log_discard(struct log *log);
 
 /* A list of calls that was read. */
 struct calls {
@@ -51,6 +72,10 @@ struct calls {
 
 /* Reads a log; 0 if it failed, which is reported. */
 int log_read(const char *name, struct calls *calls);
+
+/* Writes a call as a log has it. */
+#define CALL_BYTES 64
+void call_text(char text[CALL_BYTES], const struct call *call);
 
 /* Prints an answer as a log has it. */
 void print_answer(uint64_t answer, int undo);

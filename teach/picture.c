@@ -74,8 +74,8 @@ void print_vertices(const char *heading, const uint8_t *marks, unsigned n)
 void print_witness(const struct session *s)
 {
     for (unsigned a = 0; a < s->n; a++)
-        if (saszvigom_word(s->witness, a) != 0)
-            printf("  witness %u %u\n", a, (unsigned)saszvigom_word(s->witness, a));
+        if (saszvigom_word(s->graph.witness, a) != 0)
+            printf("  witness %u %u\n", a, (unsigned)saszvigom_word(s->graph.witness, a));
 }
 
 /* The pairs from a first one to a last, drawn side by side. */
@@ -86,7 +86,7 @@ static void draw_pairs(const struct session *s, unsigned first, unsigned last)
         printf("  +-------+");
     printf("\n       ");
     for (unsigned k = first; k <= last; k++)
-        printf("  | %2u %2u |", s->sequence[2 * k], s->sequence[2 * k + 1]);
+        printf("  | %2u %2u |", s->graph.sequence[2 * k], s->graph.sequence[2 * k + 1]);
     printf("\n       ");
     for (unsigned k = first; k <= last; k++)
         printf("  +--(%u)-%s+", k + 1, k + 1 < 10 ? "-" : "");
@@ -103,7 +103,7 @@ static void print_pairs(const struct session *s)
     }
     struct paragraph p = begin("boxes  ");
     for (unsigned k = 0; k < s->made; k++) {
-        snprintf(item, sizeof item, "[%2u %2u]", s->sequence[2 * k], s->sequence[2 * k + 1]);
+        snprintf(item, sizeof item, "[%2u %2u]", s->graph.sequence[2 * k], s->graph.sequence[2 * k + 1]);
         put(&p, item, strlen(item));
     }
     printf(s->made > 0 ? "\n" : " none\n");
@@ -114,7 +114,7 @@ static void print_sequence(const struct session *s)
     char item[32];
     struct paragraph p = begin("strip  ");
     for (unsigned i = 0; i < s->n; i++) {
-        snprintf(item, sizeof item, "%u", s->sequence[i]);
+        snprintf(item, sizeof item, "%u", s->graph.sequence[i]);
         put(&p, item, strlen(item));
     }
     printf("\n");

@@ -1,21 +1,17 @@
-/* A graph and the session on it, in buffers for any number of vertices. */
+/* A graph with the session on it, and what the desk knows of both besides. */
 #ifndef TEACH_SESSION_H
 #define TEACH_SESSION_H
 
-#include "saszvigom.h"
+#include "saszvigom_graph.h"
 
 #define MOST SASZVIGOM_MAX_VERTICES
 
 struct session {
-    unsigned n, edges;
+    struct saszvigom_graph graph;
+    unsigned n, made; /* those of the graph */
+    unsigned edges;
     uint32_t seed; /* of the weights */
     int opened;    /* else the graph is singular with these weights */
-    unsigned made;
-    uint8_t adjacency[SASZVIGOM_ADJACENCY_BYTES(MOST)];
-    uint8_t weights[SASZVIGOM_WEIGHTS_BYTES(MOST)];
-    uint8_t inverse[SASZVIGOM_INVERSE_BYTES(MOST)];
-    uint8_t sequence[SASZVIGOM_SEQUENCE_BYTES(MOST)];
-    uint8_t witness[SASZVIGOM_WITNESS_BYTES(MOST)];
 };
 
 /* A call as it stands in a list of saszvigom_replay; row is not in such a list. */
@@ -30,7 +26,7 @@ uint64_t session_read(struct session *s, const uint8_t *sheet, size_t length);
 /* Opens the graph again with the weights of a seed. */
 void session_redraw(struct session *s, uint32_t seed);
 
-/* The calls of the library: each returns its number, and goes on with made. */
+/* The calls of the library: each returns its number. */
 uint64_t session_pick(struct session *s, uint64_t a, uint64_t b);
 uint64_t session_automatic(struct session *s);
 uint64_t session_undo(struct session *s);
