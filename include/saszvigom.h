@@ -337,10 +337,14 @@ uint64_t saszvigom_read(const uint8_t *sheet, size_t sheet_len,
  *   seed       any number
  *   weights    written; n * (n - 1) / 2 words, each from 1 to 65520
  *
- * The draws are those of a generator of 32 bits, and no secret. A graph with an
- * even number of vertices that opens as singular may have a perfect matching all
- * the same: draw again with a few other seeds. What is said of lengths,
- * alignment, null and the bytes past those needed is as for saszvigom_open.
+ * These are the draws of document 01, the paper that the library is built to, and
+ * are given by its formula: one after the other, s becomes
+ * 1664525 * s + 1013904223 modulo 2^32, beginning with the seed, and the weight is
+ * 1 + s / 65536 % 65520. They are no secret, and nothing is claimed about how
+ * uniform or independent they are. A graph with an even number of vertices that
+ * opens as singular may have a perfect matching all the same: draw again with a
+ * few other seeds. What is said of lengths, alignment, null and the bytes past
+ * those needed is as for saszvigom_open.
  *
  * Kind SASZVIGOM_DRAWS with the number of weights; else refused, with nothing
  * written: SASZVIGOM_SIZE_TOO_LARGE, or else SASZVIGOM_BUFFER_TOO_SHORT at

@@ -12,7 +12,7 @@
  *
  * Each call passes the struct's buffers with their lengths, keeps the vertices
  * and the pairs made, and returns the number of the entry that it calls,
- * unchanged. saszvigom_explain of saszvigom_text.h says it in words.
+ * unchanged. saszvigom_graph_explain says it in words.
  *
  * These mistakes do no harm: a vertex that is not there or is given twice, a
  * weight out of range, more than 96 vertices, a session call before opening or
@@ -273,6 +273,17 @@ static inline uint64_t saszvigom_graph_replay(struct saszvigom_graph *graph, con
                                 graph->weights, sizeof graph->weights, graph->inverse,
                                 sizeof graph->inverse, graph->sequence, sizeof graph->sequence,
                                 calls, calls_len, answers, answers_len));
+}
+
+/* Explains what a call over the graph returned, in one line that says what is
+   wrong in the graph: saszvigom_explain_with. The arguments are those of
+   saszvigom_explain, with the graph for its vertices. */
+static inline size_t saszvigom_graph_explain(char *text, size_t size, uint64_t number,
+                                             const struct saszvigom_graph *graph,
+                                             enum saszvigom_from from)
+{
+    return saszvigom_explain_with(text, size, number, graph->n, from, graph->adjacency,
+                                  sizeof graph->adjacency, graph->weights, sizeof graph->weights);
 }
 
 #ifdef __cplusplus

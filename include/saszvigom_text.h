@@ -167,6 +167,24 @@ enum saszvigom_fault SASZVIGOM_ENUM_TYPE {
     SASZVIGOM_FAULT_MIRROR = 3
 };
 
+/* What a table of n vertices shows at row i and column j; SASZVIGOM_NO_FAULT if
+   the byte is in order or not there, or the table is null or has less than n * n
+   bytes. For this header alone. */
+static inline enum saszvigom_fault saszvigom_fault_in(const uint8_t *adjacency,
+                                                      size_t adjacency_len, uint64_t n, unsigned i,
+                                                      unsigned j)
+{
+    if (n > SASZVIGOM_MAX_VERTICES || i >= n || j >= n || adjacency == NULL ||
+        adjacency_len < n * n)
+        return SASZVIGOM_NO_FAULT;
+    if (adjacency[i * n + j] > 1)
+        return SASZVIGOM_FAULT_VALUE;
+    if (i == j && adjacency[i * n + j] != 0)
+        return SASZVIGOM_FAULT_DIAGONAL;
+    return adjacency[i * n + j] != adjacency[j * n + i] ? SASZVIGOM_FAULT_MIRROR
+                                                        : SASZVIGOM_NO_FAULT;
+}
+
 /* The row, the column and the fault of the adjacency byte at fault, for the number
    of a call with n vertices. Row and column mean nothing for a cause other than
    SASZVIGOM_ADJACENCY_FAULT.
@@ -196,19 +214,12 @@ static inline enum saszvigom_fault saszvigom_fault_of(uint64_t number, uint64_t 
                                                       const uint8_t *adjacency,
                                                       size_t adjacency_len)
 {
-    const size_t i = saszvigom_fault_row(number, n), j = saszvigom_fault_column(number, n);
     if (saszvigom_cause_of(number) != SASZVIGOM_ADJACENCY_FAULT)
         return SASZVIGOM_NO_FAULT;
     if ((number >> 32 & 0xFFu) != 0)
         return (enum saszvigom_fault)(number >> 32 & 0xFFu);
-    if (n > SASZVIGOM_MAX_VERTICES || i >= n || adjacency == NULL || adjacency_len < n * n)
-        return SASZVIGOM_NO_FAULT;
-    if (adjacency[i * n + j] > 1)
-        return SASZVIGOM_FAULT_VALUE;
-    if (i == j && adjacency[i * n + j] != 0)
-        return SASZVIGOM_FAULT_DIAGONAL;
-    return adjacency[i * n + j] != adjacency[j * n + i] ? SASZVIGOM_FAULT_MIRROR
-                                                        : SASZVIGOM_NO_FAULT;
+    return saszvigom_fault_in(adjacency, adjacency_len, n, saszvigom_fault_row(number, n),
+                              saszvigom_fault_column(number, n));
 }
 
 /* A text that is being written: size bytes of room, and the length so far, which
@@ -242,9 +253,78 @@ static inline void saszvigom_line_number(struct saszvigom_line *line, const char
         saszvigom_line_char(line, (char)('0' + (int)(number / power % 10u)));
 }
 
+/* The adjacency byte at fault, row i and column j, and what is wrong with it: the
+   fault of the number or of the table, with the bytes where the table shows them. */
+static inline void saszvigom_line_fault(struct saszvigom_line *line, uint64_t number, uint64_t n,
+                                        const uint8_t *adjacency, size_t adjacency_len, unsigned i,
+                                        unsigned j)
+{
+    const enum saszvigom_fault fault = saszvigom_fault_of(number, n, adjacency, adjacency_len);
+    const bool shown = fault != SASZVIGOM_NO_FAULT &&
+                       saszvigom_fault_in(adjacency, adjacency_len, n, i, j) == fault;
+    saszvigom_line_number(line, "the adjacency byte of row ", i);
+    saszvigom_line_number(line, " and column ", j);
+    switch (fault) {
+    case SASZVIGOM_FAULT_VALUE:
+        if (shown) {
+            saszvigom_line_number(line, " is ", adjacency[i * n + j]);
+            saszvigom_line_text(line, i == j ? ", not 0" : ", not 0 or 1");
+        } else {
+            saszvigom_line_text(line, " is not 0 or 1");
+        }
+        return;
+    case SASZVIGOM_FAULT_DIAGONAL:
+        saszvigom_line_text(line, " is not 0");
+        return;
+    case SASZVIGOM_FAULT_MIRROR:
+        if (shown) {
+            saszvigom_line_number(line, " is ", adjacency[i * n + j]);
+            saszvigom_line_number(line, ", and that of row ", j);
+            saszvigom_line_number(line, " and column ", i);
+            saszvigom_line_number(line, " is ", adjacency[j * n + i]);
+        } else {
+            saszvigom_line_number(line, " differs from that of row ", j);
+            saszvigom_line_number(line, " and column ", i);
+        }
+        return;
+    case SASZVIGOM_NO_FAULT:
+        if (i == j) {
+            saszvigom_line_text(line, " is not 0");
+        } else {
+            saszvigom_line_number(line, " is not 0 or 1, or differs from that of row ", j);
+            saszvigom_line_number(line, " and column ", i);
+        }
+        return;
+    }
+    saszvigom_line_text(line, " has an unknown fault");
+}
+
+/* The weight out of range, that of vertices i and j, and its value where the
+   weights show it. */
+static inline void saszvigom_line_weight(struct saszvigom_line *line, uint64_t number, uint64_t n,
+                                         const uint8_t *weights, size_t weights_len, unsigned i,
+                                         unsigned j)
+{
+    unsigned weight = 1; /* in range: not shown */
+    if (weights != NULL && weights_len >= 2u * saszvigom_weight_count(n))
+        weight = saszvigom_word(weights, saszvigom_place_of(number));
+    saszvigom_line_number(line, "the weight of ", i);
+    saszvigom_line_number(line, " and ", j);
+    if (weight == 0) {
+        saszvigom_line_text(line, " is 0");
+    } else if (weight >= SASZVIGOM_MODULUS) {
+        saszvigom_line_number(line, " is ", weight);
+        saszvigom_line_text(line, ", above 65520");
+    } else {
+        saszvigom_line_text(line, " is 0 or above 65520");
+    }
+}
+
 /* What was refused and why, without the cause's number and place. */
 static inline void saszvigom_line_refusal(struct saszvigom_line *line, uint64_t number, uint64_t n,
-                                          enum saszvigom_from from)
+                                          enum saszvigom_from from, const uint8_t *adjacency,
+                                          size_t adjacency_len, const uint8_t *weights,
+                                          size_t weights_len)
 {
     const enum saszvigom_cause cause = saszvigom_cause_of(number);
     unsigned i = saszvigom_fault_row(number, n), j = saszvigom_fault_column(number, n);
@@ -253,30 +333,25 @@ static inline void saszvigom_line_refusal(struct saszvigom_line *line, uint64_t 
         saszvigom_line_text(line, "the ");
         saszvigom_line_text(line, saszvigom_buffer_text(saszvigom_buffer_of(number)));
         saszvigom_line_text(line, " buffer is too short");
-    } else if (cause == SASZVIGOM_ADJACENCY_FAULT && n <= SASZVIGOM_MAX_VERTICES && i < n) {
-        saszvigom_line_number(line, "the adjacency byte of row ", i);
-        saszvigom_line_number(line, " and column ", j);
-        if (i == j) {
-            saszvigom_line_text(line, " is not 0");
-        } else {
-            saszvigom_line_number(line, " is not 0 or 1, or differs from that of row ", j);
-            saszvigom_line_number(line, " and column ", i);
-        }
+    } else if (cause == SASZVIGOM_ADJACENCY_FAULT && n <= SASZVIGOM_MAX_VERTICES && i < n &&
+               j < n) {
+        saszvigom_line_fault(line, number, n, adjacency, adjacency_len, i, j);
     } else if (cause == SASZVIGOM_WEIGHT_OUT_OF_RANGE &&
                saszvigom_weight_vertices(n, saszvigom_place_of(number), &i, &j)) {
-        saszvigom_line_number(line, "the weight of ", i);
-        saszvigom_line_number(line, " and ", j);
-        saszvigom_line_text(line, " is 0 or above 65520");
+        saszvigom_line_weight(line, number, n, weights, weights_len, i, j);
     } else {
         saszvigom_line_text(line, saszvigom_cause_text(cause, from));
     }
 }
 
 /*
- * Explains a number in one line. It does not know which session call it was: an
- * undo reads like a pick, and the causes 7 and 11 name both cases. Such as
+ * Explain a number in one line. They do not know which session call it was: an
+ * undo reads like a pick, and the causes 7 and 11 name both cases.
+ * saszvigom_explain has the number alone; saszvigom_explain_with also looks at the
+ * graph that the call was lent, and says what is wrong there. Such as
  *
  *     refused: the weight of 3 and 7 is 0 or above 65520 (cause 4 at 21)
+ *     refused: the weight of 3 and 7 is 0 (cause 4 at 21)
  *
  *   text    written; the line, without a line feed, cut to size - 1 characters,
  *           and a 0 after it. Null only with size 0: then nothing is written
@@ -284,14 +359,20 @@ static inline void saszvigom_line_refusal(struct saszvigom_line *line, uint64_t 
  *   number  what a call returned
  *   n       the vertices that the call was for; any number for saszvigom_read
  *   from    which call it was
+ *   adjacency, weights
+ *           read; the graph of the call, each with its length. A buffer that is
+ *           null or too short for n vertices is not looked at, and one that does
+ *           not show what the number says, as after a change, makes no difference
  *
- * Returns the length of the whole line, as snprintf does: it was cut if that is
+ * Return the length of the whole line, as snprintf does: it was cut if that is
  * size or more. SASZVIGOM_LINE_BYTES is room for every line.
  */
 #define SASZVIGOM_LINE_BYTES 160u
 
-static inline size_t saszvigom_explain(char *text, size_t size, uint64_t number, uint64_t n,
-                                       enum saszvigom_from from)
+static inline size_t saszvigom_explain_with(char *text, size_t size, uint64_t number, uint64_t n,
+                                            enum saszvigom_from from, const uint8_t *adjacency,
+                                            size_t adjacency_len, const uint8_t *weights,
+                                            size_t weights_len)
 {
     const enum saszvigom_cause cause = saszvigom_cause_of(number);
     const enum saszvigom_kind kind = saszvigom_kind_of(number);
@@ -303,7 +384,8 @@ static inline size_t saszvigom_explain(char *text, size_t size, uint64_t number,
 
     if (cause != SASZVIGOM_NO_CAUSE && kind == SASZVIGOM_REFUSED) {
         saszvigom_line_text(&line, "refused: ");
-        saszvigom_line_refusal(&line, number, n, from);
+        saszvigom_line_refusal(&line, number, n, from, adjacency, adjacency_len, weights,
+                               weights_len);
         saszvigom_line_number(&line, " (cause ", cause);
         if (cause == SASZVIGOM_BUFFER_TOO_SHORT || cause == SASZVIGOM_WEIGHT_OUT_OF_RANGE ||
             cause > SASZVIGOM_NOTHING_LEFT) {
@@ -354,6 +436,12 @@ static inline size_t saszvigom_explain(char *text, size_t size, uint64_t number,
     if (size > 0)
         text[line.length < size ? line.length : size - 1u] = '\0';
     return line.length;
+}
+
+static inline size_t saszvigom_explain(char *text, size_t size, uint64_t number, uint64_t n,
+                                       enum saszvigom_from from)
+{
+    return saszvigom_explain_with(text, size, number, n, from, NULL, 0, NULL, 0);
 }
 
 #ifdef __cplusplus

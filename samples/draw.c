@@ -26,7 +26,7 @@ static bool open_graph(const char *weights)
 {
     char line[SASZVIGOM_LINE_BYTES];
     const uint64_t number = saszvigom_graph_open(&graph);
-    saszvigom_explain(line, sizeof line, number, graph.n, SASZVIGOM_FROM_CALL);
+    saszvigom_graph_explain(line, sizeof line, number, &graph, SASZVIGOM_FROM_CALL);
     printf("  %s: %s\n", weights, line);
     return saszvigom_kind_of(number) == SASZVIGOM_OPENED;
 }

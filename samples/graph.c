@@ -14,7 +14,7 @@ static struct saszvigom_graph graph; /* large, so not on the stack */
 static bool say(const char *what, uint64_t number)
 {
     char line[SASZVIGOM_LINE_BYTES];
-    saszvigom_explain(line, sizeof line, number, graph.n, SASZVIGOM_FROM_CALL);
+    saszvigom_graph_explain(line, sizeof line, number, &graph, SASZVIGOM_FROM_CALL);
     printf("%s -> %s\n", what, line);
     return saszvigom_cause_of(number) == SASZVIGOM_NO_CAUSE;
 }

@@ -12,7 +12,7 @@ static struct saszvigom_graph graph; /* large, so not on the stack */
 static void say_from(const char *what, uint64_t number, enum saszvigom_from from)
 {
     char line[SASZVIGOM_LINE_BYTES];
-    saszvigom_explain(line, sizeof line, number, graph.n, from);
+    saszvigom_graph_explain(line, sizeof line, number, &graph, from);
     printf("%s:\n    %s\n", what, line);
 }
 

@@ -302,6 +302,81 @@ static void replays(void)
     check("as opened", unchanged());
 }
 
+/* Whether a number is explained so with the graph, which is left as it was, into
+   room of every size. */
+static void check_line(const char *line, uint64_t number, enum saszvigom_from from)
+{
+    const size_t length = strlen(line);
+    char text[SASZVIGOM_LINE_BYTES];
+    before = graph;
+    cases++;
+    for (size_t size = sizeof text; size > 0; size--)
+        if (saszvigom_graph_explain(text, size, number, &graph, from) != length ||
+            strncmp(text, line, size - 1) != 0 || strlen(text) >= size) {
+            printf("differs: \"%s\", expected \"%s\"\n", text, line);
+            exit(1);
+        }
+    check("the length alone", saszvigom_graph_explain(NULL, 0, number, &graph, from) == length);
+    check("explained, unchanged", unchanged());
+}
+
+static void explained(void)
+{
+    const enum saszvigom_from call = SASZVIGOM_FROM_CALL;
+    uint64_t number;
+    check("init", saszvigom_graph_init(&graph, 8));
+    check_line("refused: the weight of 0 and 1 is 0 (cause 4 at 0)", saszvigom_graph_open(&graph),
+               call);
+    check_line("draws: weights drawn 28", saszvigom_graph_draw(&graph, 1), call);
+    memset(graph.weights + 2 * saszvigom_weight_index(8, 7, 3), 0, 2);
+    number = saszvigom_graph_open(&graph);
+    check_line("refused: the weight of 3 and 7 is 0 (cause 4 at 21)", number, call);
+    memset(graph.weights + 2 * saszvigom_weight_index(8, 7, 3), 255, 2);
+    check_line("refused: the weight of 3 and 7 is 65535, above 65520 (cause 4 at 21)", number,
+               SASZVIGOM_FROM_LIST);
+    check("a weight again", saszvigom_graph_set_weight(&graph, 3, 7, 1));
+    check_line("refused: the weight of 3 and 7 is 0 or above 65520 (cause 4 at 21)", number, call);
+
+    graph.adjacency[1 * 8 + 2] = 7;
+    number = saszvigom_graph_pick(&graph, 0, 1);
+    check_line("refused: the adjacency byte of row 1 and column 2 is 7, not 0 or 1 (cause 3)",
+               number, call);
+    graph.adjacency[1 * 8 + 2] = 1;
+    check_line("refused: the adjacency byte of row 1 and column 2 is 1, and that of row 2 and "
+               "column 1 is 0 (cause 3)",
+               number, call);
+    check("the edge", saszvigom_graph_set_edge(&graph, 1, 2));
+    check_line("refused: the adjacency byte of row 1 and column 2 is not 0 or 1, or differs from "
+               "that of row 2 and column 1 (cause 3)",
+               number, call);
+    graph.adjacency[2 * 8 + 2] = 1;
+    check_line("refused: the adjacency byte of row 2 and column 2 is not 0 (cause 3)",
+               saszvigom_graph_automatic(&graph), call);
+
+    open_ring(6);
+    check_line("opened: there is an inverse, and a perfect matching", 0x100, call);
+    check_line("pair: 0 and 1, pairs made 1", saszvigom_graph_pick(&graph, 1, 0), call);
+    check_line("refused: a vertex is matched already (cause 8)", saszvigom_graph_pick(&graph, 1, 2),
+               call);
+    check_line("replayed: all calls made, pairs made 1",
+               saszvigom_graph_replay(&graph, NULL, 0, NULL, 0), SASZVIGOM_FROM_LIST);
+    check_line("refused: the list ends within a call (cause 13 at 0)",
+               saszvigom_graph_replay(&graph, NULL, 1, NULL, 0), SASZVIGOM_FROM_LIST);
+    check_line("refused: the sheet ends within a record, or before its end record (cause 13 at 0)",
+               saszvigom_graph_read(&graph, NULL, 0), SASZVIGOM_FROM_SHEET);
+    make_ring(3);
+    check_line("singular: there is no inverse, first dependent column 2; n is odd: no perfect "
+               "matching",
+               saszvigom_graph_open(&graph), call);
+    check("init of too many", !saszvigom_graph_init(&graph, UINT64_MAX));
+    check_line("refused: there are more than 96 vertices (cause 1)", saszvigom_graph_open(&graph),
+               call);
+    check_line("refused: a weight is 0 or above 65520 (cause 4 at 0)", 4, call);
+    check_line("refused: an adjacency byte is not 0 or 1, is not 0 on the diagonal, or differs "
+               "from its mirror image (cause 3)",
+               3, call);
+}
+
 /* The largest graph: all adjacent, matched to the end and undone, and the same by
    the entries of saszvigom.h with buffers as long as needed. */
 static void largest(void)
@@ -346,6 +421,7 @@ int main(void)
     sheets();
     session();
     replays();
+    explained();
     largest();
     printf("%zu cases\n", cases);
     return 0;

@@ -22,6 +22,13 @@ std::string explained(uint64_t number, uint64_t n, saszvigom_from from = SASZVIG
     return line;
 }
 
+std::string explained(uint64_t number, const saszvigom_graph *graph)
+{
+    char line[SASZVIGOM_LINE_BYTES];
+    saszvigom_graph_explain(line, sizeof line, number, graph, SASZVIGOM_FROM_CALL);
+    return line;
+}
+
 void check(const char *what, bool holds)
 {
     if (!holds) {
@@ -64,6 +71,8 @@ void with_struct()
         check("edge", saszvigom_graph_set_edge(graph, i, (i + 1) % 6));
     check("no weights",
           std::string(opening(saszvigom_graph_open(graph))) == "a weight is 0 or above 65520");
+    check("no weights, explained", explained(saszvigom_graph_open(graph), graph) ==
+                                       "refused: the weight of 0 and 1 is 0 (cause 4 at 0)");
     check("draw", saszvigom_graph_draw(graph, 1) == 0xF0700);
     check("open", std::string(opening(saszvigom_graph_open(graph))) == "opened");
 

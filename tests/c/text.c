@@ -26,6 +26,16 @@ static void check(const char *what, bool holds)
         fail(what);
 }
 
+static void check_number(const char *what, uint64_t number, uint64_t expected)
+{
+    cases++;
+    if (number != expected) {
+        printf("0x%llx, expected 0x%llx\n", (unsigned long long)number,
+               (unsigned long long)expected);
+        fail(what);
+    }
+}
+
 static void check_text(const char *what, const char *text, const char *expected)
 {
     cases++;
@@ -255,9 +265,19 @@ static const struct {
     {0x60003, 4, CALL,
      "refused: the adjacency byte of row 1 and column 2 is not 0 or 1, or differs from that of "
      "row 2 and column 1 (cause 3)"},
+    {0x102010003, 4, CALL,
+     "refused: the adjacency byte of row 1 and column 2 is not 0 or 1 (cause 3)"},
+    {0x15F5F0003, 96, CALL,
+     "refused: the adjacency byte of row 95 and column 95 is not 0 or 1 (cause 3)"},
+    {0x202020003, 4, CALL, "refused: the adjacency byte of row 2 and column 2 is not 0 (cause 3)"},
     {0x302010003, 4, CALL,
-     "refused: the adjacency byte of row 1 and column 2 is not 0 or 1, or differs from that of "
-     "row 2 and column 1 (cause 3)"},
+     "refused: the adjacency byte of row 1 and column 2 differs from that of row 2 and column 1 "
+     "(cause 3)"},
+    {0x402010003, 4, CALL,
+     "refused: the adjacency byte of row 1 and column 2 has an unknown fault (cause 3)"},
+    {0x304010003, 4, CALL,
+     "refused: an adjacency byte is not 0 or 1, is not 0 on the diagonal, or differs from its "
+     "mirror image (cause 3)"},
     {0x100003, 4, CALL,
      "refused: an adjacency byte is not 0 or 1, is not 0 on the diagonal, or differs from its "
      "mirror image (cause 3)"},
@@ -321,6 +341,240 @@ static void explanations(void)
     }
 }
 
+/* A graph in buffers of just the bytes needed. */
+struct lent {
+    size_t n, adjacency_len, weights_len;
+    uint8_t *adjacency, *weights;
+};
+
+static uint8_t *bytes(size_t length)
+{
+    uint8_t *const made = malloc(length > 0 ? length : 1);
+    if (made == NULL)
+        fail("no memory");
+    return made;
+}
+
+/* n vertices, all adjacent, with all weights 1. */
+static struct lent lend(size_t n)
+{
+    struct lent lent = {n, SASZVIGOM_ADJACENCY_BYTES(n), SASZVIGOM_WEIGHTS_BYTES(n), NULL, NULL};
+    lent.adjacency = bytes(lent.adjacency_len);
+    lent.weights = bytes(lent.weights_len);
+    for (size_t i = 0; i < n; i++)
+        for (size_t j = 0; j < n; j++)
+            lent.adjacency[i * n + j] = i != j;
+    for (size_t index = 0; index < saszvigom_weight_count(n); index++)
+        saszvigom_store_word(lent.weights, index, 1);
+    return lent;
+}
+
+static void give_back(const struct lent *lent)
+{
+    free(lent->adjacency);
+    free(lent->weights);
+}
+
+/* What opening returns for it. */
+static uint64_t opened(const struct lent *lent)
+{
+    static uint8_t inverse[SASZVIGOM_INVERSE_BYTES(96)], sequence[SASZVIGOM_SEQUENCE_BYTES(96)],
+        witness[SASZVIGOM_WITNESS_BYTES(96)], work[SASZVIGOM_WORK_BYTES(96)];
+    return saszvigom_open(lent->n, lent->adjacency, lent->adjacency_len, lent->weights,
+                          lent->weights_len, inverse, sizeof inverse, sequence, sizeof sequence,
+                          witness, sizeof witness, work, sizeof work);
+}
+
+/* The line of a number with the graph at hand. */
+static const char *line_with(const struct lent *lent, uint64_t number)
+{
+    static char text[SASZVIGOM_LINE_BYTES];
+    const size_t length =
+        saszvigom_explain_with(text, sizeof text, number, lent->n, CALL, lent->adjacency,
+                               lent->adjacency_len, lent->weights, lent->weights_len);
+    if (length >= sizeof text || strlen(text) != length)
+        fail("the length of a line with the graph");
+    return text;
+}
+
+/* With no buffers, short ones, or only the other one, the line is that of the
+   number alone. */
+static void check_without(const struct lent *lent, uint64_t number)
+{
+    char alone[SASZVIGOM_LINE_BYTES];
+    saszvigom_explain(alone, sizeof alone, number, lent->n, CALL);
+    struct lent less = *lent;
+    less.adjacency_len -= 1;
+    less.weights_len -= 1;
+    check_text("short buffers", line_with(&less, number), alone);
+    less.adjacency_len = less.weights_len = 0;
+    check_text("empty buffers", line_with(&less, number), alone);
+    less = *lent;
+    less.adjacency = less.weights = NULL;
+    check_text("no buffers", line_with(&less, number), alone);
+    less = *lent;
+    if (saszvigom_cause_of(number) == SASZVIGOM_ADJACENCY_FAULT)
+        less.adjacency = NULL;
+    else
+        less.weights = NULL;
+    check_text("only the other buffer", line_with(&less, number), alone);
+}
+
+/* Every weight of eight vertices, and the last one of 96, out of range in every
+   way. */
+static void weights_at_fault(void)
+{
+    const unsigned wrong[] = {0, 65521, 65530, 65535};
+    const size_t sizes[] = {8, 96};
+    for (size_t k = 0; k < COUNT(sizes); k++) {
+        const struct lent lent = lend(sizes[k]);
+        const unsigned count = (unsigned)saszvigom_weight_count(lent.n);
+        for (unsigned index = lent.n == 8 ? 0 : count - 1; index < count; index++)
+            for (size_t w = 0; w < COUNT(wrong); w++) {
+                uint8_t *const word = lent.weights + 2 * index;
+                char expected[SASZVIGOM_LINE_BYTES];
+                unsigned i = 0, j = 0;
+                check("vertices", saszvigom_weight_vertices(lent.n, index, &i, &j));
+                word[0] = (uint8_t)(wrong[w] & 0xFF);
+                word[1] = (uint8_t)(wrong[w] >> 8);
+                const uint64_t number = opened(&lent);
+                if (wrong[w] == 0)
+                    (void)snprintf(expected, sizeof expected,
+                                   "refused: the weight of %u and %u is 0 (cause 4 at %u)", i, j,
+                                   index);
+                else
+                    (void)snprintf(expected, sizeof expected,
+                                   "refused: the weight of %u and %u is %u, above 65520 "
+                                   "(cause 4 at %u)",
+                                   i, j, wrong[w], index);
+                check_text("a weight", line_with(&lent, number), expected);
+                check_without(&lent, number);
+
+                (void)snprintf(expected, sizeof expected,
+                               "refused: the weight of %u and %u is 0 or above 65520 "
+                               "(cause 4 at %u)",
+                               i, j, index);
+                saszvigom_store_word(lent.weights, index, 65520);
+                check_text("a weight in range since", line_with(&lent, number), expected);
+                saszvigom_store_word(lent.weights, index, 1);
+                check_text("another one since", line_with(&lent, number), expected);
+            }
+        give_back(&lent);
+    }
+}
+
+/* Sets a byte of a graph that is in order, and the byte across the diagonal.
+   Opening must be refused at row i and column j, and the line go on so; also for a
+   number of the announced layout, which goes on so without the graph. */
+static void check_byte(const struct lent *lent, unsigned i, unsigned j, uint8_t byte,
+                       uint8_t across, const char *with, enum saszvigom_fault fault,
+                       const char *alone)
+{
+    const size_t n = lent->n;
+    const uint64_t later = fault_later(i, j, fault);
+    char expected[SASZVIGOM_LINE_BYTES];
+    lent->adjacency[j * n + i] = across;
+    lent->adjacency[i * n + j] = byte;
+    const uint64_t number = opened(lent);
+    check_number("the byte at fault", number, fault_now((unsigned)n, i, j));
+    (void)snprintf(expected, sizeof expected,
+                   "refused: the adjacency byte of row %u and column %u %s (cause 3)", i, j, with);
+    check_text("a byte", line_with(lent, number), expected);
+    check_text("a byte of the announced layout", line_with(lent, later), expected);
+    check_without(lent, number);
+    check_without(lent, later);
+
+    /* In order since, and with another fault since. */
+    (void)snprintf(expected, sizeof expected,
+                   "refused: the adjacency byte of row %u and column %u %s (cause 3)", i, j, alone);
+    lent->adjacency[i * n + j] = lent->adjacency[j * n + i] = i != j;
+    check_text("a byte in order since", line_with(lent, later), expected);
+    char today[SASZVIGOM_LINE_BYTES];
+    saszvigom_explain(today, sizeof today, number, n, CALL);
+    check_text("a byte of today in order since", line_with(lent, number), today);
+    lent->adjacency[i * n + j] = fault == SASZVIGOM_FAULT_VALUE ? i == j : 9;
+    check_text("another fault since", line_with(lent, later), expected);
+    lent->adjacency[i * n + j] = i != j;
+}
+
+static void bytes_at_fault(void)
+{
+    const size_t sizes[] = {4, 96};
+    for (size_t k = 0; k < COUNT(sizes); k++) {
+        const struct lent lent = lend(sizes[k]);
+        const unsigned n = (unsigned)lent.n;
+        for (unsigned i = n - 3; i < n; i++) {
+            check_byte(&lent, i, i, 1, 1, "is not 0", SASZVIGOM_FAULT_DIAGONAL, "is not 0");
+            check_byte(&lent, i, i, 7, 7, "is 7, not 0", SASZVIGOM_FAULT_VALUE, "is not 0 or 1");
+            for (unsigned j = i + 1; j < n; j++) {
+                char differs[80], zero[80], one[80], damaged[80];
+                const char *const text = "is %u, and that of row %u and column %u is %u";
+                (void)snprintf(differs, sizeof differs, "differs from that of row %u and column %u",
+                               j, i);
+                (void)snprintf(zero, sizeof zero, text, 0u, j, i, 1u);
+                (void)snprintf(one, sizeof one, text, 1u, j, i, 0u);
+                (void)snprintf(damaged, sizeof damaged, text, 1u, j, i, 255u);
+                check_byte(&lent, i, j, 0, 1, zero, SASZVIGOM_FAULT_MIRROR, differs);
+                check_byte(&lent, i, j, 1, 0, one, SASZVIGOM_FAULT_MIRROR, differs);
+                check_byte(&lent, i, j, 1, 255, damaged, SASZVIGOM_FAULT_MIRROR, differs);
+                check_byte(&lent, i, j, 2, 2, "is 2, not 0 or 1", SASZVIGOM_FAULT_VALUE,
+                           "is not 0 or 1");
+                check_byte(&lent, i, j, 255, 1, "is 255, not 0 or 1", SASZVIGOM_FAULT_VALUE,
+                           "is not 0 or 1");
+            }
+        }
+        give_back(&lent);
+    }
+}
+
+/* Every other line is the same with the graph, also with one that is at fault. */
+static void others_with_graph(void)
+{
+    const struct lent lent = lend(96);
+    memset(lent.adjacency, 9, lent.adjacency_len);
+    memset(lent.weights, 0, lent.weights_len);
+    for (size_t k = 0; k < COUNT(lines); k++) {
+        const enum saszvigom_cause cause = saszvigom_cause_of(lines[k].number);
+        char text[SASZVIGOM_LINE_BYTES];
+        saszvigom_explain_with(text, sizeof text, lines[k].number, lines[k].n, lines[k].from,
+                               lent.adjacency, lent.adjacency_len, lent.weights, lent.weights_len);
+        if (cause != SASZVIGOM_ADJACENCY_FAULT && cause != SASZVIGOM_WEIGHT_OUT_OF_RANGE)
+            check_text("the same with a graph", text, lines[k].line);
+    }
+    give_back(&lent);
+}
+
+/* Any number for any n, with buffers of any bytes and any length, which are read
+   only as far as they go. */
+static void any_graph(void)
+{
+    uint64_t state = 7;
+    size_t longest = 0;
+    for (unsigned k = 0; k < 20000; k++) {
+        state = state * 6364136223846793005u + 1442695040888963407u;
+        const unsigned random = (unsigned)(state >> 40);
+        const uint64_t n = k % 16 == 0 ? state : random % 11;
+        const size_t full = k % 16 == 0 ? 100 : SASZVIGOM_ADJACENCY_BYTES(n);
+        struct lent lent = {0, random / 11 % (full + 3), random / 1331 % (full + 3), NULL, NULL};
+        lent.n = (size_t)n;
+        if (k % 3 == 0) /* just long enough */
+            lent.adjacency_len = lent.weights_len = full;
+        lent.adjacency = bytes(lent.adjacency_len);
+        lent.weights = bytes(lent.weights_len);
+        for (size_t at = 0; at < lent.adjacency_len; at++)
+            lent.adjacency[at] = (uint8_t)(random >> at % 16) & (k % 5 ? 3 : 255);
+        for (size_t at = 0; at < lent.weights_len; at++)
+            lent.weights[at] = (uint8_t)(random >> at % 16) & (k % 5 ? 0 : 255);
+        const uint64_t place = k % 4 == 0 ? state >> 30 & 0xFFFFFFFF
+                                          : (state >> 30 & 0xF) | (state >> 34 & 0xF) << 8;
+        const uint64_t number = place << 16 | (k % 2 ? 3 : 4);
+        const size_t length = strlen(line_with(&lent, number));
+        longest = length > longest ? length : longest;
+        give_back(&lent);
+    }
+    check("the longest line with a graph", longest > 110 && longest < SASZVIGOM_LINE_BYTES);
+}
+
 /* No number has a line that is longer than SASZVIGOM_LINE_BYTES allows. */
 static void any_number(void)
 {
@@ -329,7 +583,8 @@ static void any_number(void)
     for (int k = 0; k < 20000; k++) {
         char text[SASZVIGOM_LINE_BYTES];
         state = state * 6364136223846793005u + 1442695040888963407u;
-        const uint64_t number = (state >> 24 & 0xFFFFFF0000u) | (state >> 20 & (k % 2 ? 0xFu : 0x700u));
+        const uint64_t values = state >> 24 & (k % 4 < 2 ? 0xFFFF0000u : 0xFFFFFF0000u);
+        const uint64_t number = values | (state >> 20 & (k % 2 ? 0xFu : 0x700u));
         const uint64_t n = state >> 57;
         const size_t length =
             saszvigom_explain(text, sizeof text, number, n, (enum saszvigom_from)(k % 3));
@@ -346,6 +601,10 @@ int main(void)
     indices();
     faults();
     explanations();
+    weights_at_fault();
+    bytes_at_fault();
+    others_with_graph();
+    any_graph();
     any_number();
     printf("%zu cases\n", cases);
     return 0;
