@@ -27,7 +27,9 @@
  * The inverse shows what can be matched: of two adjacent vertices, both still
  * unmatched, a pick is accepted if their entry of it is not 0, and refused with
  * SASZVIGOM_REST_SINGULAR if it is 0. saszvigom_row looks this up for all
- * partners of a vertex.
+ * partners of a vertex. What is accepted is certain. A refusal with
+ * SASZVIGOM_REST_SINGULAR is about these weights, as a singular graph is: the
+ * vertices left may have a perfect matching all the same.
  *
  * saszvigom_read reads a graph from the bytes of a sheet, and saszvigom_draws
  * draws weights. saszvigom_open finds the inverse or a witness. With an inverse
@@ -123,7 +125,7 @@ uint64_t saszvigom_version(void);
    test saszvigom_cause_of(number) and never the number. The place, in bits 16 to
    31, says where. 12 and 13 have two names each: one for the list of
    saszvigom_replay and one for the sheet of saszvigom_read, the only calls that
-   return them. */
+   return them. A switch takes one of the two. */
 enum saszvigom_cause SASZVIGOM_ENUM_TYPE {
     /* The call was carried out. */
     SASZVIGOM_NO_CAUSE = 0,
@@ -149,8 +151,9 @@ enum saszvigom_cause SASZVIGOM_ENUM_TYPE {
        place is 0, as it is for the causes 6 to 11. */
     SASZVIGOM_SESSION_MALFORMED = 5,
     /* A word of the inverse is not the one that belongs there, or the unmatched
-       vertices have no inverse. It is also what a session call gets before the
-       graph is opened, and where it is singular. */
+       vertices have no inverse: the graph is singular, was changed, or was not
+       opened. In buffers that no opening has written, lower causes may come
+       first, as 5 where the sequence is not all SASZVIGOM_UNUSED. */
     SASZVIGOM_INVERSE_WRONG = 6,
     /* A vertex is n or more, or both vertices of a pick are the same. */
     SASZVIGOM_VERTEX_INVALID = 7,
@@ -158,7 +161,8 @@ enum saszvigom_cause SASZVIGOM_ENUM_TYPE {
     SASZVIGOM_VERTEX_MATCHED = 8,
     /* The two vertices are not adjacent. */
     SASZVIGOM_NOT_ADJACENT = 9,
-    /* The vertices that would be unmatched after the call have no inverse. */
+    /* The vertices that would be unmatched after the call have no inverse with
+       these weights. With others they may have one. */
     SASZVIGOM_REST_SINGULAR = 10,
     /* An automatic pick with no vertex unmatched, or an undo without a pair. */
     SASZVIGOM_NOTHING_LEFT = 11,
@@ -423,7 +427,7 @@ uint64_t saszvigom_pick(uint64_t n, uint64_t made, uint64_t a, uint64_t b,
  *
  * The arguments are those of saszvigom_pick. Kind SASZVIGOM_PAIR with the pair,
  * unless a cause from 1 to 6 applies, or SASZVIGOM_NOTHING_LEFT: all vertices are
- * matched.
+ * matched. Call it until then to match all of them.
  */
 SASZVIGOM_NOT_NULL
 uint64_t saszvigom_automatic(uint64_t n, uint64_t made,

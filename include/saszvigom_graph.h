@@ -7,12 +7,16 @@
  *     saszvigom_graph_set_edge(&graph, 0, 1);
  *     saszvigom_graph_set_edge(&graph, 2, 3);
  *     saszvigom_graph_draw(&graph, 1);
- *     if (saszvigom_kind_of(saszvigom_graph_open(&graph)) == SASZVIGOM_OPENED)
- *         saszvigom_graph_pick(&graph, 0, 1);
+ *     if (saszvigom_kind_of(saszvigom_graph_open(&graph)) == SASZVIGOM_OPENED) {
+ *         number = saszvigom_graph_pick(&graph, 0, 1);
+ *         saszvigom_graph_explain(line, sizeof line, number, &graph, SASZVIGOM_FROM_CALL);
+ *         while (saszvigom_cause_of(saszvigom_graph_automatic(&graph)) == SASZVIGOM_NO_CAUSE)
+ *             continue; (until all are matched)
+ *     }
  *
- * Each call passes the struct's buffers with their lengths, keeps the vertices
- * and the pairs made, and returns the number of the entry that it calls,
- * unchanged. saszvigom_graph_explain says it in words.
+ * Each call passes the struct's buffers with their lengths, keeps n and the pairs
+ * made, and returns the number of the entry that it calls, unchanged.
+ * saszvigom_graph_explain says it in words.
  *
  * These mistakes do no harm: a vertex that is not there or is given twice, a
  * weight out of range, more than 96 vertices, a session call before opening or
@@ -39,10 +43,12 @@ extern "C" {
 /* A graph of up to 96 vertices. It is large, about 55 KB: make it static or
    allocate it where the stack is small. It has no pointers, and may be copied and
    stored, session and all; store the version with it, and take it back only under
-   the same major and minor number. Whatever bytes are read back do no harm, and
-   saszvigom_graph_replay(&graph, NULL, 0, NULL, 0) tells whether they are a sound
-   session. The buffers are as saszvigom.h says; reading them is in order at any
-   time. Pair k, for k below made, is sequence[2 * k] and
+   the same major and minor number. Whatever bytes are read back do no harm to the
+   functions of this header; but confirm by
+   saszvigom_graph_replay(&graph, NULL, 0, NULL, 0), which is carried out exactly
+   for a sound session, before you go by n, made or the sequence yourself: damaged,
+   they may be any number. The buffers are as saszvigom.h says; reading them is in
+   order at any time. Pair k, for k below made, is sequence[2 * k] and
    sequence[2 * k + 1], and row i and column j of the inverse is
    saszvigom_word(graph.inverse, i * graph.n + j). */
 struct saszvigom_graph {
@@ -72,8 +78,8 @@ static inline void saszvigom_graph_forget(struct saszvigom_graph *graph)
 }
 
 /* Makes a graph of n vertices without edges. Its weights are 0, so that opening
-   it is refused with SASZVIGOM_WEIGHT_OUT_OF_RANGE until they are drawn or all
-   set. False if n is above 96: then every call of the library is refused with
+   it, if n is 2 or more, is refused with SASZVIGOM_WEIGHT_OUT_OF_RANGE until they
+   are drawn or all set. False if n is above 96: then every call of the library is refused with
    SASZVIGOM_SIZE_TOO_LARGE, but for saszvigom_graph_read, and for
    saszvigom_graph_replay with a list at fault. */
 static inline bool saszvigom_graph_init(struct saszvigom_graph *graph, uint64_t n)
@@ -201,7 +207,8 @@ static inline uint64_t saszvigom_graph_pick(struct saszvigom_graph *graph, uint6
                               sizeof graph->sequence));
 }
 
-/* Matches the lowest unmatched vertex: saszvigom_automatic. */
+/* Matches the lowest unmatched vertex: saszvigom_automatic. On a sound session it
+   is refused only with SASZVIGOM_NOTHING_LEFT, once all vertices are matched. */
 static inline uint64_t saszvigom_graph_automatic(struct saszvigom_graph *graph)
 {
     return saszvigom_graph_keep(
@@ -246,7 +253,7 @@ static inline unsigned saszvigom_graph_partner(const struct saszvigom_graph *gra
     if (graph->n > SASZVIGOM_MAX_VERTICES || v >= graph->n)
         return SASZVIGOM_UNUSED;
     for (k = 0; k < graph->n && k / 2u < graph->made; k++)
-        if (graph->sequence[k] == v)
+        if (graph->sequence[k] == v && graph->sequence[k ^ 1u] < graph->n)
             return graph->sequence[k ^ 1u];
     return SASZVIGOM_UNUSED;
 }

@@ -26,8 +26,9 @@ enum saszvigom_from SASZVIGOM_ENUM_TYPE {
     SASZVIGOM_FROM_SHEET = 2
 };
 
-/* A cause as text, without its place; "an unknown cause" for 12 to 15 where such
-   a call does not return them, and for every number above 15. */
+/* A cause as text, without its place. 12 to 15 where such a call does not return
+   them are "a fault of a list or of a sheet", and what is above 15 "an unknown
+   cause". */
 static inline const char *saszvigom_cause_text(enum saszvigom_cause cause,
                                                enum saszvigom_from from)
 {
@@ -44,9 +45,10 @@ static inline const char *saszvigom_cause_text(enum saszvigom_cause cause,
     case SASZVIGOM_WEIGHT_OUT_OF_RANGE:
         return "a weight is 0 or above 65520";
     case SASZVIGOM_SESSION_MALFORMED:
-        return "the sequence does not hold so many pairs of adjacent vertices";
+        return "the sequence is not that of the pairs made, each of two adjacent vertices";
     case SASZVIGOM_INVERSE_WRONG:
-        return "the unmatched vertices have no inverse, or it is not the one sent";
+        return "the inverse is not that of the unmatched vertices: the graph was not opened, is "
+               "singular, or was changed";
     case SASZVIGOM_VERTEX_INVALID:
         return "there is no such vertex, or both vertices are the same";
     case SASZVIGOM_VERTEX_MATCHED:
@@ -78,7 +80,7 @@ static inline const char *saszvigom_cause_text(enum saszvigom_cause cause,
             return "an earlier record has the same edge";
         break;
     }
-    return "an unknown cause";
+    return cause <= SASZVIGOM_EDGE_REPEATED ? "a fault of a list or of a sheet" : "an unknown cause";
 }
 
 /* The name of a buffer, or "unknown". */

@@ -269,6 +269,9 @@ static void session(void)
     graph.made = UINT64_MAX;
     check_number("pairs made by mistake", saszvigom_graph_undo(&graph), 5);
     check("partner then", saszvigom_graph_partner(&graph, 2) == SASZVIGOM_UNUSED);
+    graph.sequence[0] = 2;
+    graph.sequence[1] = 200;
+    check("partner that is no vertex", saszvigom_graph_partner(&graph, 2) == SASZVIGOM_UNUSED);
 }
 
 static void replays(void)

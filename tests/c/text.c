@@ -48,6 +48,7 @@ static void check_text(const char *what, const char *text, const char *expected)
 /* The texts of the causes, buffers and kinds, from 0 on; the last ones are those
    of unknown numbers. */
 static const char *const unknown = "an unknown cause";
+static const char *const other = "a fault of a list or of a sheet";
 
 static const char *const causes[] = {
     "the call was carried out",
@@ -55,8 +56,8 @@ static const char *const causes[] = {
     "a buffer is too short",
     "an adjacency byte is not 0 or 1, is not 0 on the diagonal, or differs from its mirror image",
     "a weight is 0 or above 65520",
-    "the sequence does not hold so many pairs of adjacent vertices",
-    "the unmatched vertices have no inverse, or it is not the one sent",
+    "the sequence is not that of the pairs made, each of two adjacent vertices",
+    "the inverse is not that of the unmatched vertices: the graph was not opened, is singular, or was changed",
     "there is no such vertex, or both vertices are the same",
     "a vertex is matched already",
     "the two vertices are not adjacent",
@@ -86,14 +87,14 @@ static void texts(void)
         check_text("largest cause", cause_text(~0u, froms[from]), unknown);
     }
     for (unsigned cause = 12; cause < 16; cause++)
-        check_text("no cause of a call", cause_text(cause, SASZVIGOM_FROM_CALL), unknown);
-    check_text("12 of an unknown call", cause_text(12, (enum saszvigom_from)9), unknown);
+        check_text("no cause of a call", cause_text(cause, SASZVIGOM_FROM_CALL), other);
+    check_text("12 of an unknown call", cause_text(12, (enum saszvigom_from)9), other);
     check_text("12 of a list", cause_text(12, SASZVIGOM_FROM_LIST),
                "a call of the list is of no known kind");
     check_text("13 of a list", cause_text(13, SASZVIGOM_FROM_LIST),
                "the list ends within a call");
-    check_text("14 of a list", cause_text(14, SASZVIGOM_FROM_LIST), unknown);
-    check_text("15 of a list", cause_text(15, SASZVIGOM_FROM_LIST), unknown);
+    check_text("14 of a list", cause_text(14, SASZVIGOM_FROM_LIST), other);
+    check_text("15 of a list", cause_text(15, SASZVIGOM_FROM_LIST), other);
     check_text("12 of a sheet", cause_text(12, SASZVIGOM_FROM_SHEET),
                "a byte of the sheet is no record that may stand there");
     check_text("13 of a sheet", cause_text(13, SASZVIGOM_FROM_SHEET),
@@ -288,9 +289,9 @@ static const struct {
     {0x150004, 8, CALL, "refused: the weight of 3 and 7 is 0 or above 65520 (cause 4 at 21)"},
     {0x11CF0004, 96, LIST, "refused: the weight of 94 and 95 is 0 or above 65520 (cause 4 at 4559)"},
     {0x60004, 4, CALL, "refused: a weight is 0 or above 65520 (cause 4 at 6)"},
-    {5, 4, CALL, "refused: the sequence does not hold so many pairs of adjacent vertices (cause 5)"},
+    {5, 4, CALL, "refused: the sequence is not that of the pairs made, each of two adjacent vertices (cause 5)"},
     {6, 4, LIST,
-     "refused: the unmatched vertices have no inverse, or it is not the one sent (cause 6)"},
+     "refused: the inverse is not that of the unmatched vertices: the graph was not opened, is singular, or was changed (cause 6)"},
     {7, 4, CALL, "refused: there is no such vertex, or both vertices are the same (cause 7)"},
     {8, 4, CALL, "refused: a vertex is matched already (cause 8)"},
     {9, 4, CALL, "refused: the two vertices are not adjacent (cause 9)"},
@@ -307,7 +308,7 @@ static const struct {
     {0x7000E, 4, SHEET,
      "refused: a record has a vertex that is not there, or the same vertex twice (cause 14 at 7)"},
     {0xD000F, 4, SHEET, "refused: an earlier record has the same edge (cause 15 at 13)"},
-    {0x7000C, 4, CALL, "refused: an unknown cause (cause 12 at 7)"},
+    {0x7000C, 4, CALL, "refused: a fault of a list or of a sheet (cause 12 at 7)"},
     {0xFF, 4, CALL, "refused: an unknown cause (cause 255 at 0)"},
     {0, 4, CALL, "no answer: neither a cause nor a kind"},
     {0x800, 4, CALL, "no answer: unknown kind 8"},
