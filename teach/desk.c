@@ -167,8 +167,8 @@ static void do_draws(const struct word *words)
     }
     if (session.made > 0) {
         printf("  not done: boxes are made with the draws of seed %u.\n"
-               "  what to do: take them all back with clear, and then draw.\n",
-               (unsigned)session.seed);
+               "  what to do: keep them with log FILE; then clear, and draws %u.\n",
+               (unsigned)session.seed, (unsigned)seed);
         return;
     }
     if (calls_log.fd >= 0 && !calls_log.unasked)
@@ -232,8 +232,8 @@ static int explain_origin(const struct calls *calls)
     if (!calls->named)
         return 0;
     if (calls->n != session.n || calls->edges != session.edges || calls->seed > UINT32_MAX) {
-        printf("  The file is of another sheet: sleeves %" PRIu64 " links %" PRIu64
-               "\n  seed %" PRIu64 ". Here: sleeves %u links %u seed %u.\n"
+        printf("  The file is of another sheet: sleeves %" PRIu64 " links %" PRIu64 " seed %" PRIu64
+               ".\n  This one: sleeves %u links %u seed %u.\n"
                "  what to do: ask for that sheet; cmp compares it with yours.\n",
                calls->n, calls->edges, calls->seed, session.n, session.edges,
                (unsigned)session.seed);
@@ -389,7 +389,7 @@ static void explain_unknown(const struct word *word)
     } else if (!is_plain(word)) {
         printf("use the letters a to z; ");
     } else if (outside(word)) {
-        printf("leave with quit; ./desk SHEET then opens another sheet;\n  ");
+        printf("leave with quit; lines such as ./desk SHEET are for the terminal;\n  ");
     }
     printf("help lists the commands.\n");
 }
@@ -425,6 +425,7 @@ static void carry_out(struct line *line)
 static void print_start_failure(const char *what, const char *name)
 {
     fprintf(stderr, "desk: cannot %s the sheet %s: %s\n", what, name, strerror(errno));
+    fprintf(stderr, "what to do: name the file of a sheet; ls lists the files that there are\n");
 }
 
 /* Reads the file of a sheet and opens it; 0 if it cannot start. */
@@ -506,21 +507,9 @@ static void keep_boxes(void)
     static int failed;
     if (log_is_kept(&calls_log) || session.made == 0)
         failed = 0;
-    else if (!failed && !log_begin_unasked(&calls_log, &session)) {
-        failed = 1;
-        printf("  Until log FILE keeps them, boxes are gone where the desk is stopped.\n");
-    }
+    else if (!failed)
+        failed = !log_begin_unasked(&calls_log, &session);
     log_sync(&calls_log);
-}
-
-/* Names a log that a session has left which was not ended. */
-static void say_what_is_left(void)
-{
-    const char *const left = log_unasked_left();
-    if (left != NULL)
-        printf("  %s is here, of a session that was not ended.\n"
-               "  what to do: replay %s, and keep the boxes with log FILE.\n",
-               left, left);
 }
 
 /* Ends the log. One that nobody has asked for stays if it has boxes that were not
@@ -541,7 +530,7 @@ static int serve(void)
     static struct line line;
     if (person) {
         allow_interrupts();
-        say_what_is_left();
+        log_name_left();
     }
     while (!leave) {
         if (typed)

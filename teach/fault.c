@@ -148,6 +148,11 @@ void explain_sheet(const char *name, const uint8_t *sheet, size_t length, uint64
                sheet[1]);
         break;
     case SASZVIGOM_RECORD_NOT_DUE:
+        if (length >= 8 && memcmp(sheet, "sleeves ", 8) == 0) {
+            printf("no record begins there; the file is a log or a listing.\n"
+                   "  what to do: open the sheet that it is of; a log is replayed there.\n");
+            return;
+        }
         if (is_text(sheet, length)) {
             printf("no record begins there; the file is a text, and no sheet.\n"
                    "  what to do: make a sheet of the text, and open that:\n    ./sheet make ");

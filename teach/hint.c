@@ -15,6 +15,7 @@ static const struct {
     {"loose", "show"},    {"boxes", "show"},     {"list", "show"},      {"rows", "show"},
     {"seed", "draws"},    {"save", "log"},       {"write", "log"},      {"compare", "replay"},
     {"read", "replay"},   {"exit", "quit"},      {"bye", "quit"},       {"leave", "quit"},
+    {"end", "quit"},      {"stop", "quit"},
     {"q", "quit"},        {"yes", "quit"},       {"y", "quit"},         {"?", "help"},
     {"commands", "help"},
 };

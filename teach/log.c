@@ -1,4 +1,5 @@
 #define _XOPEN_SOURCE 700
+#define _DEFAULT_SOURCE /* flock */
 
 #include "log.h"
 
@@ -7,6 +8,7 @@
 #include <inttypes.h>
 #include <stdlib.h>
 #include <string.h>
+#include <sys/file.h>
 #include <sys/stat.h>
 #include <unistd.h>
 
@@ -79,23 +81,34 @@ static int append_session(struct log *log, const struct session *s)
     return done;
 }
 
-int log_begin(struct log *log, const char *name, const struct session *s)
+/* Makes a log in a new file; else 0, with errno, and there is no file. */
+static int make(struct log *log, const char *name, const struct session *s)
 {
-    struct log new = NO_LOG;
-    const int asked_for = log->fd >= 0 && !log->unasked;
-    const char *const goes_on = asked_for ? "  The log kept so far goes on.\n" : "";
-    new.fd = open(name, O_WRONLY | O_CREAT | O_EXCL | O_NOCTTY, 0666);
-    if (new.fd < 0) {
-        print_failure("no log: cannot make", name, errno);
-        printf("%s  what to do: name a new file, in a folder that is there; none is overwritten.\n",
-               goes_on);
+    *log = (struct log)NO_LOG;
+    log->fd = open(name, O_WRONLY | O_CREAT | O_EXCL | O_NOCTTY, 0666);
+    if (log->fd < 0)
+        return 0;
+    if (!append_session(log, s)) {
+        const int error = errno;
+        close(log->fd);
+        unlink(name);
+        errno = error;
         return 0;
     }
-    if (!append_session(&new, s)) {
-        print_failure("no log: cannot write", name, errno);
-        printf("%s  what to do: name a file in a folder with room.\n", goes_on);
-        close(new.fd);
-        unlink(name); /* it was made here */
+    log->count = s->made;
+    strcpy(log->name, name);
+    return 1;
+}
+
+int log_begin(struct log *log, const char *name, const struct session *s)
+{
+    static struct log new;
+    const int asked_for = log->fd >= 0 && !log->unasked;
+    if (!make(&new, name, s)) {
+        print_failure("no log: cannot make", name, errno);
+        if (asked_for)
+            printf("  The log kept so far goes on.\n");
+        printf("  what to do: name a new file, where you may write; none is overwritten.\n");
         return 0;
     }
     if (asked_for) {
@@ -104,38 +117,70 @@ int log_begin(struct log *log, const char *name, const struct session *s)
         printf(" ends here.\n");
     }
     log_discard(log);
-    new.count = s->made;
-    strcpy(new.name, name);
     *log = new;
     return 1;
 }
 
-/* The first of the names unsaved-1.log to unsaved-99.log that a file has, or that
-   none has; null if there is no such name. */
-static const char *find_unasked(int taken)
+/* The names of logs that nobody has asked for, from 1 to MOST_UNASKED. */
+#define MOST_UNASKED 99
+static const char *unasked_name(unsigned k)
 {
     static char name[32];
-    struct stat about;
-    for (unsigned k = 1; k < 100; k++) {
-        snprintf(name, sizeof name, "%sunsaved-%u.log", access(".", W_OK) == 0 ? "" : "/tmp/", k);
-        if ((lstat(name, &about) == 0) == taken)
-            return name;
-    }
-    return NULL;
-}
-
-const char *log_unasked_left(void)
-{
-    return find_unasked(1);
+    snprintf(name, sizeof name, "%sunsaved-%u.log", access(".", W_OK) == 0 ? "" : "/tmp/", k);
+    return name;
 }
 
 int log_begin_unasked(struct log *log, const struct session *s)
 {
-    const char *const name = find_unasked(0);
-    if (!log_begin(log, name != NULL ? name : "unsaved-1.log", s))
+    static struct log new;
+    struct stat about;
+    unsigned k = 1;
+    while (k < MOST_UNASKED && lstat(unasked_name(k), &about) == 0)
+        k++;
+    if (!make(&new, unasked_name(k), s)) {
+        print_failure("no log: cannot make", unasked_name(k), errno);
+        printf("  If the desk is stopped, the boxes are gone.\n"
+               "  what to do: keep them with log FILE, where you may write.\n");
         return 0;
-    log->unasked = 1;
+    }
+    new.unasked = 1;
+    flock(new.fd, LOCK_EX | LOCK_NB);
+    log_discard(log);
+    *log = new;
     return 1;
+}
+
+/* Opens a log that no desk is keeping, or null. */
+static FILE *open_left(const char *name)
+{
+    struct stat about;
+    const int fd = open(name, O_RDONLY | O_NONBLOCK | O_NOCTTY);
+    FILE *file = NULL;
+    if (fd >= 0 && fstat(fd, &about) == 0 && S_ISREG(about.st_mode) &&
+        flock(fd, LOCK_SH | LOCK_NB) == 0)
+        file = fdopen(fd, "r");
+    if (fd >= 0 && file == NULL)
+        close(fd);
+    return file;
+}
+
+void log_name_left(void)
+{
+    static struct line line;
+    int any = 0;
+    for (unsigned k = 1; k <= MOST_UNASKED; k++) {
+        FILE *const file = open_left(unasked_name(k));
+        if (file == NULL)
+            continue;
+        any = 1;
+        printf("  A session was not ended: %s, ", unasked_name(k));
+        read_line(file, &line);
+        print_word(line.text, line.length);
+        printf("\n");
+        fclose(file);
+    }
+    if (any)
+        printf("  what to do: replay the file, and keep the boxes with log FILE; or remove it.\n");
 }
 
 /* Ends a log while the session goes on. */
@@ -149,13 +194,19 @@ static void end_early(struct log *log, const char *where)
 int log_is_kept(struct log *log)
 {
     struct stat about;
-    if (log->fd >= 0 && fstat(log->fd, &about) == 0 && about.st_nlink == 0) {
-        printf("  the log is no longer there: ");
-        print_name(log->name);
-        printf("\n");
-        end_early(log, "");
+    if (log->fd < 0)
+        return 0;
+    if (fstat(log->fd, &about) == 0 && about.st_nlink > 0 && about.st_size == log->written)
+        return 1;
+    if (log->unasked) {
+        log_end(log);
+        return 0;
     }
-    return log->fd >= 0;
+    printf("  the log was removed or changed by someone else: ");
+    print_name(log->name);
+    printf("\n");
+    end_early(log, "");
+    return 0;
 }
 
 void log_call(struct log *log, const struct call *call, uint64_t number)

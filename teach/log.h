@@ -39,16 +39,16 @@ int log_begin(struct log *log, const char *name, const struct session *s);
    written, in /tmp. */
 int log_begin_unasked(struct log *log, const struct session *s);
 
-/* The first such file that is there, which a session that was not ended has left,
-   in a text that the next call of this or of log_begin_unasked writes over; or
-   null. */
-const char *log_unasked_left(void);
+/* Names such files that sessions have left which were not ended; not those that
+   another desk is keeping. */
+void log_name_left(void);
 
 /* Writes a call with the number that it returned, if a log is kept. A failure,
    and a log that is full, is reported, and ends the log. */
 void log_call(struct log *log, const struct call *call, uint64_t number);
 
-/* Whether a log is kept. One whose file was removed is ended, which is reported. */
+/* Whether a log is kept. One whose file was removed or changed by someone else is
+   ended, which is reported if the log was asked for. */
 int log_is_kept(struct log *log);
 
 /* Has the log, if one is kept, brought to the disk, as far as it can be. */
