@@ -2,7 +2,8 @@
 use mathlib.Core.Path.{_≡_}
 use mathlib.Core.List.{List, _++_}
 use Prim.Native.Nat.{ℕ, _*_, _≤_}
-use lib.ListN.{length, drop, replicate, length-replicate}
+use lib.ListN.{length, take, drop, replicate, length-replicate, take-append-drop}
+use lib.Seq.{length-take-le}
 use Rattle.residue.specs.Modulus.{modulus}
 use Rattle.matching.specs.Decision.{accepted}
 use Rattle.matching.specs.Graph.{Graph, over}
@@ -38,28 +39,38 @@ ready n adjacency weights inverse sequence witness work e =
       k .0 .1 .1 .1 .1 .1 .0,
     )
 
--- what opening leaves of a graph that is not refused, but for the work buffer
+-- what opening leaves of a graph that is not refused, but for the work buffer: the one that is found is written, and the other is as it was
 pub data Begun (g : Graph) (inverse sequence witness : List ℕ) : Outcome → (inverse′ sequence′ witness′ : List ℕ) → Type 0 where
   leaves-inverse : (new : List ℕ) → length new ≡ g .n * g .n → InverseTable modulus g everything new
-      → Begun g inverse sequence witness Inverse (onto new inverse) (onto (replicate (g .n) unused) sequence) (onto (replicate (g .n) 0) witness)
+      → Begun g inverse sequence witness Inverse (onto new inverse) (onto (replicate (g .n) unused) sequence) witness
   leaves-witness : (f : ℕ) (new : List ℕ) → length new ≡ g .n → Singular modulus g everything f new
-      → Begun g inverse sequence witness (Column f) (onto (replicate (g .n * g .n) 0) inverse) (onto (replicate (g .n) unused) sequence) (onto new witness)
+      → Begun g inverse sequence witness (Column f) inverse (onto (replicate (g .n) unused) sequence) (onto new witness)
+
+-- a buffer of which the first part is lent to be filled
+pub filled : {part : List ℕ} (k v : ℕ) (l : List ℕ) → k ≤ length l → part ≡ replicate (length (take k l)) v → part ++ drop k l ≡ onto (replicate k v) l
+filled k v l h e = rw (e, length-take-le k l h, length-replicate {A = ℕ} k v)
 
 -- as it is solved, in the first parts of the buffers
 pub begun : {n : ℕ} {adjacency weights inverse sequence witness sequence′ : List ℕ} (inverse′ witness′ : List ℕ) → length inverse′ ≡ n * n
-    → sequence′ ≡ replicate n 255 → length witness′ ≡ n → (o : Outcome) → Solved (over n adjacency weights) everything o inverse′ witness′
-    → Begun (over n adjacency weights) inverse sequence witness o
-    (inverse′ ++ drop (n * n) inverse) (sequence′ ++ drop n sequence) (witness′ ++ drop n witness)
+    → sequence′ ≡ onto (replicate n unused) sequence → length witness′ ≡ n → (o : Outcome)
+    → Solved (over n adjacency weights) everything o (take (n * n) inverse) (take n witness) inverse′ witness′
+    → Begun (over n adjacency weights) inverse sequence witness o (inverse′ ++ drop (n * n) inverse) sequence′ (witness′ ++ drop n witness)
 begun {n} {adjacency} {weights} {inverse} {sequence} {witness} inverse′ witness′ li es lw Inverse (I, ew) =
     let B : Begun (over n adjacency weights) inverse sequence witness Inverse _ _ _ = leaves-inverse inverse′ li I in
-    rw (es, ew) (rw (li, length-replicate {A = ℕ} n 255, length-replicate {A = ℕ} n 0) at B)
+    rw (es, ew, take-append-drop n witness) (rw li at B)
 begun {n} {adjacency} {weights} {inverse} {sequence} {witness} inverse′ witness′ li es lw (Column f) (S, ei) =
     let B : Begun (over n adjacency weights) inverse sequence witness (Column f) _ _ _ = leaves-witness f witness′ lw S in
-    rw (es, ei) (rw (lw, length-replicate {A = ℕ} n 255, length-replicate {A = ℕ} (n * n) 0) at B)
+    rw (es, ei, take-append-drop (n * n) inverse) (rw lw at B)
 
--- with the work buffer's first words made 0 opening is whole
-pub begun-whole : {g : Graph} {o : Outcome} {inverse sequence witness inverse′ sequence′ witness′ : List ℕ} (work : List ℕ)
-    → Begun g inverse sequence witness o inverse′ sequence′ witness′ → ruling modulus g (buffers inverse sequence witness work) ≡ accepted
-    → Opens modulus g everything (buffers inverse sequence witness work) (found (g .n) o) (buffers inverse′ sequence′ witness′ (onto (replicate (g .n * g .n) 0) work))
-begun-whole work (leaves-inverse new l I) ok = opens new ok l I
-begun-whole work (leaves-witness f new l s) ok = finds-singular f new ok l s
+-- the one that is not found is made 0
+abbrev pub Cleared : ℕ → Outcome → (inverse witness inverse′ witness′ : List ℕ) → Type 0
+Cleared n Inverse inverse witness inverse′ witness′ = (inverse′ ≡ inverse) × (witness′ ≡ onto (replicate n 0) witness)
+Cleared n (Column f) inverse witness inverse′ witness′ = (inverse′ ≡ onto (replicate (n * n) 0) inverse) × (witness′ ≡ witness)
+
+-- with this, and the work buffer's first words made 0, opening is whole
+pub begun-whole : {g : Graph} {o : Outcome} {inverse sequence witness work inverse′ sequence′ witness′ inverse″ witness″ work″ : List ℕ}
+    → Begun g inverse sequence witness o inverse′ sequence′ witness′ → Cleared (g .n) o inverse′ witness′ inverse″ witness″
+    → work″ ≡ onto (replicate (g .n * g .n) 0) work → ruling modulus g (buffers inverse sequence witness work) ≡ accepted
+    → Opens modulus g everything (buffers inverse sequence witness work) (found (g .n) o) (buffers inverse″ sequence′ witness″ work″)
+begun-whole (leaves-inverse new l I) (ei, ew) ek ok = rw (ei, ew, ek) (opens new ok l I)
+begun-whole (leaves-witness f new l s) (ei, ew) ek ok = rw (ei, ew, ek) (finds-singular f new ok l s)

@@ -4,11 +4,14 @@ use checks::Ruling;
 use exchange::Outcome;
 use session::Session;
 ghost use mathlib.Core.Path.{_≡_};
+ghost use Prim.Native.Nat.{_≤_};
+ghost use lib.ListN.{length, replicate};
 ghost use Rattle.residue.specs.Modulus.{modulus};
 ghost use Rattle.matching.specs.Graph.{over};
 ghost use Rattle.matching.specs.Pairs.{everything};
+ghost use Rattle.matching.specs.Session.{onto};
 ghost use Rattle.matching.specs.Opening.{Opens, OpenedExactly};
-ghost use Rattle.opening.specs.Answers.{opening-of, found, buffers};
+ghost use Rattle.opening.specs.Answers.{opening-of, buffers};
 ghost use Rattle.opening.specs.Begun.{Ready, Begun};
 
 // What opening answers: a session with no pairs, the first dependent column, or a refusal.
@@ -18,8 +21,8 @@ pub enum Opening {
     Refused(Refusal),
 }
 
-// Opening over tables and buffers that are long enough. For proved callers, who have judged what the tables hold, and make the work buffer's
-// first words 0.
+// Opening over tables and buffers that are long enough. Of the inverse and the witness only the one that is found is written. For proved
+// callers, who have judged what the tables hold, and make the other 0 where it is asked for, and the work buffer's first words.
 pub fn begin_accepted(
     n: usize,
     adjacency: &[u8],
@@ -45,17 +48,15 @@ pub fn begin_accepted(
     )
 }
 
-// The answer for a graph that is accepted.
-fn answer(n: usize, outcome: Outcome) -> Opening
-    ensures { λ o. ⌜ opening-of o ≡ found n outcome ⌝ }
+// So many words made 0.
+fn clear(words: &mut [u16], count: usize)
+    requires { ⌜ count ≤ length (now words) ⌝ }
+    ensures { λ _. ⌜ now (words .exit) ≡ onto (replicate count 0) (now (words .entry)) ⌝ }
 {
-    match outcome {
-        Outcome::Inverse => Opening::Opened(Session { size: n, made: 0 }),
-        Outcome::Column(f) => Opening::Singular(f),
-    }
+    buffers::fill_words(&mut words[..count], 0);
 }
 
-// Opens a session on a graph.
+// Opens a session on a graph. Of the inverse and the witness the one that is not found is made 0.
 pub fn begin(
     n: usize,
     adjacency: &[u8],
@@ -81,9 +82,16 @@ pub fn begin(
         return Opening::Refused(refusal);
     }
     let size = n * n;
-    buffers::fill_words(&mut work[..size], 0);
-    answer(
-        n,
-        begin_accepted(n, adjacency, weights, inverse, sequence, witness),
-    )
+    clear(work, size);
+    let outcome = begin_accepted(n, adjacency, weights, inverse, sequence, witness);
+    match outcome {
+        Outcome::Inverse => {
+            clear(witness, n);
+            Opening::Opened(Session { size: n, made: 0 })
+        }
+        Outcome::Column(f) => {
+            clear(inverse, size);
+            Opening::Singular(f)
+        }
+    }
 }

@@ -4,7 +4,7 @@ use mathlib.Core.List.{List, [], _∷_, _++_}
 use Prim.Native.Nat.{ℕ, zero, suc, _*_, _/_, _^_, _≤_, _<_}
 use native.Mathlib.Omega.{arith}
 use native.Mathlib.Decide.{decLt}
-use lib.ListN.{length, getD, take, drop, replicate, length-replicate}
+use lib.ListN.{length, getD, take, replicate, length-replicate}
 use Rattle.residue.specs.Modulus.{modulus}
 use Rattle.matching.specs.Decision.{Every, Refusal, Ruling, accepted, refused, judge}
 use Rattle.matching.specs.Graph.{Graph, largest, pair-count, over}
@@ -39,10 +39,12 @@ pub record Lends (n : ℕ) (values table vector : List ℕ) : Type 0 where
   pub cells : length table ≡ n * n
   pub vertices : length vector ≡ n
 
--- what the number carries fits its bits: nothing, or the dependent column
-abbrev pub Small : Outcome → Type 0
-Small Inverse = 0 < 2 ^ 16
-Small (Column f) = f < 2 ^ 16
+-- the one that is found is stored as bytes, and the other's bytes are made 0
+abbrev pub Stored : ℕ → Outcome → (table vector inverse witness inverse′ witness′ : List ℕ) → Type 0
+Stored n Inverse table vector inverse witness inverse′ witness′ =
+    (inverse′ ≡ onto (bytes-of (take (n * n) table)) inverse) × (witness′ ≡ onto (replicate (2 * n) 0) witness)
+Stored n (Column f) table vector inverse witness inverse′ witness′ =
+    (inverse′ ≡ onto (replicate (2 * (n * n)) 0) inverse) × (witness′ ≡ onto (bytes-of (take n vector)) witness)
 
 -- the size and the lengths are judged
 module _ (n : ℕ) (adjacency weights : List ℕ) (b : Buffers) where
@@ -77,19 +79,14 @@ module _ (n : ℕ) (adjacency weights : List ℕ) (b : Buffers) where
     pub refusal-small : r .place < 2 ^ 16
     refusal-small = numbers.opens-small {S = everything} {b = unpacked b} (refuses-opening r e) .place-below
 
-same-buffers : {i i′ s s′ w w′ k k′ : List ℕ} → i ≡ i′ → s ≡ s′ → w ≡ w′ → k ≡ k′ → buffers i s w k ≡ buffers i′ s′ w′ k′
-same-buffers ei es ew ek = rw (ei, es, ew, ek)
-
 -- bytes of zeros are stored words of zeros
 bytes-zeros : (m : ℕ) → bytes-of (replicate m 0) ≡ replicate (2 * m) 0
 unfolding bytes-of
 bytes-zeros zero = refl
 bytes-zeros (suc m) = let e : 2 * suc m ≡ suc (suc (2 * m)) = omega arith in rw (e, bytes-zeros m)
 
-zeros-stored : (m : ℕ) (l : List ℕ) → Bytes l → m ≤ length (words l)
-    → replicate (2 * m) 0 ++ drop (2 * m) l ≡ onto (bytes-of (onto (replicate m 0) (words l))) l
-zeros-stored m l B h =
-    rw (stored-words (replicate m 0) l B (omega (arith, length-replicate {A = ℕ} m 0)), bytes-zeros m, length-replicate {A = ℕ} (2 * m) 0)
+zeros-stored : (m : ℕ) (l : List ℕ) → Bytes l → m ≤ length (words l) → onto (replicate (2 * m) 0) l ≡ onto (bytes-of (onto (replicate m 0) (words l))) l
+zeros-stored m l B h = rw (stored-words (replicate m 0) l B (omega (arith, length-replicate {A = ℕ} m 0)), bytes-zeros m)
 
 -- the graph over the weights that it needs is refused for the same cause
 module _ (n : ℕ) (adjacency weights : List ℕ) (b : Buffers) (F : Fits n adjacency weights b) where
@@ -134,34 +131,35 @@ module _ (n : ℕ) (adjacency weights : List ℕ) (b : Buffers) (F : Fits n adja
     witness-fits = omega arith;
   }
 
-  pub outcome-small : {table vector table′ sequence′ vector′ : List ℕ} {o : Outcome} → Begun words-needed table (b .sequence) vector o table′ sequence′ vector′ → Small o
-  outcome-small (leaves-inverse new l I) = omega arith
-  outcome-small (leaves-witness f new l s) = omega (arith, s .kernel .below, F .0)
+  pub column-small : {table vector table′ sequence′ vector′ : List ℕ} {f : ℕ} → Begun words-needed table (b .sequence) vector (Column f) table′ sequence′ vector′ → f < 2 ^ 16
+  column-small (leaves-witness f new l s) = omega (arith, s .kernel .below, F .0)
 
   -- what is left of an accepted graph, stored as bytes, is left by the host
-  pub host-opens : {table vector table′ sequence′ vector′ : List ℕ} {o : Outcome} → Bytes (b .inverse) → Bytes (b .witness) → Bytes (b .work)
+  pub host-opens : {table vector table′ sequence′ vector′ inverse′ witness′ work′ : List ℕ} {o : Outcome} → Bytes (b .inverse) → Bytes (b .witness) → Bytes (b .work)
       → judge (graph-causes modulus words-needed) ≡ accepted → Begun words-needed table (b .sequence) vector o table′ sequence′ vector′
-      → HostOpens modulus n adjacency weights everything b (opening-number (found n o))
-      (buffers (onto (bytes-of (take (n * n) table′)) (b .inverse)) sequence′ (onto (bytes-of (take n vector′)) (b .witness)) (replicate (2 * (n * n)) 0 ++ drop (2 * (n * n)) (b .work)))
-  host-opens {table} {vector} inverse-bytes witness-bytes work-bytes ok (leaves-inverse new l I) = record {
+      → Stored n o table′ vector′ (b .inverse) (b .witness) inverse′ witness′ → work′ ≡ onto (replicate (2 * (n * n)) 0) (b .work)
+      → HostOpens modulus n adjacency weights everything b (opening-number (found n o)) (buffers inverse′ sequence′ witness′ work′)
+  host-opens {table} inverse-bytes witness-bytes work-bytes ok (leaves-inverse new l I) (ei, ew) ek = record {
     opening = opened _;
     buffers = with-inverse n new (unpacked b);
     outcome = opens new (host-ruling ∙ ok) l (table-same n adjacency (needed-weights n weights) (words weights) agree I);
     numbered = refl;
     stored =
-        same-buffers (stored-front new table (b .inverse) (n * n) inverse-bytes l (F .1 .1 .1 .0))
-        refl
-        (stored-front (replicate n 0) vector (b .witness) n witness-bytes (length-replicate _ _) (F .1 .1 .1 .1 .1 .0))
-        (zeros-stored (n * n) (b .work) work-bytes (F .1 .1 .1 .1 .1 .1 .0));
+        rw (
+          ei ∙ stored-front new table (b .inverse) (n * n) inverse-bytes l (F .1 .1 .1 .0),
+          ew ∙ zeros-stored n (b .witness) witness-bytes (F .1 .1 .1 .1 .1 .0),
+          ek ∙ zeros-stored (n * n) (b .work) work-bytes (F .1 .1 .1 .1 .1 .1 .0),
+        );
   }
-  host-opens {table} {vector} inverse-bytes witness-bytes work-bytes ok (leaves-witness f new l s) = record {
+  host-opens {vector = vector} inverse-bytes witness-bytes work-bytes ok (leaves-witness f new l s) (ei, ew) ek = record {
     opening = singular f;
     buffers = with-witness n new (unpacked b);
     outcome = finds-singular f new (host-ruling ∙ ok) l (singular-same n adjacency (needed-weights n weights) (words weights) agree s);
     numbered = refl;
     stored =
-        same-buffers (stored-front (replicate (n * n) 0) table (b .inverse) (n * n) inverse-bytes (length-replicate _ _) (F .1 .1 .1 .0))
-        refl
-        (stored-front new vector (b .witness) n witness-bytes l (F .1 .1 .1 .1 .1 .0))
-        (zeros-stored (n * n) (b .work) work-bytes (F .1 .1 .1 .1 .1 .1 .0));
+        rw (
+          ei ∙ zeros-stored (n * n) (b .inverse) inverse-bytes (F .1 .1 .1 .0),
+          ew ∙ stored-front new vector (b .witness) n witness-bytes l (F .1 .1 .1 .1 .1 .0),
+          ek ∙ zeros-stored (n * n) (b .work) work-bytes (F .1 .1 .1 .1 .1 .1 .0),
+        );
   }

@@ -2,26 +2,46 @@
 use checks::Ruling;
 use exchange::Outcome;
 ghost use mathlib.Core.Path.{_≡_};
-ghost use Prim.Native.Nat.{ℕ};
+ghost use Prim.Native.Nat.{_*_, _^_, _≤_, _<_};
+ghost use lib.ListN.{length, take, replicate};
 ghost use Rattle.residue.specs.Modulus.{modulus};
 ghost use Rattle.matching.specs.Pairs.{everything};
-ghost use Rattle.matching.specs.Host.{opening-number, HostOpens, HostOpenedExactly};
-ghost use Rattle.opening.specs.Answers.{found, buffers};
-ghost use Rattle.opening_bytes.specs.Opened.{Fits, Lends, Small};
+ghost use Rattle.matching.specs.Session.{onto};
+ghost use Rattle.matching.specs.Host.{bytes-of, number, HostOpens, HostOpenedExactly};
+ghost use Rattle.opening.specs.Answers.{buffers};
+ghost use Rattle.opening_bytes.specs.Opened.{Fits, Lends};
 
-// The number that the host is answered for a graph that is accepted.
-fn number(outcome: Outcome) -> u64
-    requires { ⌜ Small outcome ⌝ }
-    ensures { λ r. ⌜ ((n : ℕ) → r ≡ opening-number (found n outcome)) ⌝ }
+// So many bytes made 0.
+fn clear(bytes: &mut [u8], count: usize)
+    requires { ⌜ count ≤ length (now bytes) ⌝ }
+    ensures { λ _. ⌜ now (bytes .exit) ≡ onto (replicate count 0) (now (bytes .entry)) ⌝ }
 {
-    match outcome {
-        Outcome::Inverse => numbers::carried(1, 0, 0),
-        Outcome::Column(f) => numbers::carried(2, f as u64, 0),
-    }
+    buffers::fill_bytes(&mut bytes[..count], 0);
 }
 
-// Opening over lent words: the weights that the graph needs are unpacked, and the inverse and the witness packed. The work buffer is only
-// made 0.
+// Stores the inverse as bytes, and makes those of the witness 0. The number that the host is answered.
+fn store_inverse(n: usize, table: &[u16], inverse: &mut [u8], witness: &mut [u8]) -> u64
+    requires { ⌜ (n * n ≤ length (now table)) × (2 * (n * n) ≤ length (now inverse)) × (2 * n ≤ length (now witness)) ⌝ }
+    ensures { λ r. ⌜ r ≡ number 0 1 0 0 ⌝ }
+    ensures { λ _. ⌜ (now (inverse .exit) ≡ onto (bytes-of (take (n * n) (now (table .entry)))) (now (inverse .entry))) × (now (witness .exit) ≡ onto (replicate (2 * n) 0) (now (witness .entry))) ⌝ }
+{
+    packing::store(table, n * n, inverse);
+    clear(witness, 2 * n);
+    numbers::carried(1, 0, 0)
+}
+
+// The same for the witness of column f.
+fn store_witness(n: usize, f: usize, vector: &[u16], inverse: &mut [u8], witness: &mut [u8]) -> u64
+    requires { ⌜ (f < 2 ^ 16) × (n ≤ length (now vector)) × (2 * (n * n) ≤ length (now inverse)) × (2 * n ≤ length (now witness)) ⌝ }
+    ensures { λ r. ⌜ r ≡ number 0 2 f 0 ⌝ }
+    ensures { λ _. ⌜ (now (inverse .exit) ≡ onto (replicate (2 * (n * n)) 0) (now (inverse .entry))) × (now (witness .exit) ≡ onto (bytes-of (take n (now (vector .entry)))) (now (witness .entry))) ⌝ }
+{
+    clear(inverse, 2 * (n * n));
+    packing::store(vector, n, witness);
+    numbers::carried(2, f as u64, 0)
+}
+
+// Opening over lent words: the weights that the graph needs are unpacked, and what is found is packed. The work buffer is only made 0.
 fn open_over(
     n: usize,
     adjacency: &[u8],
@@ -44,12 +64,11 @@ fn open_over(
         return numbers::refused(refusal);
     }
     let outcome = opening::begin_accepted(n, adjacency, values, table, sequence, vector);
-    let size = n * n;
-    packing::store(table, size, inverse);
-    packing::store(vector, n, witness);
-    let zeros = 2 * size;
-    buffers::fill_bytes(&mut work[..zeros], 0);
-    number(outcome)
+    clear(work, 2 * (n * n));
+    match outcome {
+        Outcome::Inverse => store_inverse(n, table, inverse, witness),
+        Outcome::Column(f) => store_witness(n, f, vector, inverse, witness),
+    }
 }
 
 // The same, with words of its own. A small graph has fewer, which take less time to clear.

@@ -30,10 +30,10 @@ use Rattle.exchange.specs.declared.Outcome.the-variants.{Column}
 use Rattle.pivot.specs.Words.{Small, matrix, place-above, place-below, residue, residue-above, residue-below}
 use Rattle.exchange.specs.Run.{Holds, word, word-diagonal, word-other, word-small, word-matrix, witness-word, witness-small}
 
--- what is left in the inverse and in the witness
-abbrev pub Solved : Graph → Subset → Outcome → (inverse witness : List ℕ) → Type 0
-Solved g S ended.Inverse inverse witness = InverseTable modulus g S inverse × (witness ≡ replicate (g .n) 0)
-Solved g S (Column f) inverse witness = Singular modulus g S f witness × (inverse ≡ replicate (g .n * g .n) 0)
+-- the one that is found is written, and the other is as it was
+abbrev pub Solved : Graph → Subset → Outcome → (inverse witness inverse′ witness′ : List ℕ) → Type 0
+Solved g S ended.Inverse inverse witness inverse′ witness′ = InverseTable modulus g S inverse′ × (witness′ ≡ witness)
+Solved g S (Column f) inverse witness inverse′ witness′ = Singular modulus g S f witness′ × (inverse′ ≡ inverse)
 
 -- a table of zeros
 pub record Blank (n : ℕ) (t : List ℕ) : Type 0 where

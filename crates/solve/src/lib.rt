@@ -101,26 +101,24 @@ fn solve_over(
 ) -> Outcome
     requires { ⌜ Complete n (now adjacency) (now weights) × (length (now set) ≡ n) × Blank n (now t) ⌝ }
     requires { ⌜ (length (now inverse) ≡ n * n) × (length (now witness) ≡ n) ⌝ }
-    ensures { λ o. ⌜ ((S : Subset) → ((i : ℕ) → i < n → S i ≡ marked (now (set .entry)) i) → Solved (over n (now (adjacency .entry)) (now (weights .entry))) S o (now (inverse .exit)) (now (witness .exit))) ⌝ }
+    ensures { λ o. ⌜ ((S : Subset) → ((i : ℕ) → i < n → S i ≡ marked (now (set .entry)) i) → Solved (over n (now (adjacency .entry)) (now (weights .entry))) S o (now (inverse .entry)) (now (witness .entry)) (now (inverse .exit)) (now (witness .exit))) ⌝ }
 {
     tutte::fill(n, adjacency, weights, set, t);
     let outcome = exchange::run(t, n, set);
     match outcome {
         Outcome::Inverse => {
             write_inverse(t, n, inverse);
-            buffers::fill_words(witness, 0);
             Outcome::Inverse
         }
         Outcome::Column(f) => {
             write_witness(t, n, f, set, witness);
-            buffers::fill_words(inverse, 0);
             Outcome::Column(f)
         }
     }
 }
 
-// The inverse for a set of vertices, 0 in the other rows and columns, and no witness; or the witness, and no inverse. For proved callers, who
-// have accepted the graph. A small graph has a small table, which takes less time to clear.
+// The inverse for a set of vertices, 0 in the other rows and columns; or the witness. What is not found is left as it was. For proved callers,
+// who have accepted the graph. A small graph has a small table, which takes less time to clear.
 pub fn solve(
     n: usize,
     adjacency: &[u8],
@@ -131,7 +129,7 @@ pub fn solve(
 ) -> Outcome
     requires { ⌜ Complete n (now adjacency) (now weights) × (length (now set) ≡ n) ⌝ }
     requires { ⌜ (length (now inverse) ≡ n * n) × (length (now witness) ≡ n) ⌝ }
-    ensures { λ o. ⌜ ((S : Subset) → ((i : ℕ) → i < n → S i ≡ marked (now (set .entry)) i) → Solved (over n (now (adjacency .entry)) (now (weights .entry))) S o (now (inverse .exit)) (now (witness .exit))) ⌝ }
+    ensures { λ o. ⌜ ((S : Subset) → ((i : ℕ) → i < n → S i ≡ marked (now (set .entry)) i) → Solved (over n (now (adjacency .entry)) (now (weights .entry))) S o (now (inverse .entry)) (now (witness .entry)) (now (inverse .exit)) (now (witness .exit))) ⌝ }
 {
     let size = n * n;
     if n <= 32 {

@@ -9,9 +9,8 @@ use Rattle.residue.specs.Modulus.{modulus, modulus-prime}
 use Rattle.matching.specs.Decision.{accepted}
 use Rattle.matching.specs.Graph.{Graph, over, InOrder}
 use Rattle.matching.specs.Pairs.{everything, unmatched, pairs-on}
-use Rattle.matching.specs.Session.{Session}
 use Rattle.matching.specs.Causes.{lent-graph, LongEnough, opening-ruling}
-use Rattle.matching.specs.Opening.{opened, singular, Buffers, Singular, Opens, opens, finds-singular}
+use Rattle.matching.specs.Opening.{Singular, Opens, opens}
 use Rattle.matching.specs.Model.{automatic, Nonsingular, pairs-after, PicksToCome}
 use Rattle.matching.specs.Listing.{first-line, pair-lines, witness-lines, line-full, line-none}
 use Rattle.laws.specs.Onto.{onto-front}
@@ -19,10 +18,9 @@ use Rattle.laws.specs.Sound.{opening-accepted}
 use Rattle.laws.specs.Fresh.{opened-sound}
 use Rattle.sequence.specs.Formed.{left-start}
 use Rattle.calls.specs.Known.{Known}
-use Rattle.exchange.specs.declared.Outcome.{Outcome}
 use Rattle.exchange.specs.declared.Outcome.the-variants.{Inverse, Column}
-use Rattle.opening.specs.Answers.{found, buffers}
-use Rattle.opening.specs.Begun.{Begun, begun-whole}
+use Rattle.opening.specs.Answers.{buffers}
+use Rattle.opening.specs.Begun.{Begun, leaves-inverse, leaves-witness}
 use Rattle.completion.specs.Completed.{Completed}
 use Rattle.text.specs.Puts.{Puts, puts-then}
 
@@ -53,35 +51,23 @@ pub record Fresh (n : ℕ) (adjacency weights inverse sequence marks : List ℕ)
 abbrev pub FreshFor : (n : ℕ) (adjacency inverse sequence marks : List ℕ) → Type 0
 FreshFor n adjacency inverse sequence marks = (weights : List ℕ) × Fresh n adjacency weights inverse sequence marks
 
--- what opening leaves of a graph that is accepted, beside a work buffer of zeros
-module _ {n : ℕ} {adjacency weights inverse sequence witness inverse′ sequence′ witness′ : List ℕ}
-    (ok : opening-ruling modulus (over n adjacency weights) (length inverse) (length sequence) (length witness) (n * n) ≡ accepted) where
-  beside : (o : Outcome) → Begun (over n adjacency weights) inverse sequence witness o inverse′ sequence′ witness′
-      → (after : List ℕ) × Opens modulus (over n adjacency weights) everything (buffers inverse sequence witness (replicate (n * n) 0)) (found n o) (buffers inverse′ sequence′ witness′ after)
-  beside o B = (_, begun-whole (replicate (n * n) 0) B (rw (length-replicate {A = ℕ} (n * n) 0) ok))
-
+-- what opening leaves of a graph
+module _ {n : ℕ} {adjacency weights inverse sequence witness : List ℕ} where
   -- a session that is opened is known to be sound, and has an inverse
-  pub fresh : {marks : List ℕ} → Begun (over n adjacency weights) inverse sequence witness Inverse inverse′ sequence′ witness′ → marks ≡ replicate n 1
-      → Fresh n adjacency weights inverse′ sequence′ marks
+  pub fresh : {inverse′ sequence′ witness′ marks : List ℕ}
+      → opening-ruling modulus (over n adjacency weights) (length inverse) (length sequence) (length witness) (n * n) ≡ accepted
+      → Begun (over n adjacency weights) inverse sequence witness Inverse inverse′ sequence′ witness′ → marks ≡ replicate n 1 → Fresh n adjacency weights inverse′ sequence′ marks
   unfolding unmatched
-  fresh B e = record {
-    known =
-        let k = opened-sound modulus-prime (over n adjacency weights) everything (beside Inverse B .1) in
-        record { sound = rw (k .1) at (k .0); left = rw e (left-start n sequence′) };
-    nonsingular = go (beside Inverse B .1);
-  }
-    where
-      go : {s : Session} {b a : Buffers} → Opens modulus (over n adjacency weights) everything b (opened s) a → Nonsingular modulus-prime (over n adjacency weights) everything []
-      go (opens words e l I) = (_, I .is-inverse)
+  fresh ok (leaves-inverse new l I) e =
+      let o : Opens modulus (over n adjacency weights) everything (buffers inverse sequence witness (replicate (n * n) 0)) _ _ =
+      opens new (rw (length-replicate {A = ℕ} (n * n) 0) ok) l I in
+      let k = opened-sound modulus-prime (over n adjacency weights) everything o in
+      record { known = record { sound = rw (k .1) at (k .0); left = rw e (left-start n _) }; nonsingular = (_, I .is-inverse) }
 
   -- the first words of the witness are the kernel vector
-  pub kernel : {f : ℕ} → Begun (over n adjacency weights) inverse sequence witness (Column f) inverse′ sequence′ witness′
+  pub kernel : {inverse′ sequence′ witness′ : List ℕ} {f : ℕ} → Begun (over n adjacency weights) inverse sequence witness (Column f) inverse′ sequence′ witness′
       → (length (take n witness′) ≡ n) × Singular modulus (over n adjacency weights) everything f (take n witness′)
-  kernel {f} B = go (beside (Column f) B .1)
-    where
-      go : {b a : Buffers} → Opens modulus (over n adjacency weights) everything b (singular f) a
-          → (length (take n (a .witness)) ≡ n) × Singular modulus (over n adjacency weights) everything f (take n (a .witness))
-      go {b} (finds-singular _ words e l S) = rw (onto-front words (b .witness) n l) (l, S)
+  kernel (leaves-witness _ new l S) = rw (onto-front new witness n l) (l, S)
 
 -- the lines of a completed matching
 pub full-lines : {g : Graph} {made : ℕ} {sequence : List ℕ} → Nonsingular modulus-prime g everything [] → Completed g made sequence

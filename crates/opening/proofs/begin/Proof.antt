@@ -1,20 +1,21 @@
 -- `opening::begin` meets its contract: a refusal writes nothing, and what is left of an accepted graph is known beside the work buffer.
 -- Assumes nothing.
-use mathlib.Core.Path.{_≡_, sym, ap, _∙_}
+use mathlib.Core.Path.{_≡_, refl, sym, ap, _∙_}
+use mathlib.Core.List.{List}
 use Prim.Native.Nat.{ℕ, _*_, _≤_}
 use native.Mathlib.Omega.{arith}
-use lib.ListN.{length, replicate, length-replicate}
-use lib.Seq.{length-take-le}
+use lib.ListN.{length}
 use Rattle.lists.specs.Table.{square-small}
 use Rattle.residue.specs.Modulus.{modulus, modulus-prime}
 use Rattle.matching.specs.Decision.{accepted}
 use Rattle.matching.specs.Graph.{over}
 use Rattle.matching.specs.Pairs.{everything}
-use Rattle.matching.specs.Opening.{ruling, Opens, refuses-opening}
+use Rattle.matching.specs.Opening.{ruling, Opens, OpenedExactly, refuses-opening}
 use Rattle.laws.specs.Determined.{opened-exactly}
 use Rattle.checks.specs.Answers.{ruling-of}
-use Rattle.opening.specs.Answers.{buffers}
-use Rattle.opening.specs.Begun.{Ready, ready, begun-whole}
+use Rattle.exchange.specs.declared.Outcome.{Outcome}
+use Rattle.opening.specs.Answers.{found, buffers}
+use Rattle.opening.specs.Begun.{Ready, ready, Cleared, begun-whole}
 use borrow.Author.Needs.{needs}
 use Rattle.opening.proofs.begin.Statement.{statement}
 use Rattle.opening.proofs.begin.Tie as tie
@@ -29,6 +30,19 @@ accepts at = sym (at .before .before .judge-opening .ensures) ∙ ap ruling-of (
 fits : (at : tie.After-enum-told)
     → (let a = start (at .before .before) .args in Ready (a .n) (a .adjacency .now) (a .weights .now) (a .inverse .now) (a .sequence .now) (a .witness .now) × (a .n * a .n ≤ length (a .work .now)))
 fits at = ready _ _ _ _ _ _ _ (accepts at)
+
+-- what is left where one is found and the other cleared
+whole : (at : tie.After-begin-accepted) {o : Outcome} {inverse witness : List ℕ} → at .begin-accepted .result ≡ o
+    → (let a = start (at .before .before .before .before .before .before .before .before .before .before) .args in
+    let b = buffers (a .inverse .now) (a .sequence .now) (a .witness .now) (a .work .now) in
+    let g = over (a .n) (a .adjacency .now) (a .weights .now) in
+    Cleared (a .n) o (at .begin-accepted .last .1 .1 .1 .0) (at .begin-accepted .last .1 .1 .1 .1 .1 .0) inverse witness
+    → Opens modulus g everything b (found (a .n) o) (buffers inverse (at .begin-accepted .last .1 .1 .1 .1 .0) witness (at .before .before .before .before .before .before .clear .last .0))
+    × OpenedExactly modulus g everything b (found (a .n) o))
+whole at e cleared =
+    let told = at .before .before .before .before .before .before .before .before in
+    let o = begun-whole (rw e at (at .begin-accepted .ensures)) cleared (at .before .before .before .before .before .before .clear .ensures) (accepts told) in
+    (o, opened-exactly modulus-prime _ everything o)
 
 judge-opening-requires : tie.Need-judge-opening-requires
 judge-opening-requires c κs = search needs
@@ -52,20 +66,27 @@ enum-told c = search needs
 mul-size : tie.Need-mul-size
 mul-size c = record { fits = omega (arith, square-small _ (fits c .0 .lent .size)) }
 
-slice-relend-prefix-fill-words : tie.Need-slice-relend-prefix-fill-words
-slice-relend-prefix-fill-words c = fits c .1
-
-slice-aggregate-fill-words : tie.Need-slice-aggregate-fill-words
-slice-aggregate-fill-words c = sym (length-take-le _ (start (c .before .before .before) .args .work .now) (fits (c .before) .1))
-
-fill-words-requires : tie.Need-fill-words-requires
-fill-words-requires c κs = search needs
+clear-requires : tie.Need-clear-requires
+clear-requires c κs = fits (c .before) .1
 
 begin-accepted-requires : tie.Need-begin-accepted-requires
 begin-accepted-requires c κs = fits (c .before .before .before .before .before .before .before) .0
 
-answer-requires : tie.Need-answer-requires
-answer-requires c κs = search needs
+enum-told-2 : tie.Need-enum-told-2
+enum-told-2 c = search needs
+
+clear-requires-2 : tie.Need-clear-requires-2
+clear-requires-2 c κs =
+    let k = c .before .before .before .before .before .before .before .before .before in
+    omega (arith, fits (k .before .before .before .before .before .before .before .before) .0 .witness-fits, k .begin-accepted .kept .1 .1 .1 .1 .1 .0)
+
+enum-known-outcome : tie.Need-enum-known-outcome
+enum-known-outcome c = search needs
+
+clear-requires-3 : tie.Need-clear-requires-3
+clear-requires-3 c κs =
+    let k = c .before .before .before .before .before .before .before .before .before .before in
+    omega (arith, fits (k .before .before .before .before .before .before .before .before) .0 .inverse-fits, k .begin-accepted .kept .1 .1 .1 .0)
 
 same-length : tie.Need-same-length
 same-length c = search needs
@@ -81,17 +102,23 @@ same-length-4 c = search needs
 
 returns-2 : tie.Need-returns-2
 returns-2 c =
-    let k = c .before .before .before .before .before .before .before in
-    let filled = k .before .before .before .before .before .before in
-    let at = filled .before .before in
-    let a = start (at .before .before) .args in
-    let g = over (a .n) (a .adjacency .now) (a .weights .now) in
-    let size = a .n * a .n in
-    let zeros : filled .fill-words .last .0 ≡ replicate size 0 =
-    filled .fill-words .ensures ∙ rw (length-take-le size (a .work .now) (fits at .1)) in
-    let o =
-    rw (length-replicate {A = ℕ} size 0, ← zeros) at (begun-whole (a .work .now) (k .begin-accepted .ensures) (accepts at)) in
-    rw (c .answer .ensures) (o, opened-exactly modulus-prime g everything o)
+    whole (c .before .before .before .before .before .before .before .before .before .before .before .before) (c .before .before .before .before .enum-told2 .given .1) (refl, c .before .before .clear2 .ensures)
+
+same-length-5 : tie.Need-same-length-5
+same-length-5 c = search needs
+
+same-length-6 : tie.Need-same-length-6
+same-length-6 c = search needs
+
+same-length-7 : tie.Need-same-length-7
+same-length-7 c = search needs
+
+same-length-8 : tie.Need-same-length-8
+same-length-8 c = search needs
+
+returns-3 : tie.Need-returns-3
+returns-3 c =
+    whole (c .before .before .before .before .before .before .before .before .before .before .before .before .before) (c .before .before .before .before .before .outcome .given .1) (c .before .before .clear3 .ensures, refl)
 
 pub begin-spec : {M : Type 1} → statement M
 begin-spec =
@@ -102,13 +129,19 @@ begin-spec =
     returns
     enum-told
     mul-size
-    slice-relend-prefix-fill-words
-    slice-aggregate-fill-words
-    fill-words-requires
+    clear-requires
     begin-accepted-requires
-    answer-requires
+    enum-told-2
+    clear-requires-2
+    enum-known-outcome
+    clear-requires-3
     same-length
     same-length-2
     same-length-3
     same-length-4
-    returns-2)
+    returns-2
+    same-length-5
+    same-length-6
+    same-length-7
+    same-length-8
+    returns-3)

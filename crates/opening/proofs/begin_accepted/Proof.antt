@@ -5,7 +5,7 @@ use lib.Seq.{length-take-le}
 use Rattle.lists.specs.Part.{length-part}
 use Rattle.matching.specs.Pairs.{everything}
 use Rattle.solve.specs.Solved.{all-in}
-use Rattle.opening.specs.Begun.{begun}
+use Rattle.opening.specs.Begun.{filled, begun}
 use borrow.Author.Needs.{needs}
 use Rattle.opening.proofs.begin_accepted.Statement.{statement}
 use Rattle.opening.proofs.begin_accepted.Tie as tie
@@ -59,7 +59,7 @@ returns c =
     let solved = c .before .before .before .before .before in
     let s = solved .before .before .before .before .before .before .before .before .before .before .before .before .before in
     begun _ _ (solved .solve .kept .1 .1 .1 .1 .0 ∙ length-take-le _ (s .args .inverse .now) (s .pre .inverse-fits))
-    (solved .before .before .before .before .before .before .fill-bytes .ensures ∙ rw (length-take-le _ (s .args .sequence .now) (s .pre .sequence-fits)))
+    (filled _ 255 (s .args .sequence .now) (s .pre .sequence-fits) (solved .before .before .before .before .before .before .fill-bytes .ensures))
     (solved .solve .kept .1 .1 .1 .1 .1 .0 ∙ length-take-le _ (s .args .witness .now) (s .pre .witness-fits))
     (solved .solve .result) (solved .solve .ensures everything (λ i l. sym (all-in (s .args .n) (s .pre .lent .size) i l)))
 

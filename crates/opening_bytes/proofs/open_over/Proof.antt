@@ -1,23 +1,24 @@
 -- `opening_bytes::open_over` meets its contract: the words that opening leaves are stored as bytes. Assumes nothing.
 use mathlib.Core.Path.{_≡_, sym, ap, _∙_}
-use Prim.Native.Nat.{ℕ, _*_, _≤_}
+use mathlib.Core.List.{List}
+use Prim.Native.Nat.{ℕ}
 use native.Mathlib.Omega.{arith}
-use lib.ListN.{length, replicate, take}
-use lib.Seq.{length-take-le}
-use Rattle.lists.specs.Table.{square-small}
+use lib.ListN.{take}
 use Rattle.residue.specs.Modulus.{modulus}
 use Rattle.matching.specs.Decision.{because, refused, judge}
 use Rattle.matching.specs.Graph.{over}
 use Rattle.matching.specs.Opening.{Buffers, ruling}
-use Rattle.matching.specs.Host.{words, unpacked}
+use Rattle.matching.specs.Pairs.{everything}
+use Rattle.matching.specs.Host.{words, opening-number, unpacked, HostOpens}
 use Rattle.checks.specs.Answers.{ruling-of}
 use Rattle.checks.specs.Opening.{graph-causes}
 use Rattle.checks.specs.declared.Refusal.{Refusal}
 use Rattle.checks.specs.declared.Ruling.the-variants.{Refused}
-use Rattle.opening.specs.Answers.{buffers}
+use Rattle.exchange.specs.declared.Outcome.{Outcome}
+use Rattle.opening.specs.Answers.{found, buffers}
 use Rattle.opening.specs.Begun.{Begun}
 use Rattle.crossing.specs.Needed.{needed-weights}
-use Rattle.opening_bytes.specs.Opened.{host-refuses, refusal-small, host-ruling, weights-fit, inverse-fits, witness-fits, work-fits, words-complete, words-ready, outcome-small, host-opens}
+use Rattle.opening_bytes.specs.Opened.{host-refuses, refusal-small, host-ruling, weights-fit, inverse-fits, witness-fits, work-fits, words-complete, words-ready, column-small, Stored, host-opens}
 use borrow.Author.Needs.{needs}
 use Rattle.opening_bytes.proofs.open_over.Statement.{statement}
 use Rattle.opening_bytes.proofs.open_over.Tie as tie
@@ -30,9 +31,6 @@ read at = at .before .before .before .before
 
 abbrev host : tie.Start → Buffers
 host s = let a = s .args in buffers (a .inverse .now) (a .sequence .now) (a .witness .now) (a .work .now)
-
-room : (s : tie.Start) → 2 * (s .args .n * s .args .n) ≤ length (s .args .work .now)
-room s = work-fits (s .args .n) (s .args .adjacency .now) (s .args .weights .now) (host s) (s .pre .0)
 
 -- the weights that the graph needs
 values : (at : tie.After-unpack) → at .unpack .last .1 .0 ≡ (let a = start at .args in needed-weights (a .n) (a .weights .now))
@@ -54,9 +52,24 @@ accepting at = at .before .before .before .before .before
 abbrev opened : tie.After-begin-accepted → tie.Start
 opened at = start (read (accepting at .before .before))
 
-begun : (at : tie.After-begin-accepted)
-    → (let a = opened at .args in Begun (over (a .n) (a .adjacency .now) (needed-weights (a .n) (a .weights .now))) (a .table .now) (a .sequence .now) (a .vector .now) (at .begin-accepted .result) (at .begin-accepted .last .1 .1 .1 .0) (at .begin-accepted .last .1 .1 .1 .1 .0) (at .begin-accepted .last .1 .1 .1 .1 .1 .0))
-begun at = rw (values (read (accepting at .before .before))) at (at .begin-accepted .ensures)
+begun : (at : tie.After-begin-accepted) {o : Outcome} → at .begin-accepted .result ≡ o
+    → (let a = opened at .args in Begun (over (a .n) (a .adjacency .now) (needed-weights (a .n) (a .weights .now))) (a .table .now) (a .sequence .now) (a .vector .now) o (at .begin-accepted .last .1 .1 .1 .0) (at .begin-accepted .last .1 .1 .1 .1 .0) (at .begin-accepted .last .1 .1 .1 .1 .1 .0))
+begun at e = rw (e, values (read (accepting at .before .before))) at (at .begin-accepted .ensures)
+
+-- what is left where one is found and stored
+whole : (k : tie.After-clear) {o : Outcome} {r : ℕ} {inverse witness : List ℕ} → k .before .before .before .before .before .before .before .before .begin-accepted .result ≡ o
+    → (let last = k .before .before .before .before .before .before .before .before .begin-accepted .last in
+    let s = opened (k .before .before .before .before .before .before .before .before) in
+    let a = s .args in
+    r ≡ opening-number (found (a .n) o) → Stored (a .n) o (last .1 .1 .1 .0) (last .1 .1 .1 .1 .1 .0) (a .inverse .now) (a .witness .now) inverse witness
+    → HostOpens modulus (a .n) (a .adjacency .now) (a .weights .now) everything (host s) r (buffers inverse (last .1 .1 .1 .1 .0) witness (k .clear .last .0)))
+whole k e numbered stored =
+    let at = k .before .before .before .before .before .before .before .before in
+    let s = opened at in
+    let ok = sym (judged (accepting at .before .before)) ∙ ap ruling-of (accepting at .enum-told .given .1) in
+    let entered = read (accepting at .before .before) .before .before in
+    rw numbered
+    (host-opens (s .args .n) (s .args .adjacency .now) (s .args .weights .now) (host s) (s .pre .0) (λ x. omega (arith, entered .before .before .before .slice-known4 .given x)) (λ x. omega (arith, entered .before .slice-known6 .given x)) (λ x. omega (arith, entered .slice-known7 .given x)) ok (begun at e) stored (k .clear .ensures))
 
 unpack-requires : tie.Need-unpack-requires
 unpack-requires c κs =
@@ -99,41 +112,35 @@ begin-accepted-requires c κs =
     rw (values at)
     (words-ready (s .args .n) (s .args .adjacency .now) (s .args .weights .now) (host s) (s .pre .0) (s .pre .1 .cells) (s .pre .1 .vertices))
 
-mul-size : tie.Need-mul-size
-mul-size c = search needs
+mul-clear : tie.Need-mul-clear
+mul-clear c = search needs
 
-store-requires : tie.Need-store-requires
-store-requires c κs =
-    let at = c .before .before .before .before .before .before .before .before in
+mul-clear-2 : tie.Need-mul-clear-2
+mul-clear-2 c = search needs
+
+clear-requires : tie.Need-clear-requires
+clear-requires c κs =
+    let s = opened (c .before .before .before .before .before .before .before) in
+    work-fits (s .args .n) (s .args .adjacency .now) (s .args .weights .now) (host s) (s .pre .0)
+
+enum-told-2 : tie.Need-enum-told-2
+enum-told-2 c = search needs
+
+store-inverse-requires : tie.Need-store-inverse-requires
+store-inverse-requires c κs =
+    let at = c .before .before .before .before .before .before .before .before .before .before .before .before .before .before .before in
     let s = opened at in
-    (omega (arith, at .begin-accepted .kept .1 .1 .1 .0, s .pre .1 .cells), inverse-fits (s .args .n) (s .args .adjacency .now) (s .args .weights .now) (host s) (s .pre .0))
+    (omega (arith, at .begin-accepted .kept .1 .1 .1 .0, s .pre .1 .cells), inverse-fits (s .args .n) (s .args .adjacency .now) (s .args .weights .now) (host s) (s .pre .0), witness-fits (s .args .n) (s .args .adjacency .now) (s .args .weights .now) (host s) (s .pre .0))
 
-store-requires-2 : tie.Need-store-requires-2
-store-requires-2 c κs =
-    let at = c .before .before .before .before .before .before .before .before .before .before .before .before .before in
+enum-known-outcome : tie.Need-enum-known-outcome
+enum-known-outcome c = search needs
+
+store-witness-requires : tie.Need-store-witness-requires
+store-witness-requires c κs =
+    let at = c .before .before .before .before .before .before .before .before .before .before .before .before .before .before .before .before in
     let s = opened at in
-    (omega (arith, at .begin-accepted .kept .1 .1 .1 .1 .1 .0, s .pre .1 .vertices), witness-fits (s .args .n) (s .args .adjacency .now) (s .args .weights .now) (host s) (s .pre .0))
-
-mul-zeros : tie.Need-mul-zeros
-mul-zeros c =
-    let s = opened (c .before .before .before .before .before .before .before .before .before .before .before .before .before .before .before .before) in record { fits = omega (arith, square-small _ (s .pre .0 .0)) }
-
-slice-relend-prefix-fill-bytes : tie.Need-slice-relend-prefix-fill-bytes
-slice-relend-prefix-fill-bytes c =
-    room (opened (c .before .before .before .before .before .before .before .before .before .before .before .before .before .before .before .before))
-
-slice-aggregate-fill-bytes : tie.Need-slice-aggregate-fill-bytes
-slice-aggregate-fill-bytes c =
-    let s = opened (c .before .before .before .before .before .before .before .before .before .before .before .before .before .before .before .before .before) in sym (length-take-le _ (s .args .work .now) (room s))
-
-fill-bytes-requires : tie.Need-fill-bytes-requires
-fill-bytes-requires c κs = search needs
-
-number-requires : tie.Need-number-requires
-number-requires c κs =
-    let at = c .before .before .before .before .before .before .before .before .before .before .before .before .before .before .before .before .before .before .before .before in
-    let s = opened at in
-    outcome-small (s .args .n) (s .args .adjacency .now) (s .args .weights .now) (host s) (s .pre .0) (begun at)
+    let small = column-small (s .args .n) (s .args .adjacency .now) (s .args .weights .now) (host s) (s .pre .0) (begun at (c .before .before .before .before .outcome .given .1)) in
+    (small, omega (arith, at .begin-accepted .kept .1 .1 .1 .1 .1 .0, s .pre .1 .vertices), inverse-fits (s .args .n) (s .args .adjacency .now) (s .args .weights .now) (host s) (s .pre .0), witness-fits (s .args .n) (s .args .adjacency .now) (s .args .weights .now) (host s) (s .pre .0))
 
 same-length-2 : tie.Need-same-length-2
 same-length-2 c = search needs
@@ -158,15 +165,34 @@ same-length-8 c = search needs
 
 returns-2 : tie.Need-returns-2
 returns-2 c =
-    let at = c .before .before .before .before .before .before .before .before .before .before .before .before .before .before .before .before .before .before .before .before .before in
-    let s = opened at in
-    let zeros = 2 * (s .args .n * s .args .n) in
-    let e : c .before .before .before .fill-bytes .last .0 ≡ replicate zeros 0 =
-    c .before .before .before .fill-bytes .ensures ∙ rw (length-take-le zeros (s .args .work .now) (room s)) in
-    let ok = sym (judged (accepting at .before .before)) ∙ ap ruling-of (accepting at .enum-told .given .1) in
-    let entered = read (accepting at .before .before) .before .before in
-    rw (c .number .ensures (s .args .n), c .before .before .before .before .before .before .before .before .before .before .before .before .store .ensures, c .before .before .before .before .before .before .before .store2 .ensures, e)
-    (host-opens (s .args .n) (s .args .adjacency .now) (s .args .weights .now) (host s) (s .pre .0) (λ x. omega (arith, entered .before .before .before .slice-known4 .given x)) (λ x. omega (arith, entered .before .slice-known6 .given x)) (λ x. omega (arith, entered .slice-known7 .given x)) ok (begun at))
+    let k = c .before .before .before .before in
+    whole (k .before .before .before .before .before .before .before .before) (k .before .before .before .before .enum-told2 .given .1) (k .store-inverse .ensures .0) (k .store-inverse .ensures .1)
+
+same-length-9 : tie.Need-same-length-9
+same-length-9 c = search needs
+
+same-length-10 : tie.Need-same-length-10
+same-length-10 c = search needs
+
+same-length-11 : tie.Need-same-length-11
+same-length-11 c = search needs
+
+same-length-12 : tie.Need-same-length-12
+same-length-12 c = search needs
+
+same-length-13 : tie.Need-same-length-13
+same-length-13 c = search needs
+
+same-length-14 : tie.Need-same-length-14
+same-length-14 c = search needs
+
+same-length-15 : tie.Need-same-length-15
+same-length-15 c = search needs
+
+returns-3 : tie.Need-returns-3
+returns-3 c =
+    let k = c .before .before .before .before in
+    whole (k .before .before .before .before .before .before .before .before .before) (k .before .before .before .before .before .outcome .given .1) (k .store-witness .ensures .0) (k .store-witness .ensures .1)
 
 pub open-over-spec : {M : Type 1} → statement M
 open-over-spec =
@@ -180,14 +206,13 @@ open-over-spec =
     returns
     enum-told
     begin-accepted-requires
-    mul-size
-    store-requires
-    store-requires-2
-    mul-zeros
-    slice-relend-prefix-fill-bytes
-    slice-aggregate-fill-bytes
-    fill-bytes-requires
-    number-requires
+    mul-clear
+    mul-clear-2
+    clear-requires
+    enum-told-2
+    store-inverse-requires
+    enum-known-outcome
+    store-witness-requires
     same-length-2
     same-length-3
     same-length-4
@@ -195,4 +220,12 @@ open-over-spec =
     same-length-6
     same-length-7
     same-length-8
-    returns-2)
+    returns-2
+    same-length-9
+    same-length-10
+    same-length-11
+    same-length-12
+    same-length-13
+    same-length-14
+    same-length-15
+    returns-3)

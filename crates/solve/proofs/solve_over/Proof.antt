@@ -1,6 +1,6 @@
 -- `solve::solve_over` meets its contract: the filled table holds the Tutte matrix on the set, and what exchange leaves is the inverse or the witness.
 -- Assumes nothing.
-use mathlib.Core.Path.{_≡_, subst, _∙_}
+use mathlib.Core.Path.{_≡_, refl, subst, _∙_}
 use native.Mathlib.Omega.{arith}
 use Rattle.skew.specs.Subset.{marked}
 use Rattle.residue.specs.Modulus.{modulus}
@@ -51,9 +51,6 @@ enum-told c = search needs
 write-inverse-requires : tie.Need-write-inverse-requires
 write-inverse-requires c κs = search needs
 
-fill-words-requires : tie.Need-fill-words-requires
-fill-words-requires c κs = search needs
-
 enum-known-outcome : tie.Need-enum-known-outcome
 enum-known-outcome c = search needs
 
@@ -66,9 +63,6 @@ write-witness-requires c κs =
     let E = ends at (c .before .before .before .before .outcome .given .1) in
     (record { small = b .table-square .small; size = at .run .kept .0 ∙ w .fill .ensures .size ∙ b .table-square .size }, E .1 .below, at .run .kept .1 .1 .0 ∙ s .pre .0 .1, s .pre .1 .1)
 
-fill-words-requires-2 : tie.Need-fill-words-requires-2
-fill-words-requires-2 c κs = search needs
-
 same-length : tie.Need-same-length
 same-length c = search needs
 
@@ -78,15 +72,15 @@ same-length-2 c = search needs
 same-length-3 : tie.Need-same-length-3
 same-length-3 c = search needs
 
-same-length-4 : tie.Need-same-length-4
-same-length-4 c = search needs
-
 returns : tie.Need-returns
 returns c =
-    let at = c .before .before .before .before .before .before .before .before .before .before .before .before .before .before .before in
+    let at = c .before .before .before .before .before .before .before .before .before .before .before in
     let w = filling at in
-    let E = ends at (c .before .before .before .before .before .before .before .before .before .enum-told .given .1) in
-    λ S agree. (inverse-solved (graph w) agree _ (c .before .before .before .before .before .before .write-inverse .ensures) E, c .before .before .fill-words .ensures ∙ rw (start w .pre .1 .1))
+    let E = ends at (c .before .before .before .before .before .enum-told .given .1) in
+    λ S agree. (inverse-solved (graph w) agree _ (c .before .before .write-inverse .ensures) E, refl)
+
+same-length-4 : tie.Need-same-length-4
+same-length-4 c = search needs
 
 same-length-5 : tie.Need-same-length-5
 same-length-5 c = search needs
@@ -94,18 +88,12 @@ same-length-5 c = search needs
 same-length-6 : tie.Need-same-length-6
 same-length-6 c = search needs
 
-same-length-7 : tie.Need-same-length-7
-same-length-7 c = search needs
-
-same-length-8 : tie.Need-same-length-8
-same-length-8 c = search needs
-
 returns-2 : tie.Need-returns-2
 returns-2 c =
-    let at = c .before .before .before .before .before .before .before .before .before .before .before .before .before .before .before .before .before in
+    let at = c .before .before .before .before .before .before .before .before .before .before .before .before .before in
     let w = filling at in
-    let E = ends at (c .before .before .before .before .before .before .before .before .before .before .before .outcome .given .1) in
-    λ S agree. (column-solved (graph w) agree _ _ (c .before .before .before .before .before .before .write-witness .ensures) (E .0) (E .1), c .before .before .fill-words2 .ensures ∙ rw (start w .pre .1 .0))
+    let E = ends at (c .before .before .before .before .before .before .before .outcome .given .1) in
+    λ S agree. (column-solved (graph w) agree _ _ (c .before .before .write-witness .ensures) (E .0) (E .1), refl)
 
 pub solve-over-spec : {M : Type 1} → statement M
 solve-over-spec =
@@ -115,17 +103,13 @@ solve-over-spec =
     run-requires
     enum-told
     write-inverse-requires
-    fill-words-requires
     enum-known-outcome
     write-witness-requires
-    fill-words-requires-2
     same-length
     same-length-2
     same-length-3
-    same-length-4
     returns
+    same-length-4
     same-length-5
     same-length-6
-    same-length-7
-    same-length-8
     returns-2)

@@ -95,7 +95,7 @@ returns-2 c =
     let written = last .before .before .before .before in
     let told = written .before .before .before in
     let at = told .before .before .before .before .before .before .before .before in
-    let k = kernel (at .before .before .before .before .before .before .before .before .before .before .before .pre .0) (rw (told .enum-told2 .given .1) at (at .begin-accepted .ensures)) in
+    let k = kernel (rw (told .enum-told2 .given .1) at (at .begin-accepted .ensures)) in
     record { text = _; lines = none (k .0) (k .1); puts = puts-then (written .witness-lines .ensures .0) (last .none-line .ensures) }
 
 pub verdict-lines-spec : {M : Type 1} → statement M
