@@ -1,24 +1,28 @@
-// Buffers that are filled with one value, and bytes that are copied.
+// The first words or bytes of a buffer that are filled with one value, and bytes that are copied.
 ghost use mathlib.Core.Path.{_≡_};
-ghost use lib.ListN.{length, replicate};
+ghost use mathlib.Core.List.{_++_};
+ghost use Prim.Native.Nat.{_≤_};
+ghost use lib.ListN.{length, drop, replicate};
 
-// Every word v.
-pub fn fill_words(words: &mut [u16], v: u16)
-    ensures { λ _. ⌜ now (words .exit) ≡ replicate (length (now (words .entry))) v ⌝ }
+// So many words v. For proved callers.
+pub fn fill_words(words: &mut [u16], count: usize, v: u16)
+    requires { ⌜ count ≤ length (now words) ⌝ }
+    ensures { λ _. ⌜ now (words .exit) ≡ replicate count v ++ drop count (now (words .entry)) ⌝ }
 {
     let mut i = 0;
-    while i < words.len() {
+    while i < count {
         words[i] = v;
         i += 1;
     }
 }
 
-// Every byte v.
-pub fn fill_bytes(bytes: &mut [u8], v: u8)
-    ensures { λ _. ⌜ now (bytes .exit) ≡ replicate (length (now (bytes .entry))) v ⌝ }
+// So many bytes v. For proved callers.
+pub fn fill_bytes(bytes: &mut [u8], count: usize, v: u8)
+    requires { ⌜ count ≤ length (now bytes) ⌝ }
+    ensures { λ _. ⌜ now (bytes .exit) ≡ replicate count v ++ drop count (now (bytes .entry)) ⌝ }
 {
     let mut i = 0;
-    while i < bytes.len() {
+    while i < count {
         bytes[i] = v;
         i += 1;
     }

@@ -1,9 +1,8 @@
 -- What opening leaves, in the terms of the definitions. Assumes nothing.
-use mathlib.Core.Path.{_≡_}
+use mathlib.Core.Path.{_≡_, _∙_}
 use mathlib.Core.List.{List, _++_}
 use Prim.Native.Nat.{ℕ, _*_, _≤_}
 use lib.ListN.{length, take, drop, replicate, length-replicate, take-append-drop}
-use lib.Seq.{length-take-le}
 use Rattle.residue.specs.Modulus.{modulus}
 use Rattle.matching.specs.Decision.{accepted}
 use Rattle.matching.specs.Graph.{Graph, over}
@@ -46,31 +45,33 @@ pub data Begun (g : Graph) (inverse sequence witness : List ℕ) : Outcome → (
   leaves-witness : (f : ℕ) (new : List ℕ) → length new ≡ g .n → Singular modulus g everything f new
       → Begun g inverse sequence witness (Column f) inverse (onto (replicate (g .n) unused) sequence) (onto new witness)
 
--- a buffer of which the first part is lent to be filled
-pub filled : {part : List ℕ} (k v : ℕ) (l : List ℕ) → k ≤ length l → part ≡ replicate (length (take k l)) v → part ++ drop k l ≡ onto (replicate k v) l
-filled k v l h e = rw (e, length-take-le k l h, length-replicate {A = ℕ} k v)
+-- a buffer whose first k words are filled
+filled : (k v : ℕ) (l : List ℕ) → replicate k v ++ drop k l ≡ onto (replicate k v) l
+filled k v l = rw (length-replicate {A = ℕ} k v)
 
 -- as it is solved, in the first parts of the buffers
 pub begun : {n : ℕ} {adjacency weights inverse sequence witness sequence′ : List ℕ} (inverse′ witness′ : List ℕ) → length inverse′ ≡ n * n
-    → sequence′ ≡ onto (replicate n unused) sequence → length witness′ ≡ n → (o : Outcome)
+    → sequence′ ≡ replicate n unused ++ drop n sequence → length witness′ ≡ n → (o : Outcome)
     → Solved (over n adjacency weights) everything o (take (n * n) inverse) (take n witness) inverse′ witness′
     → Begun (over n adjacency weights) inverse sequence witness o (inverse′ ++ drop (n * n) inverse) sequence′ (witness′ ++ drop n witness)
 begun {n} {adjacency} {weights} {inverse} {sequence} {witness} inverse′ witness′ li es lw Inverse (I, ew) =
     let B : Begun (over n adjacency weights) inverse sequence witness Inverse _ _ _ = leaves-inverse inverse′ li I in
-    rw (es, ew, take-append-drop n witness) (rw li at B)
+    rw (es ∙ filled n unused sequence, ew, take-append-drop n witness) (rw li at B)
 begun {n} {adjacency} {weights} {inverse} {sequence} {witness} inverse′ witness′ li es lw (Column f) (S, ei) =
     let B : Begun (over n adjacency weights) inverse sequence witness (Column f) _ _ _ = leaves-witness f witness′ lw S in
-    rw (es, ei, take-append-drop (n * n) inverse) (rw lw at B)
+    rw (es ∙ filled n unused sequence, ei, take-append-drop (n * n) inverse) (rw lw at B)
 
 -- the one that is not found is made 0
 abbrev pub Cleared : ℕ → Outcome → (inverse witness inverse′ witness′ : List ℕ) → Type 0
-Cleared n Inverse inverse witness inverse′ witness′ = (inverse′ ≡ inverse) × (witness′ ≡ onto (replicate n 0) witness)
-Cleared n (Column f) inverse witness inverse′ witness′ = (inverse′ ≡ onto (replicate (n * n) 0) inverse) × (witness′ ≡ witness)
+Cleared n Inverse inverse witness inverse′ witness′ = (inverse′ ≡ inverse) × (witness′ ≡ replicate n 0 ++ drop n witness)
+Cleared n (Column f) inverse witness inverse′ witness′ = (inverse′ ≡ replicate (n * n) 0 ++ drop (n * n) inverse) × (witness′ ≡ witness)
 
 -- with this, and the work buffer's first words made 0, opening is whole
 pub begun-whole : {g : Graph} {o : Outcome} {inverse sequence witness work inverse′ sequence′ witness′ inverse″ witness″ work″ : List ℕ}
     → Begun g inverse sequence witness o inverse′ sequence′ witness′ → Cleared (g .n) o inverse′ witness′ inverse″ witness″
-    → work″ ≡ onto (replicate (g .n * g .n) 0) work → ruling modulus g (buffers inverse sequence witness work) ≡ accepted
+    → work″ ≡ replicate (g .n * g .n) 0 ++ drop (g .n * g .n) work → ruling modulus g (buffers inverse sequence witness work) ≡ accepted
     → Opens modulus g everything (buffers inverse sequence witness work) (found (g .n) o) (buffers inverse″ sequence′ witness″ work″)
-begun-whole (leaves-inverse new l I) (ei, ew) ek ok = rw (ei, ew, ek) (opens new ok l I)
-begun-whole (leaves-witness f new l s) (ei, ew) ek ok = rw (ei, ew, ek) (finds-singular f new ok l s)
+begun-whole {g} {witness = witness} {work = work} (leaves-inverse new l I) (ei, ew) ek ok =
+    rw (ei, ew ∙ filled (g .n) 0 witness, ek ∙ filled (g .n * g .n) 0 work) (opens new ok l I)
+begun-whole {g} {inverse = inverse} {work = work} (leaves-witness f new l s) (ei, ew) ek ok =
+    rw (ei ∙ filled (g .n * g .n) 0 inverse, ew, ek ∙ filled (g .n * g .n) 0 work) (finds-singular f new ok l s)

@@ -3,13 +3,9 @@ use checks::Refusal;
 use checks::Ruling;
 use exchange::Outcome;
 use session::Session;
-ghost use mathlib.Core.Path.{_≡_};
-ghost use Prim.Native.Nat.{_≤_};
-ghost use lib.ListN.{length, replicate};
 ghost use Rattle.residue.specs.Modulus.{modulus};
 ghost use Rattle.matching.specs.Graph.{over};
 ghost use Rattle.matching.specs.Pairs.{everything};
-ghost use Rattle.matching.specs.Session.{onto};
 ghost use Rattle.matching.specs.Opening.{Opens, OpenedExactly};
 ghost use Rattle.opening.specs.Answers.{opening-of, buffers};
 ghost use Rattle.opening.specs.Begun.{Ready, Begun};
@@ -37,7 +33,7 @@ pub fn begin_accepted(
     // Every vertex is in play.
     let mut all = [1u8; 96];
     let size = n * n;
-    buffers::fill_bytes(&mut sequence[..n], 255);
+    buffers::fill_bytes(sequence, n, 255);
     solve::solve(
         n,
         adjacency,
@@ -46,14 +42,6 @@ pub fn begin_accepted(
         &mut inverse[..size],
         &mut witness[..n],
     )
-}
-
-// So many words made 0.
-fn clear(words: &mut [u16], count: usize)
-    requires { ⌜ count ≤ length (now words) ⌝ }
-    ensures { λ _. ⌜ now (words .exit) ≡ onto (replicate count 0) (now (words .entry)) ⌝ }
-{
-    buffers::fill_words(&mut words[..count], 0);
 }
 
 // Opens a session on a graph. Of the inverse and the witness the one that is not found is made 0.
@@ -82,15 +70,15 @@ pub fn begin(
         return Opening::Refused(refusal);
     }
     let size = n * n;
-    clear(work, size);
+    buffers::fill_words(work, size, 0);
     let outcome = begin_accepted(n, adjacency, weights, inverse, sequence, witness);
     match outcome {
         Outcome::Inverse => {
-            clear(witness, n);
+            buffers::fill_words(witness, n, 0);
             Opening::Opened(Session { size: n, made: 0 })
         }
         Outcome::Column(f) => {
-            clear(inverse, size);
+            buffers::fill_words(inverse, size, 0);
             Opening::Singular(f)
         }
     }

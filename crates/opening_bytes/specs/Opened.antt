@@ -4,7 +4,7 @@ use mathlib.Core.List.{List, [], _∷_, _++_}
 use Prim.Native.Nat.{ℕ, zero, suc, _*_, _/_, _^_, _≤_, _<_}
 use native.Mathlib.Omega.{arith}
 use native.Mathlib.Decide.{decLt}
-use lib.ListN.{length, getD, take, replicate, length-replicate}
+use lib.ListN.{length, getD, take, drop, replicate, length-replicate}
 use Rattle.residue.specs.Modulus.{modulus}
 use Rattle.matching.specs.Decision.{Every, Refusal, Ruling, accepted, refused, judge}
 use Rattle.matching.specs.Graph.{Graph, largest, pair-count, over}
@@ -42,9 +42,9 @@ pub record Lends (n : ℕ) (values table vector : List ℕ) : Type 0 where
 -- the one that is found is stored as bytes, and the other's bytes are made 0
 abbrev pub Stored : ℕ → Outcome → (table vector inverse witness inverse′ witness′ : List ℕ) → Type 0
 Stored n Inverse table vector inverse witness inverse′ witness′ =
-    (inverse′ ≡ onto (bytes-of (take (n * n) table)) inverse) × (witness′ ≡ onto (replicate (2 * n) 0) witness)
+    (inverse′ ≡ onto (bytes-of (take (n * n) table)) inverse) × (witness′ ≡ replicate (2 * n) 0 ++ drop (2 * n) witness)
 Stored n (Column f) table vector inverse witness inverse′ witness′ =
-    (inverse′ ≡ onto (replicate (2 * (n * n)) 0) inverse) × (witness′ ≡ onto (bytes-of (take n vector)) witness)
+    (inverse′ ≡ replicate (2 * (n * n)) 0 ++ drop (2 * (n * n)) inverse) × (witness′ ≡ onto (bytes-of (take n vector)) witness)
 
 -- the size and the lengths are judged
 module _ (n : ℕ) (adjacency weights : List ℕ) (b : Buffers) where
@@ -85,8 +85,10 @@ unfolding bytes-of
 bytes-zeros zero = refl
 bytes-zeros (suc m) = let e : 2 * suc m ≡ suc (suc (2 * m)) = omega arith in rw (e, bytes-zeros m)
 
-zeros-stored : (m : ℕ) (l : List ℕ) → Bytes l → m ≤ length (words l) → onto (replicate (2 * m) 0) l ≡ onto (bytes-of (onto (replicate m 0) (words l))) l
-zeros-stored m l B h = rw (stored-words (replicate m 0) l B (omega (arith, length-replicate {A = ℕ} m 0)), bytes-zeros m)
+zeros-stored : (m : ℕ) (l : List ℕ) → Bytes l → m ≤ length (words l)
+    → replicate (2 * m) 0 ++ drop (2 * m) l ≡ onto (bytes-of (onto (replicate m 0) (words l))) l
+zeros-stored m l B h =
+    rw (stored-words (replicate m 0) l B (omega (arith, length-replicate {A = ℕ} m 0)), bytes-zeros m, length-replicate {A = ℕ} (2 * m) 0)
 
 -- the graph over the weights that it needs is refused for the same cause
 module _ (n : ℕ) (adjacency weights : List ℕ) (b : Buffers) (F : Fits n adjacency weights b) where
@@ -137,7 +139,7 @@ module _ (n : ℕ) (adjacency weights : List ℕ) (b : Buffers) (F : Fits n adja
   -- what is left of an accepted graph, stored as bytes, is left by the host
   pub host-opens : {table vector table′ sequence′ vector′ inverse′ witness′ work′ : List ℕ} {o : Outcome} → Bytes (b .inverse) → Bytes (b .witness) → Bytes (b .work)
       → judge (graph-causes modulus words-needed) ≡ accepted → Begun words-needed table (b .sequence) vector o table′ sequence′ vector′
-      → Stored n o table′ vector′ (b .inverse) (b .witness) inverse′ witness′ → work′ ≡ onto (replicate (2 * (n * n)) 0) (b .work)
+      → Stored n o table′ vector′ (b .inverse) (b .witness) inverse′ witness′ → work′ ≡ replicate (2 * (n * n)) 0 ++ drop (2 * (n * n)) (b .work)
       → HostOpens modulus n adjacency weights everything b (opening-number (found n o)) (buffers inverse′ sequence′ witness′ work′)
   host-opens {table} inverse-bytes witness-bytes work-bytes ok (leaves-inverse new l I) (ei, ew) ek = record {
     opening = opened _;

@@ -2,8 +2,9 @@
 use checks::Ruling;
 use exchange::Outcome;
 ghost use mathlib.Core.Path.{_≡_};
+ghost use mathlib.Core.List.{_++_};
 ghost use Prim.Native.Nat.{_*_, _^_, _≤_, _<_};
-ghost use lib.ListN.{length, take, replicate};
+ghost use lib.ListN.{length, take, drop, replicate};
 ghost use Rattle.residue.specs.Modulus.{modulus};
 ghost use Rattle.matching.specs.Pairs.{everything};
 ghost use Rattle.matching.specs.Session.{onto};
@@ -11,22 +12,14 @@ ghost use Rattle.matching.specs.Host.{bytes-of, number, HostOpens, HostOpenedEx
 ghost use Rattle.opening.specs.Answers.{buffers};
 ghost use Rattle.opening_bytes.specs.Opened.{Fits, Lends};
 
-// So many bytes made 0.
-fn clear(bytes: &mut [u8], count: usize)
-    requires { ⌜ count ≤ length (now bytes) ⌝ }
-    ensures { λ _. ⌜ now (bytes .exit) ≡ onto (replicate count 0) (now (bytes .entry)) ⌝ }
-{
-    buffers::fill_bytes(&mut bytes[..count], 0);
-}
-
 // Stores the inverse as bytes, and makes those of the witness 0. The number that the host is answered.
 fn store_inverse(n: usize, table: &[u16], inverse: &mut [u8], witness: &mut [u8]) -> u64
     requires { ⌜ (n * n ≤ length (now table)) × (2 * (n * n) ≤ length (now inverse)) × (2 * n ≤ length (now witness)) ⌝ }
     ensures { λ r. ⌜ r ≡ number 0 1 0 0 ⌝ }
-    ensures { λ _. ⌜ (now (inverse .exit) ≡ onto (bytes-of (take (n * n) (now (table .entry)))) (now (inverse .entry))) × (now (witness .exit) ≡ onto (replicate (2 * n) 0) (now (witness .entry))) ⌝ }
+    ensures { λ _. ⌜ (now (inverse .exit) ≡ onto (bytes-of (take (n * n) (now (table .entry)))) (now (inverse .entry))) × (now (witness .exit) ≡ replicate (2 * n) 0 ++ drop (2 * n) (now (witness .entry))) ⌝ }
 {
     packing::store(table, n * n, inverse);
-    clear(witness, 2 * n);
+    buffers::fill_bytes(witness, 2 * n, 0);
     numbers::carried(1, 0, 0)
 }
 
@@ -34,9 +27,9 @@ fn store_inverse(n: usize, table: &[u16], inverse: &mut [u8], witness: &mut [u8]
 fn store_witness(n: usize, f: usize, vector: &[u16], inverse: &mut [u8], witness: &mut [u8]) -> u64
     requires { ⌜ (f < 2 ^ 16) × (n ≤ length (now vector)) × (2 * (n * n) ≤ length (now inverse)) × (2 * n ≤ length (now witness)) ⌝ }
     ensures { λ r. ⌜ r ≡ number 0 2 f 0 ⌝ }
-    ensures { λ _. ⌜ (now (inverse .exit) ≡ onto (replicate (2 * (n * n)) 0) (now (inverse .entry))) × (now (witness .exit) ≡ onto (bytes-of (take n (now (vector .entry)))) (now (witness .entry))) ⌝ }
+    ensures { λ _. ⌜ (now (inverse .exit) ≡ replicate (2 * (n * n)) 0 ++ drop (2 * (n * n)) (now (inverse .entry))) × (now (witness .exit) ≡ onto (bytes-of (take n (now (vector .entry)))) (now (witness .entry))) ⌝ }
 {
-    clear(inverse, 2 * (n * n));
+    buffers::fill_bytes(inverse, 2 * (n * n), 0);
     packing::store(vector, n, witness);
     numbers::carried(2, f as u64, 0)
 }
@@ -64,7 +57,7 @@ fn open_over(
         return numbers::refused(refusal);
     }
     let outcome = opening::begin_accepted(n, adjacency, values, table, sequence, vector);
-    clear(work, 2 * (n * n));
+    buffers::fill_bytes(work, 2 * (n * n), 0);
     match outcome {
         Outcome::Inverse => store_inverse(n, table, inverse, witness),
         Outcome::Column(f) => store_witness(n, f, vector, inverse, witness),

@@ -83,7 +83,7 @@ pub fn formed(n: usize, adjacency: &[u8], sequence: &[u8], made: usize, marks: &
     if n / 2 < made {
         return false;
     }
-    buffers::fill_bytes(marks, 1);
+    buffers::fill_bytes(marks, n, 1);
     let taken = take_pairs(n, adjacency, sequence, made, marks);
     if !taken {
         return false;

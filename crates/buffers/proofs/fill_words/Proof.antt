@@ -1,22 +1,21 @@
 -- `buffers::fill_words` meets its contract. Its loop writes one word after the other. Assumes nothing.
-use mathlib.Core.Path.{refl, _∙_}
-use Prim.Native.Nat.{_-_}
+use mathlib.Core.Path.{_≡_, refl, _∙_}
+use Prim.Native.Nat.{_-_, _≤_}
 use native.Mathlib.Omega.{arith}
-use lib.ListN.{length}
 use borrow.Author.Needs.{needs}
 use Rattle.lists.specs.Values.{list-of-constant}
-use Rattle.lists.specs.Written.{Written, written-start, written-more, written-all}
+use Rattle.lists.specs.Written.{Written, written-start, written-more}
 use Rattle.buffers.proofs.fill_words.Statement.{statement}
 use Rattle.buffers.proofs.fill_words.Tie as tie
 
 abbrev Inv-loop : tie.InvT-loop
-Inv-loop words₀ v i₀ words i = Written (λ _. v) words₀ words i
+Inv-loop words₀ count v i₀ words i = (i ≤ count) × Written (λ _. v) words₀ words i
 
 abbrev μ-loop : tie.MeasureT-loop
-μ-loop words₀ v i₀ words i = length words₀ - i
+μ-loop words₀ count v i₀ words i = count - i
 
 loop-holds : tie.Need-loop-holds Inv-loop μ-loop
-loop-holds c = written-start _ _
+loop-holds c = (omega arith, written-start _ _)
 
 mul-words : tie.Need-mul-words Inv-loop μ-loop
 mul-words c = search needs
@@ -31,13 +30,16 @@ loop-less : tie.Need-loop-less Inv-loop μ-loop
 loop-less c = omega arith
 
 loop-again : tie.Need-loop-again Inv-loop μ-loop
-loop-again c = written-more _ (c .before .loop .inv) (omega arith) refl
+loop-again c = (omega arith, written-more _ (c .before .loop .inv .1) (omega arith) refl)
 
 same-length : tie.Need-same-length Inv-loop μ-loop
-same-length c = c .before .loop .inv .size
+same-length c = c .before .loop .inv .1 .size
 
 returns : tie.Need-returns Inv-loop μ-loop
-returns c = written-all (c .before .loop .inv) (omega arith) ∙ list-of-constant _ _
+returns c =
+    let a = c .before .before .args in
+    let e : c .before .loop .i ≡ a .count = omega arith in
+    c .before .loop .inv .1 .front ∙ rw (e, list-of-constant (a .count) (a .v))
 
 pub fill-words-spec : {M : Type 1} → statement M
 fill-words-spec =

@@ -37,11 +37,11 @@ whole : (at : tie.After-begin-accepted) {o : Outcome} {inverse witness : List �
     let b = buffers (a .inverse .now) (a .sequence .now) (a .witness .now) (a .work .now) in
     let g = over (a .n) (a .adjacency .now) (a .weights .now) in
     Cleared (a .n) o (at .begin-accepted .last .1 .1 .1 .0) (at .begin-accepted .last .1 .1 .1 .1 .1 .0) inverse witness
-    → Opens modulus g everything b (found (a .n) o) (buffers inverse (at .begin-accepted .last .1 .1 .1 .1 .0) witness (at .before .before .before .before .before .before .clear .last .0))
+    → Opens modulus g everything b (found (a .n) o) (buffers inverse (at .begin-accepted .last .1 .1 .1 .1 .0) witness (at .before .before .before .before .before .before .fill-words .last .0))
     × OpenedExactly modulus g everything b (found (a .n) o))
 whole at e cleared =
     let told = at .before .before .before .before .before .before .before .before in
-    let o = begun-whole (rw e at (at .begin-accepted .ensures)) cleared (at .before .before .before .before .before .before .clear .ensures) (accepts told) in
+    let o = begun-whole (rw e at (at .begin-accepted .ensures)) cleared (at .before .before .before .before .before .before .fill-words .ensures) (accepts told) in
     (o, opened-exactly modulus-prime _ everything o)
 
 judge-opening-requires : tie.Need-judge-opening-requires
@@ -66,8 +66,8 @@ enum-told c = search needs
 mul-size : tie.Need-mul-size
 mul-size c = record { fits = omega (arith, square-small _ (fits c .0 .lent .size)) }
 
-clear-requires : tie.Need-clear-requires
-clear-requires c κs = fits (c .before) .1
+fill-words-requires : tie.Need-fill-words-requires
+fill-words-requires c κs = fits (c .before) .1
 
 begin-accepted-requires : tie.Need-begin-accepted-requires
 begin-accepted-requires c κs = fits (c .before .before .before .before .before .before .before) .0
@@ -75,16 +75,16 @@ begin-accepted-requires c κs = fits (c .before .before .before .before .before 
 enum-told-2 : tie.Need-enum-told-2
 enum-told-2 c = search needs
 
-clear-requires-2 : tie.Need-clear-requires-2
-clear-requires-2 c κs =
+fill-words-requires-2 : tie.Need-fill-words-requires-2
+fill-words-requires-2 c κs =
     let k = c .before .before .before .before .before .before .before .before .before in
     omega (arith, fits (k .before .before .before .before .before .before .before .before) .0 .witness-fits, k .begin-accepted .kept .1 .1 .1 .1 .1 .0)
 
 enum-known-outcome : tie.Need-enum-known-outcome
 enum-known-outcome c = search needs
 
-clear-requires-3 : tie.Need-clear-requires-3
-clear-requires-3 c κs =
+fill-words-requires-3 : tie.Need-fill-words-requires-3
+fill-words-requires-3 c κs =
     let k = c .before .before .before .before .before .before .before .before .before .before in
     omega (arith, fits (k .before .before .before .before .before .before .before .before) .0 .inverse-fits, k .begin-accepted .kept .1 .1 .1 .0)
 
@@ -102,7 +102,7 @@ same-length-4 c = search needs
 
 returns-2 : tie.Need-returns-2
 returns-2 c =
-    whole (c .before .before .before .before .before .before .before .before .before .before .before .before) (c .before .before .before .before .enum-told2 .given .1) (refl, c .before .before .clear2 .ensures)
+    whole (c .before .before .before .before .before .before .before .before .before .before .before .before) (c .before .before .before .before .enum-told2 .given .1) (refl, c .before .before .fill-words2 .ensures)
 
 same-length-5 : tie.Need-same-length-5
 same-length-5 c = search needs
@@ -118,7 +118,7 @@ same-length-8 c = search needs
 
 returns-3 : tie.Need-returns-3
 returns-3 c =
-    whole (c .before .before .before .before .before .before .before .before .before .before .before .before .before) (c .before .before .before .before .before .outcome .given .1) (c .before .before .clear3 .ensures, refl)
+    whole (c .before .before .before .before .before .before .before .before .before .before .before .before .before) (c .before .before .before .before .before .outcome .given .1) (c .before .before .fill-words3 .ensures, refl)
 
 pub begin-spec : {M : Type 1} → statement M
 begin-spec =
@@ -129,12 +129,12 @@ begin-spec =
     returns
     enum-told
     mul-size
-    clear-requires
+    fill-words-requires
     begin-accepted-requires
     enum-told-2
-    clear-requires-2
+    fill-words-requires-2
     enum-known-outcome
-    clear-requires-3
+    fill-words-requires-3
     same-length
     same-length-2
     same-length-3

@@ -5,19 +5,13 @@ use lib.Seq.{length-take-le}
 use Rattle.lists.specs.Part.{length-part}
 use Rattle.matching.specs.Pairs.{everything}
 use Rattle.solve.specs.Solved.{all-in}
-use Rattle.opening.specs.Begun.{filled, begun}
+use Rattle.opening.specs.Begun.{begun}
 use borrow.Author.Needs.{needs}
 use Rattle.opening.proofs.begin_accepted.Statement.{statement}
 use Rattle.opening.proofs.begin_accepted.Tie as tie
 
 mul-size : tie.Need-mul-size
 mul-size c = search needs
-
-slice-relend-prefix-fill-bytes : tie.Need-slice-relend-prefix-fill-bytes
-slice-relend-prefix-fill-bytes c = search needs
-
-slice-aggregate-fill-bytes : tie.Need-slice-aggregate-fill-bytes
-slice-aggregate-fill-bytes c = let s = c .before .before .before .before .before .before in sym (length-take-le _ (s .args .sequence .now) (s .pre .sequence-fits))
 
 fill-bytes-requires : tie.Need-fill-bytes-requires
 fill-bytes-requires c κs = search needs
@@ -59,7 +53,7 @@ returns c =
     let solved = c .before .before .before .before .before in
     let s = solved .before .before .before .before .before .before .before .before .before .before .before .before .before in
     begun _ _ (solved .solve .kept .1 .1 .1 .1 .0 ∙ length-take-le _ (s .args .inverse .now) (s .pre .inverse-fits))
-    (filled _ 255 (s .args .sequence .now) (s .pre .sequence-fits) (solved .before .before .before .before .before .before .fill-bytes .ensures))
+    (solved .before .before .before .before .before .before .fill-bytes .ensures)
     (solved .solve .kept .1 .1 .1 .1 .1 .0 ∙ length-take-le _ (s .args .witness .now) (s .pre .witness-fits))
     (solved .solve .result) (solved .solve .ensures everything (λ i l. sym (all-in (s .args .n) (s .pre .lent .size) i l)))
 
@@ -68,8 +62,6 @@ begin-accepted-spec =
     tie.close
     (tie.spec
     mul-size
-    slice-relend-prefix-fill-bytes
-    slice-aggregate-fill-bytes
     fill-bytes-requires
     array-borrow-prefix-all
     slice-aggregate-solve

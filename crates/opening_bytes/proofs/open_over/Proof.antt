@@ -57,19 +57,19 @@ begun : (at : tie.After-begin-accepted) {o : Outcome} → at .begin-accepted .re
 begun at e = rw (e, values (read (accepting at .before .before))) at (at .begin-accepted .ensures)
 
 -- what is left where one is found and stored
-whole : (k : tie.After-clear) {o : Outcome} {r : ℕ} {inverse witness : List ℕ} → k .before .before .before .before .before .before .before .before .begin-accepted .result ≡ o
+whole : (k : tie.After-fill-bytes) {o : Outcome} {r : ℕ} {inverse witness : List ℕ} → k .before .before .before .before .before .before .before .before .begin-accepted .result ≡ o
     → (let last = k .before .before .before .before .before .before .before .before .begin-accepted .last in
     let s = opened (k .before .before .before .before .before .before .before .before) in
     let a = s .args in
     r ≡ opening-number (found (a .n) o) → Stored (a .n) o (last .1 .1 .1 .0) (last .1 .1 .1 .1 .1 .0) (a .inverse .now) (a .witness .now) inverse witness
-    → HostOpens modulus (a .n) (a .adjacency .now) (a .weights .now) everything (host s) r (buffers inverse (last .1 .1 .1 .1 .0) witness (k .clear .last .0)))
+    → HostOpens modulus (a .n) (a .adjacency .now) (a .weights .now) everything (host s) r (buffers inverse (last .1 .1 .1 .1 .0) witness (k .fill-bytes .last .0)))
 whole k e numbered stored =
     let at = k .before .before .before .before .before .before .before .before in
     let s = opened at in
     let ok = sym (judged (accepting at .before .before)) ∙ ap ruling-of (accepting at .enum-told .given .1) in
     let entered = read (accepting at .before .before) .before .before in
     rw numbered
-    (host-opens (s .args .n) (s .args .adjacency .now) (s .args .weights .now) (host s) (s .pre .0) (λ x. omega (arith, entered .before .before .before .slice-known4 .given x)) (λ x. omega (arith, entered .before .slice-known6 .given x)) (λ x. omega (arith, entered .slice-known7 .given x)) ok (begun at e) stored (k .clear .ensures))
+    (host-opens (s .args .n) (s .args .adjacency .now) (s .args .weights .now) (host s) (s .pre .0) (λ x. omega (arith, entered .before .before .before .slice-known4 .given x)) (λ x. omega (arith, entered .before .slice-known6 .given x)) (λ x. omega (arith, entered .slice-known7 .given x)) ok (begun at e) stored (k .fill-bytes .ensures))
 
 unpack-requires : tie.Need-unpack-requires
 unpack-requires c κs =
@@ -112,14 +112,14 @@ begin-accepted-requires c κs =
     rw (values at)
     (words-ready (s .args .n) (s .args .adjacency .now) (s .args .weights .now) (host s) (s .pre .0) (s .pre .1 .cells) (s .pre .1 .vertices))
 
-mul-clear : tie.Need-mul-clear
-mul-clear c = search needs
+mul-fill-bytes : tie.Need-mul-fill-bytes
+mul-fill-bytes c = search needs
 
-mul-clear-2 : tie.Need-mul-clear-2
-mul-clear-2 c = search needs
+mul-fill-bytes-2 : tie.Need-mul-fill-bytes-2
+mul-fill-bytes-2 c = search needs
 
-clear-requires : tie.Need-clear-requires
-clear-requires c κs =
+fill-bytes-requires : tie.Need-fill-bytes-requires
+fill-bytes-requires c κs =
     let s = opened (c .before .before .before .before .before .before .before) in
     work-fits (s .args .n) (s .args .adjacency .now) (s .args .weights .now) (host s) (s .pre .0)
 
@@ -206,9 +206,9 @@ open-over-spec =
     returns
     enum-told
     begin-accepted-requires
-    mul-clear
-    mul-clear-2
-    clear-requires
+    mul-fill-bytes
+    mul-fill-bytes-2
+    fill-bytes-requires
     enum-told-2
     store-inverse-requires
     enum-known-outcome

@@ -1,5 +1,8 @@
 -- `sequence::formed` meets its contract: each return is one of the cases of the check. Assumes nothing.
+use mathlib.Core.List.{append-nil}
+use Prim.Native.Nat.{ℕ, _≤_}
 use native.Mathlib.Omega.{arith}
+use lib.ListN.{length, replicate, drop-of-length-le}
 use borrow.Author.Needs.{needs}
 use Rattle.sequence.specs.Formed.{not-true, not-false, left-start, too-many, out-of-order, by-rest}
 use Rattle.sequence.proofs.formed.Statement.{statement}
@@ -15,7 +18,8 @@ take-pairs-requires : tie.Need-take-pairs-requires
 take-pairs-requires c κs =
     let start = c .before .before .before .before .before .before .before .before .before in
     let marked = c .before .before .before .fill-bytes .ensures in
-    (start .pre .0, omega arith, start .pre .1, rw (marked, start .pre .2) (left-start _ _))
+    let h : length (start .args .marks .now) ≤ start .args .n = omega arith in
+    (start .pre .0, omega arith, start .pre .1, rw (marked, drop-of-length-le, append-nil {A = ℕ} (replicate (start .args .n) 1)) (left-start _ _))
 
 same-length : tie.Need-same-length
 same-length c = search needs
