@@ -16,6 +16,7 @@
 #include <inttypes.h>
 #include <signal.h>
 #include <string.h>
+#include <termios.h>
 #include <unistd.h>
 
 static struct session session;
@@ -57,12 +58,25 @@ static int is_name(const struct word *word)
     return 0;
 }
 
-/* Explains and logs a call that was made; whether it was accepted. */
+/* Sees to it that the boxes of a person are in a log: where they are in none, or
+   in one that takes no more, in one that nobody has asked for. That there can be
+   no such log is told once. */
+static void keep_boxes(int in_log)
+{
+    static int failed;
+    if (in_log)
+        failed = 0;
+    else if (person && session.made > 0)
+        failed = !log_begin_unasked(&calls_log, &session, !failed);
+    session.logged = calls_log.fd >= 0 && !calls_log.unasked;
+}
+
+/* Logs a call that was made, and then explains it; whether it was accepted. */
 static int finish(uint64_t kind, uint64_t a, uint64_t b, uint64_t number)
 {
     const struct call call = {kind, a, b};
+    keep_boxes(log_call(&calls_log, &call, number));
     explain_call(&session, &call, number);
-    log_call(&calls_log, &call, number);
     return saszvigom_cause_of(number) == SASZVIGOM_NO_CAUSE;
 }
 
@@ -186,6 +200,24 @@ static void do_log(const struct word *words)
         printf("  log: boxes made so far %u, and each call from now on\n", session.made);
 }
 
+static struct call call_of(const struct calls *calls, size_t i)
+{
+    const uint64_t *const numbers = calls->numbers + SASZVIGOM_NUMBERS_A_CALL * i;
+    const struct call call = {numbers[0], numbers[1], numbers[2]};
+    return call;
+}
+
+/* Logs the calls of a list that was made. */
+static void log_calls(const struct calls *calls, const uint64_t *answers)
+{
+    int in_log = 1;
+    for (size_t i = 0; i < calls->count && in_log; i++) {
+        const struct call call = call_of(calls, i);
+        in_log = log_call(&calls_log, &call, answers[i]);
+    }
+    keep_boxes(in_log);
+}
+
 /* Says what each call of a list returned; how many answers are not as in the
    file. */
 static unsigned explain_calls(const struct calls *calls, const uint64_t *answers)
@@ -193,12 +225,10 @@ static unsigned explain_calls(const struct calls *calls, const uint64_t *answers
     unsigned others = 0;
     char text[CALL_BYTES];
     for (size_t i = 0; i < calls->count; i++) {
-        const uint64_t *const numbers = calls->numbers + SASZVIGOM_NUMBERS_A_CALL * i;
-        const struct call call = {numbers[0], numbers[1], numbers[2]};
+        const struct call call = call_of(calls, i);
         call_text(text, &call);
         printf("  %-12s%s", text, strlen(text) < 12 ? "" : "\n              ");
         explain_briefly(&call, answers[i]);
-        log_call(&calls_log, &call, answers[i]);
         if (calls->answers[i] != NO_ANSWER && calls->answers[i] != (answers[i] & UINT32_MAX)) {
             printf("              not as in the file, which has: ");
             print_answer(calls->answers[i], call.kind == SASZVIGOM_CALL_UNDO);
@@ -269,6 +299,7 @@ static void do_replay(const struct word *words)
         explain_list(&session, number, !redraw);
         return;
     }
+    log_calls(&calls, answers);
     print_comparison(&calls, explain_calls(&calls, answers));
 }
 
@@ -278,9 +309,13 @@ static void do_quit(const struct word *words)
 {
     const int logged = log_is_kept(&calls_log) && !calls_log.unasked;
     if (person && session.made > 0 && !logged && !asked) {
-        printf("  not left yet: boxes made %u, and no log is kept.\n"
-               "  what to do: keep them with log FILE; or quit once more, and they are gone.\n",
-               session.made);
+        printf("  not left yet: boxes made %u, and no log is kept.\n", session.made);
+        if (words == NULL && calls_log.fd >= 0)
+            printf("  what to do: log FILE keeps them; left again, they stay in %s.\n",
+                   calls_log.name);
+        else
+            printf("  what to do: keep them with log FILE; or quit once more, and they are gone.\n");
+        tcflush(STDIN_FILENO, TCIFLUSH); /* what was typed before this could be read */
         asked = 1;
         return;
     }
@@ -398,6 +433,7 @@ static void carry_out(struct line *line)
 {
     struct word words[MOST_WORDS];
     const size_t count = split(line, words);
+    session.logged = calls_log.fd >= 0 && !calls_log.unasked;
     if (line->cut) {
         asked = 0;
         printf("  not understood: a line has at most %u bytes.\n", (unsigned)LINE_BYTES);
@@ -500,18 +536,6 @@ static int written(void)
     return !failed;
 }
 
-/* Sees to it that the boxes of a person are on the disk after every command, in a
-   log that nobody has asked for if there is no other: a window may be closed. */
-static void keep_boxes(void)
-{
-    static int failed;
-    if (log_is_kept(&calls_log) || session.made == 0)
-        failed = 0;
-    else if (!failed)
-        failed = !log_begin_unasked(&calls_log, &session);
-    log_sync(&calls_log);
-}
-
 /* Ends the log. One that nobody has asked for stays if it has boxes that were not
    given up. */
 static int end_log(void)
@@ -561,8 +585,10 @@ static int serve(void)
             printf("\n");
         }
         carry_out(&line);
-        if (person && !leave)
-            keep_boxes();
+        if (person && !leave) {
+            keep_boxes(log_is_kept(&calls_log));
+            log_sync(&calls_log);
+        }
     }
     printf("left with boxes made %u, sleeves loose %u\n", session.made,
            session.n - 2 * session.made);

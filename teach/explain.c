@@ -56,9 +56,10 @@ static void say_where_partners(const struct call *call)
 /* Whether the rest has a perfect matching is not known here; a person may see one. */
 static void say_other_weights(const struct session *s)
 {
-    printf("  If you see boxes for all of these: %stry other draws, such as\n"
+    printf("  If you see boxes for all of these: %s%stry other draws, such as\n"
            "  draws %u, and pick again.\n",
-           s->made > 0 ? "clear, " : "", (unsigned)(s->seed + 1u));
+           s->made > 0 && !s->logged ? "log FILE, " : "", s->made > 0 ? "clear, " : "",
+           (unsigned)(s->seed + 1u));
 }
 
 static void rest_singular(const struct session *s, const struct call *call)

@@ -37,7 +37,10 @@ static int append(struct log *log, const char *text)
             return 0;
         }
     }
+    struct stat about;
     log->written += (long long)length;
+    if (fstat(log->fd, &about) == 0)
+        log->changed = about.st_mtim;
     return 1;
 }
 
@@ -116,31 +119,54 @@ int log_begin(struct log *log, const char *name, const struct session *s)
         print_name(log->name);
         printf(" ends here.\n");
     }
+    if (log->unasked) /* it goes, so what has its boxes is to be there */
+        log_sync(&new);
     log_discard(log);
     *log = new;
     return 1;
 }
 
-/* The names of logs that nobody has asked for, from 1 to MOST_UNASKED. */
+/* The names of logs that nobody has asked for, from 1 to MOST_UNASKED, in each of
+   two folders. */
 #define MOST_UNASKED 99
-static const char *unasked_name(unsigned k)
+static const char *const unasked_folders[] = {"", "/tmp/"};
+#define UNASKED_FOLDERS (sizeof unasked_folders / sizeof unasked_folders[0])
+
+static const char *unasked_name(size_t folder, unsigned k)
 {
     static char name[32];
-    snprintf(name, sizeof name, "%sunsaved-%u.log", access(".", W_OK) == 0 ? "" : "/tmp/", k);
+    snprintf(name, sizeof name, "%sunsaved-%u.log", unasked_folders[folder], k);
     return name;
 }
 
-int log_begin_unasked(struct log *log, const struct session *s)
+/* Makes one under the first name of a folder that is free; else 0, with errno. */
+static int make_unasked(struct log *log, size_t folder, const struct session *s)
+{
+    for (unsigned k = 1; k <= MOST_UNASKED; k++) {
+        if (make(log, unasked_name(folder, k), s))
+            return 1;
+        if (errno != EEXIST)
+            return 0;
+    }
+    return 0;
+}
+
+int log_begin_unasked(struct log *log, const struct session *s, int report)
 {
     static struct log new;
-    struct stat about;
-    unsigned k = 1;
-    while (k < MOST_UNASKED && lstat(unasked_name(k), &about) == 0)
-        k++;
-    if (!make(&new, unasked_name(k), s)) {
-        print_failure("no log: cannot make", unasked_name(k), errno);
-        printf("  If the desk is stopped, the boxes are gone.\n"
-               "  what to do: keep them with log FILE, where you may write.\n");
+    size_t folder = 0;
+    int error = 0;
+    while (folder < UNASKED_FOLDERS && !make_unasked(&new, folder, s)) {
+        if (folder == 0)
+            error = errno;
+        folder++;
+    }
+    if (folder == UNASKED_FOLDERS) {
+        if (report)
+            printf("  No file can be written here: %s.\n"
+                   "  If the desk is stopped, the boxes are gone.\n"
+                   "  what to do: keep them with log FILE, where you may write.\n",
+                   strerror(error));
         return 0;
     }
     new.unasked = 1;
@@ -156,7 +182,7 @@ static FILE *open_left(const char *name)
     struct stat about;
     const int fd = open(name, O_RDONLY | O_NONBLOCK | O_NOCTTY);
     FILE *file = NULL;
-    if (fd >= 0 && fstat(fd, &about) == 0 && S_ISREG(about.st_mode) &&
+    if (fd >= 0 && fstat(fd, &about) == 0 && S_ISREG(about.st_mode) && about.st_uid == getuid() &&
         flock(fd, LOCK_SH | LOCK_NB) == 0)
         file = fdopen(fd, "r");
     if (fd >= 0 && file == NULL)
@@ -168,13 +194,14 @@ void log_name_left(void)
 {
     static struct line line;
     int any = 0;
-    for (unsigned k = 1; k <= MOST_UNASKED; k++) {
-        FILE *const file = open_left(unasked_name(k));
+    for (unsigned k = 0; k < MOST_UNASKED * UNASKED_FOLDERS; k++) {
+        const char *const name = unasked_name(k / MOST_UNASKED, k % MOST_UNASKED + 1);
+        FILE *const file = open_left(name);
         if (file == NULL)
             continue;
         any = 1;
-        printf("  A session was not ended: %s, ", unasked_name(k));
         read_line(file, &line);
+        printf("  A session was not ended: %s, ", name);
         print_word(line.text, line.length);
         printf("\n");
         fclose(file);
@@ -196,7 +223,8 @@ int log_is_kept(struct log *log)
     struct stat about;
     if (log->fd < 0)
         return 0;
-    if (fstat(log->fd, &about) == 0 && about.st_nlink > 0 && about.st_size == log->written)
+    if (fstat(log->fd, &about) == 0 && about.st_nlink > 0 && about.st_size == log->written &&
+        about.st_mtim.tv_sec == log->changed.tv_sec && about.st_mtim.tv_nsec == log->changed.tv_nsec)
         return 1;
     if (log->unasked) {
         log_end(log);
@@ -209,32 +237,37 @@ int log_is_kept(struct log *log)
     return 0;
 }
 
-void log_call(struct log *log, const struct call *call, uint64_t number)
+int log_call(struct log *log, const struct call *call, uint64_t number)
 {
     char text[LOG_LINE_BYTES], called[CALL_BYTES], answer[CALL_BYTES];
     if (!log_is_kept(log))
-        return;
+        return 0;
     if (log->count == MOST_CALLS) {
-        printf("  the log ends before this call: it has %u calls, as many as a replay takes.\n",
-               (unsigned)MOST_CALLS);
-        end_early(log, "");
-        return;
+        if (!log->unasked) {
+            printf("  the log ends before this call: it has %u calls, as many as a replay takes.\n",
+                   (unsigned)MOST_CALLS);
+            end_early(log, "");
+        }
+        return 0;
     }
     call_text(called, call);
     answer_text(answer, number, call->kind == SASZVIGOM_CALL_UNDO);
     snprintf(text, sizeof text, "%s = %s\n", called, answer);
     if (!append(log, text)) {
-        print_failure("the log ends before this call: cannot write", log->name, errno);
-        end_early(log, ", in a folder with room");
-        return;
+        if (!log->unasked) {
+            print_failure("the log ends before this call: cannot write", log->name, errno);
+            end_early(log, ", in a folder with room");
+        }
+        return 0;
     }
     log->count++;
+    return 1;
 }
 
 void log_sync(const struct log *log)
 {
-    if (log->fd >= 0)
-        fsync(log->fd);
+    if (log->fd >= 0 && fsync(log->fd) != 0)
+        print_failure("the log may not be on the disk:", log->name, errno);
 }
 
 int log_end(struct log *log)

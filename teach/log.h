@@ -17,17 +17,20 @@
 #include "input.h"
 #include "session.h"
 
+#include <time.h>
+
 /* The most calls of a log, and so of a replay. */
 #define MOST_CALLS 20000
 
 struct log {
-    int fd;            /* -1 if no log is kept */
-    int unasked;       /* whether nobody has asked for it */
-    long long written; /* the bytes of its whole lines */
-    size_t count;      /* its calls */
+    int fd;                  /* -1 if no log is kept */
+    int unasked;             /* whether nobody has asked for it */
+    long long written;       /* the bytes of its whole lines */
+    struct timespec changed; /* when the last of them was written */
+    size_t count;            /* its calls */
     char name[LINE_BYTES + 1];
 };
-#define NO_LOG {-1, 0, 0, 0, ""}
+#define NO_LOG {-1, 0, 0, {0, 0}, 0, ""}
 
 /* Begins a log in a new file, in place of the one that was kept: the graph, and
    the pairs made so far as picks. A failure is reported, and the log that was
@@ -35,23 +38,24 @@ struct log {
 int log_begin(struct log *log, const char *name, const struct session *s);
 
 /* Begins one that nobody has asked for, under the first name that is free:
-   unsaved-1.log, unsaved-2.log and so on, in this folder or, where that cannot be
-   written, in /tmp. */
-int log_begin_unasked(struct log *log, const struct session *s);
+   unsaved-1.log, unsaved-2.log and so on, in this folder or, where that fails, in
+   /tmp. A failure is reported if it is to be. */
+int log_begin_unasked(struct log *log, const struct session *s, int report);
 
-/* Names such files that sessions have left which were not ended; not those that
-   another desk is keeping. */
+/* Names such files of this user that sessions have left which were not ended; not
+   those that another desk is keeping. */
 void log_name_left(void);
 
-/* Writes a call with the number that it returned, if a log is kept. A failure,
-   and a log that is full, is reported, and ends the log. */
-void log_call(struct log *log, const struct call *call, uint64_t number);
+/* Writes a call with the number that it returned; whether it is in a log that is
+   kept. A failure, and a log that is full, is reported, and ends a log that was
+   asked for. */
+int log_call(struct log *log, const struct call *call, uint64_t number);
 
 /* Whether a log is kept. One whose file was removed or changed by someone else is
    ended, which is reported if the log was asked for. */
 int log_is_kept(struct log *log);
 
-/* Has the log, if one is kept, brought to the disk, as far as it can be. */
+/* Has the log, if one is kept, brought to the disk; a failure is reported. */
 void log_sync(const struct log *log);
 
 /* Ends the log, if one is kept; 0 if it may not be whole, which is reported. */

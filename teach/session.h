@@ -12,6 +12,7 @@ struct session {
     unsigned edges;
     uint32_t seed; /* of the weights */
     int opened;    /* else the graph is singular with these weights */
+    int logged;    /* whether the pairs are in a log that was asked for */
 };
 
 /* A call as it stands in a list of saszvigom_replay; row is not in such a list. */
