@@ -56,7 +56,7 @@ static inline const char *saszvigom_cause_text(enum saszvigom_cause cause,
     case SASZVIGOM_NOT_ADJACENT:
         return "the two vertices are not adjacent";
     case SASZVIGOM_REST_SINGULAR:
-        return "the vertices left unmatched would have no inverse";
+        return "the vertices left unmatched would have no inverse with these weights";
     case SASZVIGOM_NOTHING_LEFT:
         return "no vertex is left to match, or no pair to undo";
     case SASZVIGOM_CALL_UNKNOWN: /* and SASZVIGOM_RECORD_NOT_DUE */

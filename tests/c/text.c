@@ -61,7 +61,7 @@ static const char *const causes[] = {
     "there is no such vertex, or both vertices are the same",
     "a vertex is matched already",
     "the two vertices are not adjacent",
-    "the vertices left unmatched would have no inverse",
+    "the vertices left unmatched would have no inverse with these weights",
     "no vertex is left to match, or no pair to undo",
 };
 
@@ -295,7 +295,7 @@ static const struct {
     {7, 4, CALL, "refused: there is no such vertex, or both vertices are the same (cause 7)"},
     {8, 4, CALL, "refused: a vertex is matched already (cause 8)"},
     {9, 4, CALL, "refused: the two vertices are not adjacent (cause 9)"},
-    {10, 4, CALL, "refused: the vertices left unmatched would have no inverse (cause 10)"},
+    {10, 4, CALL, "refused: the vertices left unmatched would have no inverse with these weights (cause 10)"},
     {11, 4, CALL, "refused: no vertex is left to match, or no pair to undo (cause 11)"},
     {0x1000C, 4, LIST, "refused: a call of the list is of no known kind (cause 12 at 1)"},
     {0xFFFF000C, 4, LIST,
