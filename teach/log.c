@@ -21,6 +21,14 @@ static void print_failure(const char *what, const char *name, int error)
     printf(": %s\n", strerror(error));
 }
 
+/* Goes on with a checksum. */
+static uint64_t add_bytes(uint64_t sum, const char *bytes, size_t length)
+{
+    for (size_t i = 0; i < length; i++)
+        sum = (sum ^ (unsigned char)bytes[i]) * 1099511628211u;
+    return sum;
+}
+
 /* Appends a text to a log, whole or not at all; else 0, with errno. */
 static int append(struct log *log, const char *text)
 {
@@ -31,16 +39,15 @@ static int append(struct log *log, const char *text)
             done += (size_t)count;
         } else if (count == 0 || errno != EINTR) {
             const int error = count == 0 ? EIO : errno;
-            if (ftruncate(log->fd, (off_t)log->written) != 0)
+            if (ftruncate(log->fd, (off_t)log->written) != 0 ||
+                lseek(log->fd, (off_t)log->written, SEEK_SET) < 0)
                 printf("  The last line of the log may be cut.\n");
             errno = error;
             return 0;
         }
     }
-    struct stat about;
     log->written += (long long)length;
-    if (fstat(log->fd, &about) == 0)
-        log->changed = about.st_mtim;
+    log->sum = add_bytes(log->sum, text, length);
     return 1;
 }
 
@@ -88,7 +95,7 @@ static int append_session(struct log *log, const struct session *s)
 static int make(struct log *log, const char *name, const struct session *s)
 {
     *log = (struct log)NO_LOG;
-    log->fd = open(name, O_WRONLY | O_CREAT | O_EXCL | O_NOCTTY, 0666);
+    log->fd = open(name, O_RDWR | O_CREAT | O_EXCL | O_NOCTTY, 0666);
     if (log->fd < 0)
         return 0;
     if (!append_session(log, s)) {
@@ -218,29 +225,51 @@ static void end_early(struct log *log, const char *where)
     log_end(log);
 }
 
-int log_is_kept(struct log *log)
+/* Whether the file of a log has a name, and the length that was written. */
+static int is_there(const struct log *log)
 {
     struct stat about;
-    if (log->fd < 0)
-        return 0;
-    if (fstat(log->fd, &about) == 0 && about.st_nlink > 0 && about.st_size == log->written &&
-        about.st_mtim.tv_sec == log->changed.tv_sec && about.st_mtim.tv_nsec == log->changed.tv_nsec)
-        return 1;
+    return log->fd >= 0 && fstat(log->fd, &about) == 0 && about.st_nlink > 0 &&
+           about.st_size == log->written;
+}
+
+/* Whether it has the bytes that were written. */
+static int is_whole(const struct log *log)
+{
+    char bytes[LINE_BYTES];
+    uint64_t sum = 0;
+    ssize_t count;
+    for (off_t at = 0; (count = pread(log->fd, bytes, sizeof bytes, at)) > 0; at += count)
+        sum = add_bytes(sum, bytes, (size_t)count);
+    return count == 0 && sum == log->sum;
+}
+
+/* Ends a log whose file someone else has removed or changed. */
+static void end_spoiled(struct log *log)
+{
     if (log->unasked) {
         log_end(log);
-        return 0;
+        return;
     }
     printf("  the log was removed or changed by someone else: ");
     print_name(log->name);
     printf("\n");
     end_early(log, "");
-    return 0;
+}
+
+int log_is_kept(struct log *log)
+{
+    if (log->fd >= 0 && !(is_there(log) && is_whole(log)))
+        end_spoiled(log);
+    return log->fd >= 0 && !(log->unasked && log->count == MOST_CALLS);
 }
 
 int log_call(struct log *log, const struct call *call, uint64_t number)
 {
     char text[LOG_LINE_BYTES], called[CALL_BYTES], answer[CALL_BYTES];
-    if (!log_is_kept(log))
+    if (log->fd >= 0 && !is_there(log))
+        end_spoiled(log);
+    if (log->fd < 0)
         return 0;
     if (log->count == MOST_CALLS) {
         if (!log->unasked) {
@@ -254,7 +283,9 @@ int log_call(struct log *log, const struct call *call, uint64_t number)
     answer_text(answer, number, call->kind == SASZVIGOM_CALL_UNDO);
     snprintf(text, sizeof text, "%s = %s\n", called, answer);
     if (!append(log, text)) {
-        if (!log->unasked) {
+        if (log->unasked) {
+            log->count = MOST_CALLS; /* it lacks a call, and takes no more */
+        } else {
             print_failure("the log ends before this call: cannot write", log->name, errno);
             end_early(log, ", in a folder with room");
         }

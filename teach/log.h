@@ -17,20 +17,18 @@
 #include "input.h"
 #include "session.h"
 
-#include <time.h>
-
 /* The most calls of a log, and so of a replay. */
 #define MOST_CALLS 20000
 
 struct log {
-    int fd;                  /* -1 if no log is kept */
-    int unasked;             /* whether nobody has asked for it */
-    long long written;       /* the bytes of its whole lines */
-    struct timespec changed; /* when the last of them was written */
-    size_t count;            /* its calls */
+    int fd;            /* -1 if no log is kept */
+    int unasked;       /* whether nobody has asked for it */
+    long long written; /* the bytes of its whole lines */
+    uint64_t sum;      /* a checksum of these */
+    size_t count;      /* its calls */
     char name[LINE_BYTES + 1];
 };
-#define NO_LOG {-1, 0, 0, {0, 0}, 0, ""}
+#define NO_LOG {-1, 0, 0, 0, 0, ""}
 
 /* Begins a log in a new file, in place of the one that was kept: the graph, and
    the pairs made so far as picks. A failure is reported, and the log that was
@@ -51,8 +49,9 @@ void log_name_left(void);
    asked for. */
 int log_call(struct log *log, const struct call *call, uint64_t number);
 
-/* Whether a log is kept. One whose file was removed or changed by someone else is
-   ended, which is reported if the log was asked for. */
+/* Whether a log is kept that has every call. One whose file someone else has
+   removed or changed, for which the file is read, is ended; that is reported if
+   the log was asked for. */
 int log_is_kept(struct log *log);
 
 /* Has the log, if one is kept, brought to the disk; a failure is reported. */
