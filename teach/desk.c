@@ -17,6 +17,7 @@
 #include <signal.h>
 #include <string.h>
 #include <termios.h>
+#include <time.h>
 #include <unistd.h>
 
 static struct session session;
@@ -303,6 +304,15 @@ static void do_replay(const struct word *words)
     print_comparison(&calls, explain_calls(&calls, answers));
 }
 
+/* Drops what was typed or pasted before the last answer could be read. */
+static void drop_typed(void)
+{
+    const struct timespec moment = {0, 200000000};
+    fflush(stdout);
+    nanosleep(&moment, NULL);
+    tcflush(STDIN_FILENO, TCIFLUSH);
+}
+
 /* Leaves, by the command or, without words, at the end of input; but a person is
    asked first where the pairs are in no log that was asked for. */
 static void do_quit(const struct word *words)
@@ -315,7 +325,7 @@ static void do_quit(const struct word *words)
                    calls_log.name);
         else
             printf("  what to do: keep them with log FILE; or quit once more, and they are gone.\n");
-        tcflush(STDIN_FILENO, TCIFLUSH); /* what was typed before this could be read */
+        drop_typed();
         asked = 1;
         return;
     }

@@ -134,20 +134,24 @@ int log_begin(struct log *log, const char *name, const struct session *s)
 }
 
 /* The names of logs that nobody has asked for, from 1 to MOST_UNASKED, in each of
-   two folders. */
+   two folders: this one, and the one for temporary files. */
 #define MOST_UNASKED 99
-static const char *const unasked_folders[] = {"", "/tmp/"};
-#define UNASKED_FOLDERS (sizeof unasked_folders / sizeof unasked_folders[0])
+#define UNASKED_FOLDERS 2
 
-static const char *unasked_name(size_t folder, unsigned k)
+static const char *unasked_name(unsigned folder, unsigned k)
 {
-    static char name[32];
-    snprintf(name, sizeof name, "%sunsaved-%u.log", unasked_folders[folder], k);
+    static char name[LINE_BYTES + 1];
+    const char *const temporary = getenv("TMPDIR");
+    if (folder == 0)
+        snprintf(name, sizeof name, "unsaved-%u.log", k);
+    else
+        snprintf(name, sizeof name, "%s/unsaved-%u.log",
+                 temporary != NULL && temporary[0] == '/' ? temporary : "/tmp", k);
     return name;
 }
 
 /* Makes one under the first name of a folder that is free; else 0, with errno. */
-static int make_unasked(struct log *log, size_t folder, const struct session *s)
+static int make_unasked(struct log *log, unsigned folder, const struct session *s)
 {
     for (unsigned k = 1; k <= MOST_UNASKED; k++) {
         if (make(log, unasked_name(folder, k), s))
@@ -161,7 +165,7 @@ static int make_unasked(struct log *log, size_t folder, const struct session *s)
 int log_begin_unasked(struct log *log, const struct session *s, int report)
 {
     static struct log new;
-    size_t folder = 0;
+    unsigned folder = 0;
     int error = 0;
     while (folder < UNASKED_FOLDERS && !make_unasked(&new, folder, s)) {
         if (folder == 0)

@@ -37,7 +37,8 @@ int log_begin(struct log *log, const char *name, const struct session *s);
 
 /* Begins one that nobody has asked for, under the first name that is free:
    unsaved-1.log, unsaved-2.log and so on, in this folder or, where that fails, in
-   /tmp. A failure is reported if it is to be. */
+   the one for temporary files, TMPDIR or else /tmp. A failure is reported if it is
+   to be. */
 int log_begin_unasked(struct log *log, const struct session *s, int report);
 
 /* Names such files of this user that sessions have left which were not ended; not
