@@ -34,7 +34,9 @@ fn call(
     inverse: &mut [u16],
     sequence: &mut [u8],
 ) -> Returned
-    ensures { λ r. ⌜ Handles modulus-prime everything (state (session .size) (session .made) (now (adjacency .entry)) (now (weights .entry)) (now (inverse .entry)) (now (sequence .entry))) (call-of request) (answer-of (r .answer)) (state (r .session .size) (r .session .made) (now (adjacency .entry)) (now (weights .entry)) (now (inverse .exit)) (now (sequence .exit))) ⌝ }
+    ensures { λ r.
+        let before = state (session .size) (session .made) (now (adjacency .entry)) (now (weights .entry)) (now (inverse .entry)) (now (sequence .entry)) in
+        ⌜ Handles modulus-prime everything before (call-of request) (answer-of (r .answer)) (state (r .session .size) (r .session .made) (now (adjacency .entry)) (now (weights .entry)) (now (inverse .exit)) (now (sequence .exit))) ⌝ }
 {
     match request {
         Request::Pick(a, b) => session.pick(adjacency, weights, inverse, sequence, a, b),
@@ -55,7 +57,9 @@ fn call_over(
     sequence: &mut [u8],
 ) -> u64
     requires { ⌜ 2 * length (now table) ≤ length (now inverse) ⌝ }
-    ensures { λ r. ⌜ HandlesOver (state n made (now (adjacency .entry)) (now (weights .entry)) (now (table .entry)) (now (sequence .entry))) (call-of request) (now (inverse .entry)) r (now (inverse .exit)) (now (sequence .exit)) ⌝ }
+    ensures { λ r.
+        let before = state n made (now (adjacency .entry)) (now (weights .entry)) (now (table .entry)) (now (sequence .entry)) in
+        ⌜ HandlesOver before (call-of request) (now (inverse .entry)) r (now (inverse .exit)) (now (sequence .exit)) ⌝ }
 {
     let size = table.len();
     let session = Session { size: n, made };
@@ -95,7 +99,9 @@ fn call_words(
     sequence: &mut [u8],
 ) -> u64
     requires { ⌜ Fits (unpacked-state (state n made (now adjacency) (now weights) (now inverse) (now sequence))) ⌝ }
-    ensures { λ r. ⌜ HostHandles modulus-prime everything (state n made (now (adjacency .entry)) (now (weights .entry)) (now (inverse .entry)) (now (sequence .entry))) (call-of request) r (handed-back (state n made (now (adjacency .entry)) (now (weights .entry)) (now (inverse .entry)) (now (sequence .entry))) r (now (inverse .exit)) (now (sequence .exit))) ⌝ }
+    ensures { λ r.
+        let before = state n made (now (adjacency .entry)) (now (weights .entry)) (now (inverse .entry)) (now (sequence .entry)) in
+        ⌜ HostHandles modulus-prime everything before (call-of request) r (handed-back before r (now (inverse .exit)) (now (sequence .exit))) ⌝ }
 {
     let mut values = [0u16; 4560];
     let mut table = [0u16; 9216];
@@ -124,7 +130,9 @@ fn handle(
     inverse: &mut [u8],
     sequence: &mut [u8],
 ) -> u64
-    ensures { λ r. ⌜ HostHandles modulus-prime everything (state n made (now (adjacency .entry)) (now (weights .entry)) (now (inverse .entry)) (now (sequence .entry))) (call-of request) r (handed-back (state n made (now (adjacency .entry)) (now (weights .entry)) (now (inverse .entry)) (now (sequence .entry))) r (now (inverse .exit)) (now (sequence .exit))) ⌝ }
+    ensures { λ r.
+        let before = state n made (now (adjacency .entry)) (now (weights .entry)) (now (inverse .entry)) (now (sequence .entry)) in
+        ⌜ HostHandles modulus-prime everything before (call-of request) r (handed-back before r (now (inverse .exit)) (now (sequence .exit))) ⌝ }
 {
     let ruling = checks::judge_lengths(
         n,
@@ -150,7 +158,9 @@ pub fn pick(
     inverse: &mut [u8],
     sequence: &mut [u8],
 ) -> u64
-    ensures handled { λ r. ⌜ HostHandles modulus-prime everything (state n made (now (adjacency .entry)) (now (weights .entry)) (now (inverse .entry)) (now (sequence .entry))) (model.pick a b) r (handed-back (state n made (now (adjacency .entry)) (now (weights .entry)) (now (inverse .entry)) (now (sequence .entry))) r (now (inverse .exit)) (now (sequence .exit))) ⌝ }
+    ensures handled { λ r.
+        let before = state n made (now (adjacency .entry)) (now (weights .entry)) (now (inverse .entry)) (now (sequence .entry)) in
+        ⌜ HostHandles modulus-prime everything before (model.pick a b) r (handed-back before r (now (inverse .exit)) (now (sequence .exit))) ⌝ }
     ensures exactly { λ r. ⌜ HostPickedExactly modulus-prime everything (state n made (now (adjacency .entry)) (now (weights .entry)) (now (inverse .entry)) (now (sequence .entry))) a b r ⌝ }
 {
     handle(
@@ -173,7 +183,9 @@ pub fn automatic(
     inverse: &mut [u8],
     sequence: &mut [u8],
 ) -> u64
-    ensures { λ r. ⌜ HostHandles modulus-prime everything (state n made (now (adjacency .entry)) (now (weights .entry)) (now (inverse .entry)) (now (sequence .entry))) model.automatic r (handed-back (state n made (now (adjacency .entry)) (now (weights .entry)) (now (inverse .entry)) (now (sequence .entry))) r (now (inverse .exit)) (now (sequence .exit))) ⌝ }
+    ensures { λ r.
+        let before = state n made (now (adjacency .entry)) (now (weights .entry)) (now (inverse .entry)) (now (sequence .entry)) in
+        ⌜ HostHandles modulus-prime everything before model.automatic r (handed-back before r (now (inverse .exit)) (now (sequence .exit))) ⌝ }
 {
     handle(
         Request::Automatic,
@@ -195,7 +207,9 @@ pub fn undo(
     inverse: &mut [u8],
     sequence: &mut [u8],
 ) -> u64
-    ensures { λ r. ⌜ HostHandles modulus-prime everything (state n made (now (adjacency .entry)) (now (weights .entry)) (now (inverse .entry)) (now (sequence .entry))) model.undo r (handed-back (state n made (now (adjacency .entry)) (now (weights .entry)) (now (inverse .entry)) (now (sequence .entry))) r (now (inverse .exit)) (now (sequence .exit))) ⌝ }
+    ensures { λ r.
+        let before = state n made (now (adjacency .entry)) (now (weights .entry)) (now (inverse .entry)) (now (sequence .entry)) in
+        ⌜ HostHandles modulus-prime everything before model.undo r (handed-back before r (now (inverse .exit)) (now (sequence .exit))) ⌝ }
 {
     handle(
         Request::Undo,

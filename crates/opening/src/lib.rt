@@ -28,7 +28,9 @@ pub fn begin_accepted(
     witness: &mut [u16],
 ) -> Outcome
     requires { ⌜ Ready n (now adjacency) (now weights) (now inverse) (now sequence) (now witness) ⌝ }
-    ensures { λ o. ⌜ Begun (over n (now (adjacency .entry)) (now (weights .entry))) (now (inverse .entry)) (now (sequence .entry)) (now (witness .entry)) o (now (inverse .exit)) (now (sequence .exit)) (now (witness .exit)) ⌝ }
+    ensures { λ o.
+        let g = over n (now (adjacency .entry)) (now (weights .entry)) in
+        ⌜ Begun g (now (inverse .entry)) (now (sequence .entry)) (now (witness .entry)) o (now (inverse .exit)) (now (sequence .exit)) (now (witness .exit)) ⌝ }
 {
     // Every vertex is in play.
     let mut all = [1u8; 96];
@@ -54,8 +56,14 @@ pub fn begin(
     witness: &mut [u16],
     work: &mut [u16],
 ) -> Opening
-    ensures { λ o. ⌜ Opens modulus (over n (now (adjacency .entry)) (now (weights .entry))) everything (buffers (now (inverse .entry)) (now (sequence .entry)) (now (witness .entry)) (now (work .entry))) (opening-of o) (buffers (now (inverse .exit)) (now (sequence .exit)) (now (witness .exit)) (now (work .exit))) ⌝ }
-    ensures { λ o. ⌜ OpenedExactly modulus (over n (now (adjacency .entry)) (now (weights .entry))) everything (buffers (now (inverse .entry)) (now (sequence .entry)) (now (witness .entry)) (now (work .entry))) (opening-of o) ⌝ }
+    ensures { λ o.
+        let lent = buffers (now (inverse .entry)) (now (sequence .entry)) (now (witness .entry)) (now (work .entry)) in
+        let g = over n (now (adjacency .entry)) (now (weights .entry)) in
+        ⌜ Opens modulus g everything lent (opening-of o) (buffers (now (inverse .exit)) (now (sequence .exit)) (now (witness .exit)) (now (work .exit))) ⌝ }
+    ensures { λ o.
+        let lent = buffers (now (inverse .entry)) (now (sequence .entry)) (now (witness .entry)) (now (work .entry)) in
+        let g = over n (now (adjacency .entry)) (now (weights .entry)) in
+        ⌜ OpenedExactly modulus g everything lent (opening-of o) ⌝ }
 {
     let ruling = checks::judge_opening(
         n,

@@ -49,7 +49,9 @@ fn open_over(
 ) -> u64
     requires { ⌜ Fits n (now adjacency) (now weights) (buffers (now inverse) (now sequence) (now witness) (now work)) ⌝ }
     requires { ⌜ Lends n (now values) (now table) (now vector) ⌝ }
-    ensures { λ r. ⌜ HostOpens modulus n (now (adjacency .entry)) (now (weights .entry)) everything (buffers (now (inverse .entry)) (now (sequence .entry)) (now (witness .entry)) (now (work .entry))) r (buffers (now (inverse .exit)) (now (sequence .exit)) (now (witness .exit)) (now (work .exit))) ⌝ }
+    ensures { λ r.
+        let lent = buffers (now (inverse .entry)) (now (sequence .entry)) (now (witness .entry)) (now (work .entry)) in
+        ⌜ HostOpens modulus n (now (adjacency .entry)) (now (weights .entry)) everything lent r (buffers (now (inverse .exit)) (now (sequence .exit)) (now (witness .exit)) (now (work .exit))) ⌝ }
 {
     packing::unpack(weights, values);
     let ruling = checks::judge_graph(n, adjacency, values);
@@ -75,7 +77,9 @@ fn open_words(
     work: &mut [u8],
 ) -> u64
     requires { ⌜ Fits n (now adjacency) (now weights) (buffers (now inverse) (now sequence) (now witness) (now work)) ⌝ }
-    ensures { λ r. ⌜ HostOpens modulus n (now (adjacency .entry)) (now (weights .entry)) everything (buffers (now (inverse .entry)) (now (sequence .entry)) (now (witness .entry)) (now (work .entry))) r (buffers (now (inverse .exit)) (now (sequence .exit)) (now (witness .exit)) (now (work .exit))) ⌝ }
+    ensures { λ r.
+        let lent = buffers (now (inverse .entry)) (now (sequence .entry)) (now (witness .entry)) (now (work .entry)) in
+        ⌜ HostOpens modulus n (now (adjacency .entry)) (now (weights .entry)) everything lent r (buffers (now (inverse .exit)) (now (sequence .exit)) (now (witness .exit)) (now (work .exit))) ⌝ }
 {
     let count = checks::weights_needed(n);
     let size = n * n;
@@ -125,8 +129,12 @@ pub fn begin(
     witness: &mut [u8],
     work: &mut [u8],
 ) -> u64
-    ensures { λ r. ⌜ HostOpens modulus n (now (adjacency .entry)) (now (weights .entry)) everything (buffers (now (inverse .entry)) (now (sequence .entry)) (now (witness .entry)) (now (work .entry))) r (buffers (now (inverse .exit)) (now (sequence .exit)) (now (witness .exit)) (now (work .exit))) ⌝ }
-    ensures { λ r. ⌜ HostOpenedExactly modulus n (now (adjacency .entry)) (now (weights .entry)) everything (buffers (now (inverse .entry)) (now (sequence .entry)) (now (witness .entry)) (now (work .entry))) r ⌝ }
+    ensures { λ r.
+        let lent = buffers (now (inverse .entry)) (now (sequence .entry)) (now (witness .entry)) (now (work .entry)) in
+        ⌜ HostOpens modulus n (now (adjacency .entry)) (now (weights .entry)) everything lent r (buffers (now (inverse .exit)) (now (sequence .exit)) (now (witness .exit)) (now (work .exit))) ⌝ }
+    ensures { λ r.
+        let lent = buffers (now (inverse .entry)) (now (sequence .entry)) (now (witness .entry)) (now (work .entry)) in
+        ⌜ HostOpenedExactly modulus n (now (adjacency .entry)) (now (weights .entry)) everything lent r ⌝ }
 {
     let ruling = checks::judge_room(
         n,

@@ -63,7 +63,9 @@ fn run(
 ) -> usize
     requires { ⌜ Known n start (now adjacency) (now weights) (now inverse) (now sequence) (now marks) ⌝ }
     requires { ⌜ 3 * length (now answers) ≤ length (now list) ⌝ }
-    ensures { λ made. ⌜ Ran (state n start (now (adjacency .entry)) (now (weights .entry)) (now (inverse .entry)) (now (sequence .entry))) (now (list .entry)) (now (answers .entry)) (length (now (answers .entry))) (state n made (now (adjacency .entry)) (now (weights .entry)) (now (inverse .exit)) (now (sequence .exit))) (now (answers .exit)) ⌝ }
+    ensures { λ made.
+        let before = state n start (now (adjacency .entry)) (now (weights .entry)) (now (inverse .entry)) (now (sequence .entry)) in
+        ⌜ Ran before (now (list .entry)) (now (answers .entry)) (length (now (answers .entry))) (state n made (now (adjacency .entry)) (now (weights .entry)) (now (inverse .exit)) (now (sequence .exit))) (now (answers .exit)) ⌝ }
 {
     let mut made = start;
     let mut i = 0;
@@ -128,8 +130,12 @@ pub fn replay(
     list: &[u64],
     answers: &mut [u64],
 ) -> Replayed
-    ensures run { λ r. ⌜ Replays modulus-prime everything (state (session .size) (session .made) (now (adjacency .entry)) (now (weights .entry)) (now (inverse .entry)) (now (sequence .entry))) (now (list .entry)) (now (answers .entry)) (ruling-of (r .ruling)) (state (r .session .size) (r .session .made) (now (adjacency .entry)) (now (weights .entry)) (now (inverse .exit)) (now (sequence .exit))) (now (answers .exit)) ⌝ }
-    ensures demand { λ r. ⌜ DemandThreeOf modulus-prime everything (state (session .size) (session .made) (now (adjacency .entry)) (now (weights .entry)) (now (inverse .entry)) (now (sequence .entry))) (now (list .entry)) (now (answers .entry)) (state (r .session .size) (r .session .made) (now (adjacency .entry)) (now (weights .entry)) (now (inverse .exit)) (now (sequence .exit))) (now (answers .exit)) ⌝ }
+    ensures run { λ r.
+        let before = state (session .size) (session .made) (now (adjacency .entry)) (now (weights .entry)) (now (inverse .entry)) (now (sequence .entry)) in
+        ⌜ Replays modulus-prime everything before (now (list .entry)) (now (answers .entry)) (ruling-of (r .ruling)) (state (r .session .size) (r .session .made) (now (adjacency .entry)) (now (weights .entry)) (now (inverse .exit)) (now (sequence .exit))) (now (answers .exit)) ⌝ }
+    ensures demand { λ r.
+        let before = state (session .size) (session .made) (now (adjacency .entry)) (now (weights .entry)) (now (inverse .entry)) (now (sequence .entry)) in
+        ⌜ DemandThreeOf modulus-prime everything before (now (list .entry)) (now (answers .entry)) (state (r .session .size) (r .session .made) (now (adjacency .entry)) (now (weights .entry)) (now (inverse .exit)) (now (sequence .exit))) (now (answers .exit)) ⌝ }
 {
     let judged = call_list::judge(list, answers.len());
     if let Ruling::Refused(refusal) = judged {

@@ -37,7 +37,9 @@ fn replay_over(
     answers: &mut [u64],
 ) -> u64
     requires { ⌜ 2 * length (now table) ≤ length (now inverse) ⌝ }
-    ensures { λ r. ⌜ ReplaysOver (state n made (now (adjacency .entry)) (now (weights .entry)) (now (table .entry)) (now (sequence .entry))) (now (list .entry)) (now (answers .entry)) (now (inverse .entry)) r (now (inverse .exit)) (now (sequence .exit)) (now (answers .exit)) ⌝ }
+    ensures { λ r.
+        let before = state n made (now (adjacency .entry)) (now (weights .entry)) (now (table .entry)) (now (sequence .entry)) in
+        ⌜ ReplaysOver before (now (list .entry)) (now (answers .entry)) (now (inverse .entry)) r (now (inverse .exit)) (now (sequence .exit)) (now (answers .exit)) ⌝ }
 {
     let size = table.len();
     let session = Session { size: n, made };
@@ -61,7 +63,9 @@ fn replay_words(
     answers: &mut [u64],
 ) -> u64
     requires { ⌜ Fits (unpacked-state (state n made (now adjacency) (now weights) (now inverse) (now sequence))) ⌝ }
-    ensures { λ r. ⌜ HostReplays modulus-prime everything (state n made (now (adjacency .entry)) (now (weights .entry)) (now (inverse .entry)) (now (sequence .entry))) (now (list .entry)) (now (answers .entry)) r (handed-back (state n made (now (adjacency .entry)) (now (weights .entry)) (now (inverse .entry)) (now (sequence .entry))) r (now (inverse .exit)) (now (sequence .exit))) (now (answers .exit)) ⌝ }
+    ensures { λ r.
+        let before = state n made (now (adjacency .entry)) (now (weights .entry)) (now (inverse .entry)) (now (sequence .entry)) in
+        ⌜ HostReplays modulus-prime everything before (now (list .entry)) (now (answers .entry)) r (handed-back before r (now (inverse .exit)) (now (sequence .exit))) (now (answers .exit)) ⌝ }
 {
     let mut values = [0u16; 4560];
     let mut table = [0u16; 9216];
@@ -92,8 +96,12 @@ pub fn replay(
     list: &[u64],
     answers: &mut [u64],
 ) -> u64
-    ensures run { λ r. ⌜ HostReplays modulus-prime everything (state n made (now (adjacency .entry)) (now (weights .entry)) (now (inverse .entry)) (now (sequence .entry))) (now (list .entry)) (now (answers .entry)) r (handed-back (state n made (now (adjacency .entry)) (now (weights .entry)) (now (inverse .entry)) (now (sequence .entry))) r (now (inverse .exit)) (now (sequence .exit))) (now (answers .exit)) ⌝ }
-    ensures demand { λ r. ⌜ HostDemandThree modulus-prime everything (state n made (now (adjacency .entry)) (now (weights .entry)) (now (inverse .entry)) (now (sequence .entry))) (now (list .entry)) (now (answers .entry)) (handed-back (state n made (now (adjacency .entry)) (now (weights .entry)) (now (inverse .entry)) (now (sequence .entry))) r (now (inverse .exit)) (now (sequence .exit))) (now (answers .exit)) ⌝ }
+    ensures run { λ r.
+        let before = state n made (now (adjacency .entry)) (now (weights .entry)) (now (inverse .entry)) (now (sequence .entry)) in
+        ⌜ HostReplays modulus-prime everything before (now (list .entry)) (now (answers .entry)) r (handed-back before r (now (inverse .exit)) (now (sequence .exit))) (now (answers .exit)) ⌝ }
+    ensures demand { λ r.
+        let before = state n made (now (adjacency .entry)) (now (weights .entry)) (now (inverse .entry)) (now (sequence .entry)) in
+        ⌜ HostDemandThree modulus-prime everything before (now (list .entry)) (now (answers .entry)) (handed-back before r (now (inverse .exit)) (now (sequence .exit))) (now (answers .exit)) ⌝ }
 {
     let lengths = checks::judge_lengths(
         n,

@@ -40,7 +40,9 @@ fn row_words(
     row: &mut [u8],
 ) -> u64
     requires { ⌜ Fits (unpacked-state (state n made (now adjacency) (now weights) (now inverse) (now sequence))) ⌝ }
-    ensures { λ r. ⌜ HostShowsRow modulus-prime everything (state n made (now (adjacency .entry)) (now (weights .entry)) (now (inverse .entry)) (now (sequence .entry))) a (now (row .entry)) r (state n made (now (adjacency .entry)) (now (weights .entry)) (now (inverse .entry)) (now (sequence .entry))) (now (row .exit)) ⌝ }
+    ensures { λ r.
+        let before = state n made (now (adjacency .entry)) (now (weights .entry)) (now (inverse .entry)) (now (sequence .entry)) in
+        ⌜ HostShowsRow modulus-prime everything before a (now (row .entry)) r before (now (row .exit)) ⌝ }
 {
     let mut values = [0u16; 4560];
     let mut table = [0u16; 9216];
@@ -70,7 +72,9 @@ pub fn row(
     sequence: &[u8],
     row: &mut [u8],
 ) -> u64
-    ensures { λ r. ⌜ HostShowsRow modulus-prime everything (state n made (now (adjacency .entry)) (now (weights .entry)) (now (inverse .entry)) (now (sequence .entry))) a (now (row .entry)) r (state n made (now (adjacency .entry)) (now (weights .entry)) (now (inverse .entry)) (now (sequence .entry))) (now (row .exit)) ⌝ }
+    ensures { λ r.
+        let before = state n made (now (adjacency .entry)) (now (weights .entry)) (now (inverse .entry)) (now (sequence .entry)) in
+        ⌜ HostShowsRow modulus-prime everything before a (now (row .entry)) r before (now (row .exit)) ⌝ }
 {
     let lengths = checks::judge_lengths(
         n,

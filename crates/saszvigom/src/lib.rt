@@ -29,8 +29,12 @@ pub extern "C" fn saszvigom_open(
     witness: &mut [u8],
     work: &mut [u8],
 ) -> u64
-    ensures { λ r. ⌜ HostOpens modulus n (now (adjacency .entry)) (now (weights .entry)) everything (buffers (now (inverse .entry)) (now (sequence .entry)) (now (witness .entry)) (now (work .entry))) r (buffers (now (inverse .exit)) (now (sequence .exit)) (now (witness .exit)) (now (work .exit))) ⌝ }
-    ensures { λ r. ⌜ HostOpenedExactly modulus n (now (adjacency .entry)) (now (weights .entry)) everything (buffers (now (inverse .entry)) (now (sequence .entry)) (now (witness .entry)) (now (work .entry))) r ⌝ }
+    ensures { λ r.
+        let lent = buffers (now (inverse .entry)) (now (sequence .entry)) (now (witness .entry)) (now (work .entry)) in
+        ⌜ HostOpens modulus n (now (adjacency .entry)) (now (weights .entry)) everything lent r (buffers (now (inverse .exit)) (now (sequence .exit)) (now (witness .exit)) (now (work .exit))) ⌝ }
+    ensures { λ r.
+        let lent = buffers (now (inverse .entry)) (now (sequence .entry)) (now (witness .entry)) (now (work .entry)) in
+        ⌜ HostOpenedExactly modulus n (now (adjacency .entry)) (now (weights .entry)) everything lent r ⌝ }
 {
     opening_bytes::begin(
         n as usize,
@@ -55,7 +59,9 @@ pub extern "C" fn saszvigom_pick(
     inverse: &mut [u8],
     sequence: &mut [u8],
 ) -> u64
-    ensures handled { λ r. ⌜ HostHandles modulus-prime everything (state n made (now (adjacency .entry)) (now (weights .entry)) (now (inverse .entry)) (now (sequence .entry))) (pick a b) r (handed-back (state n made (now (adjacency .entry)) (now (weights .entry)) (now (inverse .entry)) (now (sequence .entry))) r (now (inverse .exit)) (now (sequence .exit))) ⌝ }
+    ensures handled { λ r.
+        let before = state n made (now (adjacency .entry)) (now (weights .entry)) (now (inverse .entry)) (now (sequence .entry)) in
+        ⌜ HostHandles modulus-prime everything before (pick a b) r (handed-back before r (now (inverse .exit)) (now (sequence .exit))) ⌝ }
     ensures exactly { λ r. ⌜ HostPickedExactly modulus-prime everything (state n made (now (adjacency .entry)) (now (weights .entry)) (now (inverse .entry)) (now (sequence .entry))) a b r ⌝ }
 {
     crossing::pick(
@@ -80,7 +86,9 @@ pub extern "C" fn saszvigom_automatic(
     inverse: &mut [u8],
     sequence: &mut [u8],
 ) -> u64
-    ensures { λ r. ⌜ HostHandles modulus-prime everything (state n made (now (adjacency .entry)) (now (weights .entry)) (now (inverse .entry)) (now (sequence .entry))) automatic r (handed-back (state n made (now (adjacency .entry)) (now (weights .entry)) (now (inverse .entry)) (now (sequence .entry))) r (now (inverse .exit)) (now (sequence .exit))) ⌝ }
+    ensures { λ r.
+        let before = state n made (now (adjacency .entry)) (now (weights .entry)) (now (inverse .entry)) (now (sequence .entry)) in
+        ⌜ HostHandles modulus-prime everything before automatic r (handed-back before r (now (inverse .exit)) (now (sequence .exit))) ⌝ }
 {
     crossing::automatic(
         n as usize,
@@ -102,7 +110,9 @@ pub extern "C" fn saszvigom_undo(
     inverse: &mut [u8],
     sequence: &mut [u8],
 ) -> u64
-    ensures { λ r. ⌜ HostHandles modulus-prime everything (state n made (now (adjacency .entry)) (now (weights .entry)) (now (inverse .entry)) (now (sequence .entry))) undo r (handed-back (state n made (now (adjacency .entry)) (now (weights .entry)) (now (inverse .entry)) (now (sequence .entry))) r (now (inverse .exit)) (now (sequence .exit))) ⌝ }
+    ensures { λ r.
+        let before = state n made (now (adjacency .entry)) (now (weights .entry)) (now (inverse .entry)) (now (sequence .entry)) in
+        ⌜ HostHandles modulus-prime everything before undo r (handed-back before r (now (inverse .exit)) (now (sequence .exit))) ⌝ }
 {
     crossing::undo(
         n as usize,
@@ -126,7 +136,9 @@ pub extern "C" fn saszvigom_row(
     sequence: &[u8],
     row: &mut [u8],
 ) -> u64
-    ensures { λ r. ⌜ HostShowsRow modulus-prime everything (state n made (now (adjacency .entry)) (now (weights .entry)) (now (inverse .entry)) (now (sequence .entry))) a (now (row .entry)) r (state n made (now (adjacency .entry)) (now (weights .entry)) (now (inverse .entry)) (now (sequence .entry))) (now (row .exit)) ⌝ }
+    ensures { λ r.
+        let before = state n made (now (adjacency .entry)) (now (weights .entry)) (now (inverse .entry)) (now (sequence .entry)) in
+        ⌜ HostShowsRow modulus-prime everything before a (now (row .entry)) r before (now (row .exit)) ⌝ }
 {
     row_bytes::row(
         n as usize,
@@ -152,8 +164,12 @@ pub extern "C" fn saszvigom_replay(
     calls: &[u64],
     answers: &mut [u64],
 ) -> u64
-    ensures run { λ r. ⌜ HostReplays modulus-prime everything (state n made (now (adjacency .entry)) (now (weights .entry)) (now (inverse .entry)) (now (sequence .entry))) (now (calls .entry)) (now (answers .entry)) r (handed-back (state n made (now (adjacency .entry)) (now (weights .entry)) (now (inverse .entry)) (now (sequence .entry))) r (now (inverse .exit)) (now (sequence .exit))) (now (answers .exit)) ⌝ }
-    ensures demand { λ r. ⌜ HostDemandThree modulus-prime everything (state n made (now (adjacency .entry)) (now (weights .entry)) (now (inverse .entry)) (now (sequence .entry))) (now (calls .entry)) (now (answers .entry)) (handed-back (state n made (now (adjacency .entry)) (now (weights .entry)) (now (inverse .entry)) (now (sequence .entry))) r (now (inverse .exit)) (now (sequence .exit))) (now (answers .exit)) ⌝ }
+    ensures run { λ r.
+        let before = state n made (now (adjacency .entry)) (now (weights .entry)) (now (inverse .entry)) (now (sequence .entry)) in
+        ⌜ HostReplays modulus-prime everything before (now (calls .entry)) (now (answers .entry)) r (handed-back before r (now (inverse .exit)) (now (sequence .exit))) (now (answers .exit)) ⌝ }
+    ensures demand { λ r.
+        let before = state n made (now (adjacency .entry)) (now (weights .entry)) (now (inverse .entry)) (now (sequence .entry)) in
+        ⌜ HostDemandThree modulus-prime everything before (now (calls .entry)) (now (answers .entry)) (handed-back before r (now (inverse .exit)) (now (sequence .exit))) (now (answers .exit)) ⌝ }
 {
     replay_bytes::replay(
         n as usize,

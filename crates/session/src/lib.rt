@@ -40,8 +40,12 @@ impl Session {
         a: usize,
         b: usize,
     ) -> Returned
-        ensures handled { λ r. ⌜ Handles modulus-prime everything (state (self .size) (self .made) (now (adjacency .entry)) (now (weights .entry)) (now (inverse .entry)) (now (sequence .entry))) (pick a b) (answer-of (r .answer)) (state (r .session .size) (r .session .made) (now (adjacency .entry)) (now (weights .entry)) (now (inverse .exit)) (now (sequence .exit))) ⌝ }
-        ensures exactly { λ r. ⌜ PickedExactly modulus-prime everything (state (self .size) (self .made) (now (adjacency .entry)) (now (weights .entry)) (now (inverse .entry)) (now (sequence .entry))) a b (answer-of (r .answer)) ⌝ }
+        ensures handled { λ r.
+            let before = state (self .size) (self .made) (now (adjacency .entry)) (now (weights .entry)) (now (inverse .entry)) (now (sequence .entry)) in
+            ⌜ Handles modulus-prime everything before (pick a b) (answer-of (r .answer)) (state (r .session .size) (r .session .made) (now (adjacency .entry)) (now (weights .entry)) (now (inverse .exit)) (now (sequence .exit))) ⌝ }
+        ensures exactly { λ r.
+            let before = state (self .size) (self .made) (now (adjacency .entry)) (now (weights .entry)) (now (inverse .entry)) (now (sequence .entry)) in
+            ⌜ PickedExactly modulus-prime everything before a b (answer-of (r .answer)) ⌝ }
     {
         let n = self.size;
         let made = self.made;
@@ -70,7 +74,9 @@ impl Session {
         inverse: &mut [u16],
         sequence: &mut [u8],
     ) -> Returned
-        ensures { λ r. ⌜ Handles modulus-prime everything (state (self .size) (self .made) (now (adjacency .entry)) (now (weights .entry)) (now (inverse .entry)) (now (sequence .entry))) automatic (answer-of (r .answer)) (state (r .session .size) (r .session .made) (now (adjacency .entry)) (now (weights .entry)) (now (inverse .exit)) (now (sequence .exit))) ⌝ }
+        ensures { λ r.
+            let before = state (self .size) (self .made) (now (adjacency .entry)) (now (weights .entry)) (now (inverse .entry)) (now (sequence .entry)) in
+            ⌜ Handles modulus-prime everything before automatic (answer-of (r .answer)) (state (r .session .size) (r .session .made) (now (adjacency .entry)) (now (weights .entry)) (now (inverse .exit)) (now (sequence .exit))) ⌝ }
     {
         let n = self.size;
         let made = self.made;
@@ -99,7 +105,9 @@ impl Session {
         inverse: &mut [u16],
         sequence: &mut [u8],
     ) -> Returned
-        ensures { λ r. ⌜ Handles modulus-prime everything (state (self .size) (self .made) (now (adjacency .entry)) (now (weights .entry)) (now (inverse .entry)) (now (sequence .entry))) undo (answer-of (r .answer)) (state (r .session .size) (r .session .made) (now (adjacency .entry)) (now (weights .entry)) (now (inverse .exit)) (now (sequence .exit))) ⌝ }
+        ensures { λ r.
+            let before = state (self .size) (self .made) (now (adjacency .entry)) (now (weights .entry)) (now (inverse .entry)) (now (sequence .entry)) in
+            ⌜ Handles modulus-prime everything before undo (answer-of (r .answer)) (state (r .session .size) (r .session .made) (now (adjacency .entry)) (now (weights .entry)) (now (inverse .exit)) (now (sequence .exit))) ⌝ }
     {
         let n = self.size;
         let made = self.made;
@@ -138,7 +146,9 @@ impl Session {
         a: usize,
         row: &mut [u8],
     ) -> Shown
-        ensures { λ r. ⌜ ShowsRow modulus-prime everything (state (self .size) (self .made) (now (adjacency .entry)) (now (weights .entry)) (now (inverse .entry)) (now (sequence .entry))) a (now (row .entry)) (ruling-of (r .ruling)) (state (r .session .size) (r .session .made) (now (adjacency .entry)) (now (weights .entry)) (now (inverse .entry)) (now (sequence .entry))) (now (row .exit)) ⌝ }
+        ensures { λ r.
+            let before = state (self .size) (self .made) (now (adjacency .entry)) (now (weights .entry)) (now (inverse .entry)) (now (sequence .entry)) in
+            ⌜ ShowsRow modulus-prime everything before a (now (row .entry)) (ruling-of (r .ruling)) (state (r .session .size) (r .session .made) (now (adjacency .entry)) (now (weights .entry)) (now (inverse .entry)) (now (sequence .entry))) (now (row .exit)) ⌝ }
     {
         let n = self.size;
         let made = self.made;
