@@ -13,7 +13,7 @@ use Rattle.matching.specs.Graph.{Graph, over, tutte}
 use Rattle.matching.specs.Pairs.{Pair, Pairs, pair-of, everything, unmatched, pairs-on}
 use Rattle.matching.specs.Pairs as spelling
 use Rattle.matching.specs.Session.{State, with-pairs, InverseTable}
-use Rattle.matching.specs.Causes.{session-ruling, LongEnough, lent-to-session}
+use Rattle.matching.specs.Causes.{Lent, session-ruling, LongEnough, lent-to-session}
 use Rattle.matching.specs.Model.{Call, pick, automatic, done, denied, skew, pick-ruling, Allowed, OpenPartner, step, picks, pick-refused, picks-lowest, none-left}
 use Rattle.matching.specs.Calls.{Handles, unsound, refuses, carries}
 use Rattle.laws.specs.Facts.{allowed-of-accepted, unmatched-without, open-partner}
@@ -28,6 +28,7 @@ use Rattle.checks.specs.declared.Ruling.{Ruling}
 use Rattle.checks.specs.declared.Ruling.the-variants.{Accepted, Refused}
 use Rattle.sequence.specs.Formed.{Left, unmarked}
 use Rattle.soundness.specs.Sound.{state, Confirmed}
+use Rattle.soundness.specs.Lent.{ConfirmedLent}
 use Rattle.tutte.specs.Table.{Complete}
 use Rattle.partners.specs.Standing.{Tables, Standing, Marked}
 use Rattle.pairing.specs.Appended.{pair-below, shrunk-inverse, Room, Appended}
@@ -68,6 +69,10 @@ module _ {n made : ℕ} {adjacency weights inverse sequence marks : List ℕ} {v
   pub not-sound : (c : Call) {r : _} → v ≡ Refused r
       → Handles modulus-prime everything (state n made adjacency weights inverse sequence) c (denied (because (r .cause) (r .place))) (state n made adjacency weights inverse sequence)
   not-sound c e = unsound _ (sym (C .ruled) ∙ ap ruling-of e)
+
+pub known-lent : {l : Lent} {n made : ℕ} {adjacency weights inverse sequence marks : List ℕ} {v : Ruling} → ConfirmedLent l n made adjacency weights inverse sequence marks v
+    → v ≡ Accepted → Known n made adjacency weights inverse sequence marks
+known-lent C e = known (C .confirmed (ap ruling-of e)) e
 
 module _ {n made : ℕ} {adjacency weights inverse sequence marks : List ℕ} (K : Known n made adjacency weights inverse sequence marks) where
   abbrev g : Graph

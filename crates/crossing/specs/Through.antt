@@ -9,7 +9,6 @@ use Rattle.matching.specs.Graph.{over}
 use Rattle.matching.specs.Pairs.{everything, pairs-on}
 use Rattle.matching.specs.Session.{State, with-pairs, onto}
 use Rattle.matching.specs.Causes.{session-ruling}
-use Rattle.matching.specs.Model as model
 use Rattle.matching.specs.Model.{Call, Answer, done, denied, step}
 use Rattle.matching.specs.Calls.{Handles, unsound, refuses, carries}
 use Rattle.matching.specs.Host.{words, Bytes, bytes-of, answer-number, session-back, unpacked-state, HostHandles}
@@ -21,14 +20,6 @@ use Rattle.crossing.specs.Same.{table-same}
 use Rattle.crossing.specs.Needed.{needed-weights, needed-agree}
 use Rattle.crossing.specs.Steps.{step-same}
 use Rattle.crossing.specs.Fit.{Fits, needed-inverse, needed-state, table-length, ruling-same}
-use Rattle.crossing.specs.declared.Request.{Request}
-use Rattle.crossing.specs.declared.Request.the-variants.{Pick, Automatic, Undo}
-
--- the call that is asked for
-abbrev pub call-of : Request → Call
-call-of (Pick a b) = model.pick a b
-call-of Automatic = model.automatic
-call-of Undo = model.undo
 
 -- the first words of a table, so many of them, stored over bytes where a pair is answered
 abbrev pub stored : Answer → ℕ → (table bytes : List ℕ) → List ℕ

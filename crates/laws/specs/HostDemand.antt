@@ -19,7 +19,7 @@ use Rattle.matching.specs.Calls.{Returned, state-after, Handles, unsound, refus
 use Rattle.matching.specs.Host.{words, bytes-of, Bytes, cause-in, kind-in, unpacked, opening-number, answer-number, session-back, unpacked-state, stored-over, state-stored, stored-after, HostOpens, HostHandles}
 use Rattle.matching.specs.HostRuns.{HostReturned, host-after, host-opened-state, HostRuns, host-none, host-more, HostOnWords, HostDemandByCalls}
 use Rattle.laws.specs.Onto.{onto-length, onto-again}
-use Rattle.laws.specs.Words.{bytes-length, stored-words, read-words, stored-bytes}
+use Rattle.laws.specs.Words.{bytes-length, own-words, read-words, stored-bytes}
 use Rattle.laws.specs.Sound.{opening-accepted, session-accepted}
 use Rattle.laws.specs.Fresh.{opened-sound, demand-three}
 use Rattle.laws.specs.Numbers.{opens-small, kind-field, SmallAnswer, answer-low-byte, handles-small, host-handles-some, host-handles-unique, host-session}
@@ -58,10 +58,9 @@ module _ {p : ℕ} (P : OddPrime p) (S : Subset) (narrow : p ≤ 2 ^ 16) where
 
   -- the words of a state, stored over its own bytes
   own : (s : State) → Bytes (s .inverse) → s ≡ stored-over (unpacked-state s) s
-  unfolding bytes-of
   own s B =
       ap (λ i. record { session = s .session; adjacency = s .adjacency; weights = s .weights; inverse = i; sequence = s .sequence })
-      (sym (stored-words [] (s .inverse) B (omega arith)))
+      (sym (own-words (s .inverse) B))
 
   -- and over those that a call left
   over-left : (a : Answer) (left s t : State) → length (t .inverse) ≡ length (left .inverse) → stored-over t (state-stored a left s) ≡ stored-over t s

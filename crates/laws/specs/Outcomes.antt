@@ -16,7 +16,7 @@ use Rattle.matching.specs.Session.{State, onto}
 use Rattle.matching.specs.Opening.{Singular}
 use Rattle.matching.specs.Model.{skew, automatic, pairs-after, Nonsingular, PicksToCome}
 use Rattle.matching.specs.Calls.{state-after, row-ruling, ShowsRow, shows, row-refused}
-use Rattle.matching.specs.Replay.{calls-of, list-ruling, numbers-of, Replays, refuses-list, replays}
+use Rattle.matching.specs.Replay.{calls-of, replay-ruling, numbers-of, Replays, refuses-replay, replays}
 use Rattle.matching.specs.Records.{Reading, sheet, unread, ReadsFrom, ReadsAs, graph, Read, not-read, graph-read, room, FillsFrom, refuses-records, lacks-room, fills}
 use Rattle.matching.specs.Computed.{read-from, read}
 use Rattle.matching.specs.Listing.{input-limit, first-line, pair-lines, witness-lines, line-full, line-none, refused-line, Lists, refuses-sheet, pairs-up, shows-witness}
@@ -45,17 +45,17 @@ module _ {p : ℕ} (P : OddPrime p) (S : Subset) where
 
 module _ {p : ℕ} (P : OddPrime p) (S : Subset) where
   pub replays-some : (s : State) (numbers answers : List ℕ) → (v : Ruling) × (t : State) × (after : List ℕ) × Replays P S s numbers answers v t after
-  replays-some s numbers answers = go (list-ruling numbers (length answers)) refl
+  replays-some s numbers answers = go (replay-ruling P S s numbers answers) refl
     where
-      go : (v : Ruling) → list-ruling numbers (length answers) ≡ v → (v : Ruling) × (t : State) × (after : List ℕ) × Replays P S s numbers answers v t after
-      go (refused r) e = (refused r, s, answers, refuses-list r e)
-      go accepted e = let R = runs-some P S s (calls-of numbers) in (_, _, _, replays (R .0) e (R .1))
+      go : (v : Ruling) → replay-ruling P S s numbers answers ≡ v → (v : Ruling) × (t : State) × (after : List ℕ) × Replays P S s numbers answers v t after
+      go (refused r) e = (refused r, s, answers, refuses-replay r e)
+      go accepted e = let R = runs-some P S s (calls-of numbers) in (accepted, _, _, replays (R .0) e (R .1))
 
   pub replays-unique : {s t t′ : State} {numbers answers after after′ : List ℕ} {v v′ : Ruling} → Replays P S s numbers answers v t after
       → Replays P S s numbers answers v′ t′ after′ → (v ≡ v′) × (t ≡ t′) × (after ≡ after′)
-  replays-unique (refuses-list r e) (refuses-list r′ e′) = (cc, refl, refl)
-  replays-unique (refuses-list r e) (replays _ e′ _) = never (cc)
-  replays-unique (replays _ e _) (refuses-list r e′) = never (cc)
+  replays-unique (refuses-replay r e) (refuses-replay r′ e′) = (cc, refl, refl)
+  replays-unique (refuses-replay r e) (replays _ e′ _) = never (cc)
+  replays-unique (replays _ e _) (refuses-replay r e′) = never (cc)
   replays-unique {s} {answers = answers} (replays a e R) (replays b e′ R′) =
       let q : a ≡ b = runs-unique P S R R′ in
       (refl, ap (λ l. state-after s l (length l)) q, ap (λ l. onto (numbers-of l) answers) q)

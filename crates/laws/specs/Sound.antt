@@ -160,3 +160,21 @@ session-accepted p S s =
     let r = judge-accepted (session-causes p S s []) in
     let o = session-in-order p S s [] in
     (λ e. o .0 (r .0 e), λ h. r .1 (o .1 h))
+
+-- the causes of two lists, and the buffers of two
+none-both : (a b : List Cause) → NoneApplies (a ++ b) → NoneApplies a × NoneApplies b
+none-both [] b h = (tt, h)
+none-both (c ∷ a) b h = let k = none-both a b (h .1) in ((h .0, k .0), k .1)
+
+long-both : (a b : List Lent) → LongEnough (a ++ b) → LongEnough a × LongEnough b
+long-both [] b h = (tt, h)
+long-both (x ∷ a) b h = let k = long-both a b (h .1) in ((h .0, k .0), k .1)
+
+-- a session call that is lent `more` besides and looks at `later` after 1 to 6, where it is accepted
+pub more-accepted : (p : ℕ) (S : Subset) (s : State) (more : List Lent) (later : List Cause) → judge (session-causes p S s more ++ later) ≡ accepted
+    → (session-ruling p S s ≡ accepted) × LongEnough more × (judge later ≡ accepted)
+more-accepted p S s more later e =
+    let none = none-both (session-causes p S s more) later (judge-accepted (session-causes p S s more ++ later) .0 e) in
+    let ok = session-in-order p S s more .0 (none .0) in
+    let long = long-both (lent-to-session s []) more (ok .0) in
+    (session-accepted p S s .1 (long .0, ok .1), long .1, judge-accepted later .1 (none .1))

@@ -19,7 +19,6 @@ fn row_over(
     sequence: &[u8],
     row: &mut [u8],
 ) -> u64
-    requires { ⌜ Fits (state n made (now adjacency) (now weights) (now inverse) (now sequence)) ⌝ }
     ensures { λ r. ⌜ ShowsOver (state n made (now (adjacency .entry)) (now (weights .entry)) (now (inverse .entry)) (now (sequence .entry))) a (now (row .entry)) r (now (row .exit)) ⌝ }
 {
     let session = Session { size: n, made };

@@ -12,7 +12,8 @@ use Rattle.checks.specs.declared.Refusal.{Refusal}
 use Rattle.checks.specs.declared.Ruling.the-variants.{Refused}
 use Rattle.soundness.specs.Sound.{state}
 use Rattle.crossing.specs.Fit.{room-refused, room-accepted}
-use Rattle.crossing.specs.Through.{call-of, host-refuses}
+use Rattle.calls.specs.Answers.{call-is}
+use Rattle.crossing.specs.Through.{host-refuses}
 use borrow.Author.Needs.{needs}
 use Rattle.crossing.proofs.handle.Statement.{statement}
 use Rattle.crossing.proofs.handle.Tie as tie
@@ -38,14 +39,14 @@ enum-known-ruling c = search needs
 refused-requires : tie.Need-refused-requires
 refused-requires c κs =
     let at = c .before .before .before in
-    handles-small modulus-prime everything {s = unpacked-state (host at)} {c = call-of (start at .args .request)} (unsound _ (refuses at (c .before .ruling .given .1))) .place-below
+    handles-small modulus-prime everything {s = unpacked-state (host at)} {c = call-is (start at .args .call)} (unsound _ (refuses at (c .before .ruling .given .1))) .place-below
 
 returns : tie.Need-returns
 returns c =
     let at = c .before .before .before .before in
     let a = start at .args in
     rw (c .refused .ensures)
-    (host-refuses (a .n) (a .made) (a .adjacency .now) (a .weights .now) (a .inverse .now) (a .sequence .now) (call-of (a .request)) (refuses at (c .before .before .ruling .given .1)))
+    (host-refuses (a .n) (a .made) (a .adjacency .now) (a .weights .now) (a .inverse .now) (a .sequence .now) (call-is (a .call)) (refuses at (c .before .before .ruling .given .1)))
 
 enum-told : tie.Need-enum-told
 enum-told c = search needs

@@ -1,5 +1,4 @@
 -- `row_bytes::row` meets its contract: a refusal for the size or the lengths writes nothing, and else words are lent. Assumes nothing.
-use mathlib.Core.Path.{sym, _∙_}
 use borrow.Author.Needs.{needs}
 use Rattle.residue.specs.Modulus.{modulus, modulus-prime}
 use Rattle.matching.specs.Pairs.{everything}
@@ -9,8 +8,7 @@ use Rattle.matching.specs.Calls.{unsound}
 use Rattle.matching.specs.Host.{unpacked-state}
 use Rattle.laws.specs.Numbers.{handles-small}
 use Rattle.soundness.specs.Sound.{state}
-use Rattle.session.specs.Row.{lengths-refuse}
-use Rattle.crossing.specs.Fit.{in-words, room-refused, room-accepted}
+use Rattle.crossing.specs.Fit.{room-refused, room-accepted}
 use Rattle.row_bytes.specs.Through.{host-refuses}
 use Rattle.row_bytes.proofs.row.Statement.{statement}
 use Rattle.row_bytes.proofs.row.Tie as tie
@@ -39,9 +37,8 @@ returns c =
     let at = c .before .before .before .before in
     let a = start at .args in
     rw (c .refused .ensures)
-    (host-refuses (host at) (a .a) (a .row .now)
-    (lengths-refuse (unpacked-state (host at)) (a .a) (a .row .now)
-    (rw (c .before .before .lengths .given .1) at (at .judge-lengths .ensures) ∙ sym (in-words (a .n) (a .made) (a .adjacency .now) (a .weights .now) (a .inverse .now) (a .sequence .now)))))
+    (host-refuses (a .n) (a .made) (a .adjacency .now) (a .weights .now) (a .inverse .now) (a .sequence .now) (a .a) (a .row .now)
+    (rw (c .before .before .lengths .given .1) at (at .judge-lengths .ensures)))
 
 enum-told : tie.Need-enum-told
 enum-told c = search needs

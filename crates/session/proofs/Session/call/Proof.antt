@@ -1,9 +1,9 @@
--- `session::Session::undo` meets its contract: a sound session's call, or a refusal. Assumes nothing.
+-- `session::Session::call` meets its contract: a sound session's call, or a refusal. Assumes nothing.
 use mathlib.Core.Path.{sym}
 use borrow.Author.Needs.{needs}
 use Rattle.calls.specs.Known.{known, not-sound, tables}
-use Rattle.session.proofs.Session.undo.Statement.{statement}
-use Rattle.session.proofs.Session.undo.Tie as tie
+use Rattle.session.proofs.Session.call.Statement.{statement}
+use Rattle.session.proofs.Session.call.Tie as tie
 
 slice-aggregate-confirm : tie.Need-slice-aggregate-confirm
 slice-aggregate-confirm c = search needs
@@ -29,11 +29,11 @@ enum-told c = search needs
 array-borrow-prefix-marks : tie.Need-array-borrow-prefix-marks
 array-borrow-prefix-marks c = let small = tables (known (c .before .before .before .before .before .confirm .ensures) (c .before .before .enum-told .given .1)) .size in search needs
 
-slice-aggregate-undo : tie.Need-slice-aggregate-undo
-slice-aggregate-undo c = sym ((known (c .before .before .before .before .before .before .confirm .ensures) (c .before .before .before .enum-told .given .1)) .left .size)
+slice-aggregate-make : tie.Need-slice-aggregate-make
+slice-aggregate-make c = sym ((known (c .before .before .before .before .before .before .confirm .ensures) (c .before .before .before .enum-told .given .1)) .left .size)
 
-undo-requires : tie.Need-undo-requires
-undo-requires c κs = known (c .before .before .before .before .before .before .confirm .ensures) (c .before .before .before .enum-told .given .1)
+make-requires : tie.Need-make-requires
+make-requires c κs = known (c .before .before .before .before .before .before .confirm .ensures) (c .before .before .before .enum-told .given .1)
 
 same-length-3 : tie.Need-same-length-3
 same-length-3 c = search needs
@@ -42,10 +42,10 @@ same-length-4 : tie.Need-same-length-4
 same-length-4 c = search needs
 
 returns-2 : tie.Need-returns-2
-returns-2 c = c .before .before .before .before .before .undo .ensures .handled
+returns-2 c = search needs
 
-pub undo-spec : {M : Type 1} → statement M
-undo-spec =
+pub call-spec : {M : Type 1} → statement M
+call-spec =
     tie.close
     (tie.spec
     slice-aggregate-confirm
@@ -56,8 +56,8 @@ undo-spec =
     returns
     enum-told
     array-borrow-prefix-marks
-    slice-aggregate-undo
-    undo-requires
+    slice-aggregate-make
+    make-requires
     same-length-3
     same-length-4
     returns-2)
