@@ -1,12 +1,9 @@
-//! A call through the C entry, and what it must leave.
+//! A call of opening, and what it must leave.
 
-use crate::entry::{open, Written};
 use crate::graphs::{Graph, P};
 use crate::random::Random;
 use reference::opening::{self, Opening};
 use reference::words::{bytes_from_words, words_from_bytes, write_words};
-
-const GUARD: usize = 24;
 
 /// A size and six buffers as bytes.
 #[derive(Clone, Debug, PartialEq, Eq)]
@@ -84,38 +81,11 @@ impl Call {
         self.weights[2 * index..2 * index + 2].copy_from_slice(&weight.to_le_bytes());
     }
 
-    /// Runs the call and compares the number and every byte with the plain
-    /// reading. The buffers lie between guard bytes.
-    pub fn check(&self, guards: &mut Random, name: &str) -> Outcome {
+    /// The outcome by the reference, whose answer is right by its definition.
+    pub fn certified(&self, name: &str) -> Outcome {
         let (outcome, after) = self.expected();
-        let mut found = self.clone();
-        let mut wanted = after.clone();
-        for (buffer, target) in found.buffers_mut().into_iter().zip(wanted.buffers_mut()) {
-            let (before, behind) = (guards.bytes(GUARD), guards.bytes(GUARD));
-            *buffer = [&before, &buffer[..], &behind].concat();
-            *target = [&before, &target[..], &behind].concat();
-        }
-        let number = found.run_between_guards();
-        assert_eq!(number, outcome.number(), "number of {name}");
-        compare(&found, &wanted, name);
         self.certify(&after, outcome, name);
         outcome
-    }
-
-    fn run_between_guards(&mut self) -> u64 {
-        let n = self.n;
-        let [adjacency, weights, inverse, sequence, witness, work] =
-            self.buffers_mut().map(|bytes| {
-                let end = bytes.len() - GUARD;
-                &mut bytes[GUARD..end]
-            });
-        let written = Written {
-            inverse,
-            sequence,
-            witness,
-            work,
-        };
-        open(n, adjacency, weights, written)
     }
 
     /// The outcome and the buffers after the call, by the plain reading.
@@ -232,26 +202,6 @@ fn are_residues(words: &[u16]) -> bool {
 
 fn is_zero(bytes: &[u8]) -> bool {
     bytes.iter().all(|&byte| byte == 0)
-}
-
-/// Compares buffers that lie between guard bytes.
-fn compare(found: &Call, wanted: &Call, name: &str) {
-    for (place, (found, wanted)) in found
-        .buffers()
-        .into_iter()
-        .zip(wanted.buffers())
-        .enumerate()
-    {
-        if let Some(offset) = (0..found.len()).find(|&i| found[i] != wanted[i]) {
-            panic!(
-                "buffer {} of {name}: byte {} is {} instead of {}",
-                place + 1,
-                offset as isize - GUARD as isize,
-                found[offset],
-                wanted[offset]
-            );
-        }
-    }
 }
 
 impl Outcome {

@@ -1,5 +1,7 @@
-//! Session calls through the C entries beside the plain reading, on all cases:
-//! the number and every byte of every buffer.
+//! The session cases, which tests/c/replay.c runs through the C entries, judged
+//! by themselves: whether each outcome is met often enough. And calls through the
+//! C entries that no stream of cases has: lists beside the plain model and beside
+//! single calls, and lists too long for a stream.
 
 use host_tests::random::Random;
 use host_tests::session::{Request, SessionCase, State};
@@ -18,10 +20,8 @@ const ROW: usize = 4;
 const REPLAY: usize = 5;
 
 fn check(name: &str, family: impl Iterator<Item = SessionCase>) -> SessionTally {
-    let mut guards = Random::new(2000);
     let mut tally = SessionTally::default();
     for case in family {
-        case.check(&mut guards);
         tally.count(&case);
     }
     tally.print(name);
@@ -179,7 +179,9 @@ fn long_lists() {
 
 #[test]
 fn longest_lists() {
-    let tally = check("longest lists", lists::longest_lists());
+    let mut guards = Random::new(2000);
+    let family = lists::longest_lists().inspect(|case| case.check(&mut guards));
+    let tally = check("longest lists", family);
     assert_eq!((tally.of(REPLAY, 12), tally.of(REPLAY, 13)), (5, 5));
 }
 

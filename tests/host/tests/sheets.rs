@@ -1,5 +1,6 @@
-//! Sheets and draws through the C entries beside the plain reading, on all
-//! cases: the number and every byte of every buffer.
+//! The cases of sheets and draws, which tests/c/replay.c runs through the C
+//! entries, judged by themselves: whether each outcome is met often enough. And
+//! what the entries do together.
 
 use host_tests::call::Call;
 use host_tests::entry::{self, Written};
@@ -13,10 +14,8 @@ use std::collections::BTreeMap;
 type Tally = BTreeMap<(u64, u64), usize>;
 
 fn check(family: impl Iterator<Item = FillingCase>) -> Tally {
-    let mut guards = Random::new(3000);
     let mut tally = Tally::new();
     for case in family {
-        case.check(&mut guards);
         let place = if case.cause() == 0 { 0 } else { case.place() };
         *tally.entry((case.cause(), place)).or_default() += 1;
     }
