@@ -68,7 +68,7 @@ enum ListFault {
     Cut,
     UnknownKindAndCut,
     All,
-    /// A list of automatic picks, with more room than its answers need.
+    /// No fault.
     Nothing,
 }
 
