@@ -1,4 +1,4 @@
-//! A call through the C entry, and what it must leave.
+//! An opening through the C entry, and what it must write.
 
 use crate::entry::{open, Written};
 use crate::graphs::{Graph, P};
@@ -30,15 +30,15 @@ pub enum Outcome {
     Refused(u8, u64),
 }
 
-/// How many bytes each buffer needs for n vertices.
+/// Returns how many bytes each buffer needs for n vertices.
 pub fn needed(n: usize) -> [usize; 6] {
     let square = n * n;
     [square, square - n, 2 * square, n, 2 * n, 2 * square]
 }
 
 impl Call {
-    /// Opens a graph, with buffers that hold random bytes and are longer than
-    /// needed by 0 to the given number of bytes.
+    /// Makes a call that opens a graph, with buffers of random bytes, each up to
+    /// most_excess bytes longer than needed.
     pub fn new(random: &mut Random, graph: &Graph, most_excess: usize) -> Call {
         let mut call = Call {
             n: graph.n as u64,
@@ -56,7 +56,7 @@ impl Call {
         call
     }
 
-    /// The buffers in the order of their numbers, 1 to 6.
+    /// Lists the buffers in the order of their numbers, 1 to 6.
     pub fn buffers(&self) -> [&[u8]; 6] {
         [
             &self.adjacency,
@@ -68,7 +68,7 @@ impl Call {
         ]
     }
 
-    /// The same, to be changed.
+    /// buffers, to be changed.
     pub fn buffers_mut(&mut self) -> [&mut Vec<u8>; 6] {
         [
             &mut self.adjacency,
@@ -84,8 +84,8 @@ impl Call {
         self.weights[2 * index..2 * index + 2].copy_from_slice(&weight.to_le_bytes());
     }
 
-    /// Runs the call and compares the number and every byte with the plain
-    /// reading. The buffers lie between guard bytes.
+    /// Runs the call between guard bytes, and compares the number and every byte
+    /// with the reference.
     pub fn check(&self, guards: &mut Random, name: &str) -> Outcome {
         let (outcome, after) = self.expected();
         let mut found = self.clone();
@@ -118,7 +118,7 @@ impl Call {
         open(n, adjacency, weights, written)
     }
 
-    /// The outcome and the buffers after the call, by the plain reading.
+    /// Returns the outcome and the buffers after the call, by the reference.
     pub fn expected(&self) -> (Outcome, Call) {
         let mut after = self.clone();
         let mut inverse = words_from_bytes(&self.inverse);
@@ -150,8 +150,8 @@ impl Call {
         (outcome, after)
     }
 
-    /// The plain reading's answer by its definition: A times the inverse is the
-    /// identity; A times the witness is 0, with 1 at the column and 0 after it;
+    /// Checks the answer of the reference by its definition: A times the inverse is
+    /// the identity; A times the witness is 0, with 1 at the column and 0 after it;
     /// all else that is written is 0, or 255; nothing else is written.
     fn certify(&self, after: &Call, outcome: Outcome, name: &str) {
         match outcome {
@@ -217,7 +217,7 @@ impl Call {
     }
 }
 
-/// A row of a matrix times a vector, modulo 65521.
+/// Multiplies a row of a matrix by a vector, modulo 65521.
 fn row_times(row: &[u64], vector: impl Fn(usize) -> u16) -> u64 {
     let products = row
         .iter()
@@ -255,8 +255,8 @@ fn compare(found: &Call, wanted: &Call, name: &str) {
 }
 
 impl Outcome {
-    /// The number by docs/HOST.md: the cause in bits 0 to 7, the kind of answer
-    /// in bits 8 to 15, the column from bit 16 on, or the place.
+    /// Returns the number by docs/HOST.md: the cause in bits 0 to 7, the answer-kind
+    /// in bits 8 to 15, the column or the place from bit 16 on.
     pub fn number(self) -> u64 {
         match self {
             Outcome::Opened => 1 << 8,

@@ -1,5 +1,5 @@
-//! A graph filled in through a C entry, and what it must leave: by a sheet, or
-//! its weights by a seed.
+//! A graph filled through a C entry, from a sheet, or its weights from a seed,
+//! and what the entry must write.
 
 use crate::entry;
 use crate::guards::Guarded;
@@ -17,8 +17,7 @@ pub enum Source {
     Seed { n: u64, seed: u32 },
 }
 
-/// A source, and the buffers to be filled, the first of which a seed has no use
-/// for.
+/// A source, and the buffers to be filled. A seed fills only the weights.
 #[derive(Clone, Debug, PartialEq, Eq)]
 pub struct Filling {
     pub source: Source,
@@ -35,7 +34,7 @@ pub struct FillingCase {
 }
 
 impl Filling {
-    /// All buffers with their names.
+    /// Lists all buffers with their names.
     pub fn buffers(&self) -> [(&'static str, &[u8]); 3] {
         let sheet: &[u8] = match &self.source {
             Source::Sheet(sheet) => sheet,

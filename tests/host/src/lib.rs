@@ -1,7 +1,6 @@
-//! Seeded random and damaged calls of the C entries, and the comparison with
-//! the plain reading. The tests run them from Rust; the program `cases` writes
-//! them out for tests/c/replay.c; the program `long` runs as many session calls
-//! as it is told.
+//! Seeded random and damaged calls of the C entries, compared with the
+//! reference. The tests run them from Rust; the program `cases` writes them out
+//! for tests/c/replay.c; the program `long` runs any number of session calls.
 
 pub mod call;
 pub mod cases;

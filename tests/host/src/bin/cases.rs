@@ -1,7 +1,7 @@
 //! Writes cases to standard output, for tests/c/replay.c to run them: `opening`
 //! those of opening, `sheets` those of reading sheets and drawing weights,
-//! `sessions N` every Nth of the session calls. What is expected is by the plain
-//! reading.
+//! `sessions N` every Nth of the session calls. The reference says what is
+//! expected.
 
 use host_tests::stream::Stream;
 use host_tests::{cases, filling_cases, session_cases};
