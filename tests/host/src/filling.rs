@@ -1,5 +1,5 @@
-//! A call that fills in a graph, and what it must leave: by a sheet, or its
-//! weights by a seed.
+//! A call that fills a graph from a sheet, or its weights from a seed, and what it
+//! must write.
 
 use reference::draws::fill_weights;
 use reference::listing::INPUT_LIMIT;
@@ -14,8 +14,7 @@ pub enum Source {
     Seed { n: u64, seed: u32 },
 }
 
-/// A source, and the buffers to be filled, the first of which a seed has no use
-/// for.
+/// A source, and the buffers to be filled. A seed fills only the weights.
 #[derive(Clone, Debug, PartialEq, Eq)]
 pub struct Filling {
     pub source: Source,
@@ -32,7 +31,7 @@ pub struct FillingCase {
 }
 
 impl Filling {
-    /// All buffers with their names.
+    /// Lists all buffers with their names.
     pub fn buffers(&self) -> [(&'static str, &[u8]); 3] {
         let sheet: &[u8] = match &self.source {
             Source::Sheet(sheet) => sheet,

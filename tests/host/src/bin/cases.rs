@@ -1,6 +1,6 @@
 //! Writes cases to standard output, for tests/c/replay.c to run them: every Nth
 //! of opening (`opening N`), of reading sheets and drawing weights (`sheets N`),
-//! or of the session calls (`sessions N`). What is expected is by the reference.
+//! or of the session calls (`sessions N`). The reference says what is expected.
 
 use host_tests::stream::Stream;
 use host_tests::{cases, filling_cases, session_cases};
