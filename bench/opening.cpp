@@ -1,8 +1,8 @@
 // Measures opening through the C entry.
 //
 //   opening peers            which libraries it is compared with
-//   opening times            a table of times, beside the plain reading and the peers
-//   opening once N dense     one call on a graph of N vertices that are all linked; 97 are refused
+//   opening times            a table of times, beside the reference and the peers
+//   opening once N dense     one call on a graph of N vertices that are all adjacent; 97 are refused
 //   opening once N sparse    the same with about four neighbours a vertex
 //   opening once N short     the call of a dense graph with the last buffer short by a byte
 #include "graphs.h"
@@ -18,13 +18,13 @@
 #include <string>
 #include <vector>
 
-// A buffer as the plain reading takes it.
+// A buffer as the reference takes it.
 struct Buffer {
     uint8_t *bytes;
     size_t length;
 };
 
-// Opens a graph by the plain reading: the six buffers of saszvigom_open, in its order; the first two are only read.
+// Opens a graph by the reference: the six buffers of saszvigom_open, in its order; the first two are only read.
 extern "C" uint64_t reference_open(uint64_t n, const Buffer *buffers);
 
 namespace {
@@ -34,7 +34,7 @@ Buffer buffer_of(const std::vector<uint8_t> &bytes)
     return {const_cast<uint8_t *>(bytes.data()), bytes.size()};
 }
 
-uint64_t open_by_reading(const Graph &graph, Buffers &buffers)
+uint64_t open_by_reference(const Graph &graph, Buffers &buffers)
 {
     const Buffer six[] = {buffer_of(graph.adjacency),  buffer_of(graph.weights),   buffer_of(buffers.inverse),
                           buffer_of(buffers.sequence), buffer_of(buffers.witness), buffer_of(buffers.work)};
@@ -85,10 +85,10 @@ void print_call(size_t n, const char *kind, uint64_t number)
 void compare(const Graph &graph, const char *kind, const std::vector<std::unique_ptr<Peer>> &peers)
 {
     const size_t n = graph.n;
-    Buffers entry(n), reading(n);
+    Buffers entry(n), reference(n);
     const uint64_t number = open_by_entry(graph, entry);
-    if (number != open_by_reading(graph, reading) || !(entry == reading))
-        differ(n, kind, "plain reading");
+    if (number != open_by_reference(graph, reference) || !(entry == reference))
+        differ(n, kind, "reference");
     const bool opened = saszvigom_kind_of(number) == SASZVIGOM_OPENED;
     for (size_t p = 0; p < peers.size(); p++) {
         bool same = peers[p]->invert() == opened;
@@ -119,31 +119,31 @@ void measure(const Graph &graph, const char *kind)
     compare(graph, kind, peers);
     Buffers buffers(n);
     uint64_t number = 0;
-    // Of the entry; of the plain reading and then of each peer.
+    // Of the entry; of the reference and then of each peer.
     std::vector<double> times;
     std::vector<std::vector<double>> others(1 + peers.size());
     for (size_t round = 0; round < rounds; round++) {
         times.push_back(time_of([&] { number = open_by_entry(graph, buffers); }));
-        others[0].push_back(time_of([&] { open_by_reading(graph, buffers); }));
+        others[0].push_back(time_of([&] { open_by_reference(graph, buffers); }));
         for (size_t p = 0; p < peers.size(); p++)
             others[1 + p].push_back(time_of([&] { peers[p]->invert(); }));
     }
     print_call(n, kind, number);
     std::printf("  %9.1f", median(times));
     for (const std::vector<double> &other : others)
-        std::printf("  %9.1f  %9.2f", median(other), median_ratio(times, other));
+        std::printf("  %9.1f  %11.2f", median(other), median_ratio(times, other));
     std::printf("\n");
     std::fflush(stdout);
 }
 
 void print_times()
 {
-    std::vector<std::string> others = {"reading"};
+    std::vector<std::string> others = {"reference"};
     for (const Library &library : libraries())
         others.push_back(library.name);
     std::printf("%4s  %-6s  %-8s  %9s", "n", "graph", "answer", "entry");
     for (const std::string &other : others)
-        std::printf("  %9s  %9s", other.c_str(), ("e/" + other).c_str());
+        std::printf("  %9s  %11s", other.c_str(), ("e/" + other).c_str());
     std::printf("\n");
     for (const size_t n : {16, 32, 48, 64, 95, 96}) {
         measure(dense(n), "dense");

@@ -64,9 +64,9 @@ extern "C" {
    where the minor number changes, as CHANGES.md says, and not where the patch
    number does. */
 #define SASZVIGOM_VERSION_MAJOR 0
-#define SASZVIGOM_VERSION_MINOR 4
+#define SASZVIGOM_VERSION_MINOR 5
 #define SASZVIGOM_VERSION_PATCH 0
-#define SASZVIGOM_VERSION "0.4.0"
+#define SASZVIGOM_VERSION "0.5.0"
 
 /* The same as a number, for #if too: the patch number in bits 0 to 7, the minor
    one in 8 to 15 and the major one in 16 to 23. */
@@ -394,10 +394,9 @@ uint64_t saszvigom_draws(uint64_t n, uint32_t seed, uint8_t *weights, size_t wei
  *
  * Here made is the number of pairs after the call, which is the made of the next
  * call: read these 8 bits and no more, by saszvigom_made_of. A refused call
- * writes nothing, but for the answers that saszvigom_replay may write, and its
- * session is the one that was sent: the next call is sent the same made again,
- * which is not in the number. Where several causes apply, the lowest is
- * returned; but saszvigom_replay judges its list first.
+ * writes nothing, and its session is the one that was sent: the next call is sent
+ * the same made again, which is not in the number. Where several causes apply, the
+ * lowest is returned.
  */
 
 /*
@@ -485,7 +484,8 @@ uint64_t saszvigom_row(uint64_t n, uint64_t made, uint64_t a,
  *   adjacency, weights
  *              read
  *   inverse, sequence
- *              read, and written as by the calls
+ *              read, and written as by the calls; not written if no call of the
+ *              list is accepted
  *   calls      read; three numbers a call: its kind, one of enum saszvigom_call,
  *              and two vertices, which are ignored but for SASZVIGOM_CALL_PICK
  *   answers    written; a number a call: the one that the call returns. What
@@ -494,20 +494,22 @@ uint64_t saszvigom_row(uint64_t n, uint64_t made, uint64_t a,
  * calls and answers are arrays of uint64_t, aligned as such, and their lengths
  * count numbers, not bytes. No other buffer needs alignment.
  *
- * The list is judged before anything else. It is refused, whatever the session
- * is, if answers has less room than there are whole calls, with
- * SASZVIGOM_BUFFER_TOO_SHORT at SASZVIGOM_BUFFER_ANSWERS; else with
- * SASZVIGOM_CALL_UNKNOWN; else with SASZVIGOM_LIST_CUT. Then no call is made and
- * nothing is written.
+ * Kind SASZVIGOM_REPLAYED, with the pairs made at the end, unless one of these
+ * causes applies, of which the lowest is returned:
  *
- * Else every call is made and answered, also after one that is refused. If the
- * session sent is sound, the number is of kind SASZVIGOM_REPLAYED, with the
- * pairs made at the end. If not, it is the refusal, a cause from 1 to 6 with its
- * place, which is written as the answer of every call too; nothing else is
- * written, and the session is the one sent. So the answers are not written
- * exactly if the cause is SASZVIGOM_CALL_UNKNOWN or SASZVIGOM_LIST_CUT, or
- * SASZVIGOM_BUFFER_TOO_SHORT at SASZVIGOM_BUFFER_ANSWERS. An empty list is in
- * order, and tells whether a session is sound.
+ *   1 to 6     as for saszvigom_pick: the session sent is not sound. Of the buffers
+ *              of SASZVIGOM_BUFFER_TOO_SHORT the last is SASZVIGOM_BUFFER_ANSWERS,
+ *              if answers has less room than there are whole calls
+ *   SASZVIGOM_CALL_UNKNOWN
+ *              a whole call of the list is of another kind
+ *   SASZVIGOM_LIST_CUT
+ *              the list ends within a call
+ *
+ * Then no call is made and nothing is written, answers included. Else every call
+ * is made and answered, also after one that is refused. An empty list only tells
+ * whether a session is sound. It writes nothing, nor does a list whose calls are
+ * all refused, but for its answers: the session may be in memory that is only
+ * read.
  */
 SASZVIGOM_NOT_NULL
 uint64_t saszvigom_replay(uint64_t n, uint64_t made,

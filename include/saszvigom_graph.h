@@ -79,9 +79,8 @@ static inline void saszvigom_graph_forget(struct saszvigom_graph *graph)
 
 /* Makes a graph of n vertices without edges. Its weights are 0, so that opening
    it, if n is 2 or more, is refused with SASZVIGOM_WEIGHT_OUT_OF_RANGE until they
-   are drawn or all set. False if n is above 96: then every call of the library is refused with
-   SASZVIGOM_SIZE_TOO_LARGE, but for saszvigom_graph_read, and for
-   saszvigom_graph_replay with a list at fault. */
+   are drawn or all set. False if n is above 96: then every call of the library but
+   saszvigom_graph_read is refused with SASZVIGOM_SIZE_TOO_LARGE. */
 static inline bool saszvigom_graph_init(struct saszvigom_graph *graph, uint64_t n)
 {
     memset(graph, 0, sizeof *graph);
@@ -259,8 +258,8 @@ static inline unsigned saszvigom_graph_partner(const struct saszvigom_graph *gra
 }
 
 /* Makes a list of calls: saszvigom_replay. The lengths count numbers. Null for
-   answers is room for none, and null for calls is the empty list with length 0,
-   and else a list that is refused with SASZVIGOM_LIST_CUT at 0. */
+   answers is room for none, and null for calls is the empty list with length 0, and
+   else a list of one number, with the cause SASZVIGOM_LIST_CUT at 0. */
 static inline uint64_t saszvigom_graph_replay(struct saszvigom_graph *graph, const uint64_t *calls,
                                               size_t calls_len, uint64_t *answers,
                                               size_t answers_len)

@@ -1,7 +1,7 @@
 //! Why a call is refused, and at which place (document 01, "Causes, numbers,
 //! and what is untouched").
 
-/// The causes; the value of each is its number in the paper's table.
+/// The causes, by their numbers in the paper's table.
 #[derive(Clone, Copy, Debug, PartialEq, Eq, PartialOrd, Ord)]
 #[repr(u8)]
 pub enum Cause {
@@ -9,30 +9,30 @@ pub enum Cause {
     SizeTooLarge = 1,
     /// A lent buffer is too short; the place is the buffer's number.
     BufferTooShort = 2,
-    /// An adjacency entry is not 0 or 1, a loop, or unequal to its mirror.
+    /// An adjacency cell is not 0 or 1, not 0 on the diagonal, or unequal to its
+    /// mirror.
     AdjacencyFault = 3,
     /// A weight is outside 1..65520.
     WeightOutOfRange = 4,
     /// The session is not well formed.
     SessionMalformed = 5,
-    /// The stored inverse is not the one of the unmatched vertices, or these
-    /// have none.
+    /// The inverse is not that of the unmatched vertices, or they have none.
     InverseWrong = 6,
     /// A vertex is not below n, or named twice.
     VertexInvalid = 7,
-    /// A vertex is matched already.
+    /// A vertex is already matched.
     VertexMatched = 8,
     /// The two vertices are not adjacent.
     NotAdjacent = 9,
     /// The vertices unmatched after the call would have no inverse.
     RestSingular = 10,
-    /// No vertex is unmatched; or there is no pair to undo.
+    /// No vertex is unmatched, or there is no pair to undo.
     NothingLeft = 11,
-    /// A record's kind is unknown or not due, or bytes follow the end; or a call
+    /// A record's kind is unknown or not due, or bytes follow the end. Or a call
     /// of a replay has an unknown kind.
     KindNotDue = 12,
-    /// The data stops inside a body or before the end record; or the list of a
-    /// replay stops inside a call.
+    /// The data stops inside a body or before the end record. Or the list of a
+    /// replay ends inside a call.
     DataStops = 13,
     /// A record names a vertex not below n, or the same vertex twice.
     RecordVertexInvalid = 14,
@@ -41,16 +41,17 @@ pub enum Cause {
 }
 
 impl Cause {
+    /// Returns the number in the paper's table.
     pub fn number(self) -> u8 {
         self as u8
     }
 
-    /// A refusal with this cause and the place 0.
+    /// Refuses for this cause, at place 0.
     pub fn refusal(self) -> Refusal {
         self.at(0)
     }
 
-    /// A refusal with this cause and the given place.
+    /// Refuses for this cause, at the given place.
     pub fn at(self, place: u64) -> Refusal {
         Refusal { cause: self, place }
     }
@@ -64,7 +65,7 @@ pub struct Refusal {
 }
 
 impl Refusal {
-    /// The cause's number and the place.
+    /// Returns the cause's number and the place.
     pub fn numbers(self) -> (u8, u64) {
         (self.cause.number(), self.place)
     }
@@ -79,13 +80,13 @@ pub mod buffer {
     /// Document 01: "held".
     pub const INVERSE: u64 = 3;
     /// Document 01: "strip".
-    pub const ORDER: u64 = 4;
+    pub const SEQUENCE: u64 = 4;
     /// Document 01: "witness".
-    pub const KERNEL: u64 = 5;
+    pub const WITNESS: u64 = 5;
     /// Document 01: "work".
-    pub const SCRATCH: u64 = 6;
+    pub const WORK: u64 = 6;
     /// Document 01: "row".
     pub const ROW: u64 = 7;
-    /// The answers of a replay. Its list of calls is 8.
+    /// The answers of a replay, which document 01 does not number.
     pub const ANSWERS: u64 = 10;
 }

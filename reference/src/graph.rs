@@ -14,9 +14,11 @@ pub enum Extent {
     /// n.
     Vertices,
     /// n times n.
-    Square,
+    Cells,
     /// n(n - 1)/2.
-    Pairs,
+    Weights,
+    /// A number that does not depend on n.
+    Fixed(usize),
 }
 
 /// A lent buffer as cause 2 sees it.
@@ -47,8 +49,8 @@ impl<'a> Graph<'a> {
         Graph::checked_with(size, adjacency, weights, &[])
     }
 
-    /// The same for a call that is lent other buffers too, in ascending
-    /// numbers: all lengths are looked at before any entry.
+    /// checked, for a call that is lent other buffers too, in ascending numbers:
+    /// looks at all lengths before any cell.
     pub fn checked_with(
         size: u64,
         adjacency: &'a [u8],
@@ -63,21 +65,22 @@ impl<'a> Graph<'a> {
         Ok(Graph {
             size: n,
             adjacency: &adjacency[..n * n],
-            weights: &weights[..pair_count(n)],
+            weights: &weights[..weight_count(n)],
         })
     }
 
-    /// The number n of vertices.
+    /// Returns the number n of vertices.
     pub fn size(&self) -> usize {
         self.size
     }
 
-    /// Whether i and j are joined by an edge; false for other numbers.
+    /// Whether i and j are adjacent. False if either is not below n.
     pub fn adjacent(&self, i: usize, j: usize) -> bool {
         i < self.size && j < self.size && self.adjacency[i * self.size + j] == 1
     }
 
-    /// The weight of two different vertices, in either order.
+    /// Returns the weight of i and j, in either order. None if i = j or either is
+    /// not below n.
     pub fn weight(&self, i: usize, j: usize) -> Option<u16> {
         let (low, high) = (i.min(j), i.max(j));
         if low < high && high < self.size {
@@ -87,8 +90,8 @@ impl<'a> Graph<'a> {
         }
     }
 
-    /// The entry of the Tutte matrix (document 01: "matrix A"): the weight
-    /// above the diagonal, p minus the weight below, 0 without an edge.
+    /// Returns entry (i, j) of the Tutte matrix (document 01: "matrix A"): the
+    /// weight above the diagonal, p minus the weight below, 0 without an edge.
     pub fn tutte_entry(&self, i: usize, j: usize) -> Residue {
         if !self.adjacent(i, j) {
             return Residue::ZERO;
@@ -101,20 +104,20 @@ impl<'a> Graph<'a> {
         }
     }
 
-    /// The Tutte matrix restricted to some vertices, in the order given.
+    /// Restricts the Tutte matrix to these vertices, in the order given.
     pub fn tutte_matrix(&self, vertices: &[usize]) -> Matrix {
         Matrix::from_entries(vertices.len(), vertices.len(), |row, column| {
             self.tutte_entry(vertices[row], vertices[column])
         })
     }
 
-    /// All vertices, ascending.
+    /// Lists all vertices, ascending.
     pub fn vertices(&self) -> Vec<usize> {
         (0..self.size).collect()
     }
 }
 
-/// Cause 1: the size as a small number, or a refusal above 96.
+/// Returns the size as an index, or refuses one above 96: cause 1.
 pub(crate) fn checked_size(size: u64) -> Result<usize, Refusal> {
     if size > MAX_VERTICES {
         Err(Cause::SizeTooLarge.refusal())
@@ -123,43 +126,46 @@ pub(crate) fn checked_size(size: u64) -> Result<usize, Refusal> {
     }
 }
 
-/// The number n(n - 1)/2 of weights of n vertices, n at most 96.
-pub(crate) fn pair_count(n: usize) -> usize {
+/// Counts the weights of n vertices: n(n - 1)/2.
+pub(crate) fn weight_count(n: usize) -> usize {
     n * n.saturating_sub(1) / 2
 }
 
-/// The index of the weight of i < j < n: the rows before i hold
+/// Returns the index of the weight of i < j < n: the rows before i have
 /// (n - 1) + (n - 2) + .. weights.
 fn weight_index(n: usize, i: usize, j: usize) -> usize {
     i * n - i * (i + 1) / 2 + (j - i - 1)
 }
 
+/// Describes the two buffers of a graph.
 pub(crate) fn graph_buffers(adjacency: &[u8], weights: &[u16]) -> [Lent; 2] {
     [
         Lent {
             number: buffer::ADJACENCY,
-            extent: Extent::Square,
+            extent: Extent::Cells,
             length: adjacency.len(),
         },
         lent_weights(weights),
     ]
 }
 
+/// Describes the buffer of weights.
 pub(crate) fn lent_weights(weights: &[u16]) -> Lent {
     Lent {
         number: buffer::WEIGHTS,
-        extent: Extent::Pairs,
+        extent: Extent::Weights,
         length: weights.len(),
     }
 }
 
-/// Cause 2: the first buffer that is too short for n vertices.
+/// Refuses the first buffer that is too short for n vertices: cause 2.
 pub(crate) fn check_lengths(n: usize, lent: &[Lent]) -> Result<(), Refusal> {
     for buffer in lent {
         let needed = match buffer.extent {
             Extent::Vertices => n,
-            Extent::Square => n * n,
-            Extent::Pairs => pair_count(n),
+            Extent::Cells => n * n,
+            Extent::Weights => weight_count(n),
+            Extent::Fixed(count) => count,
         };
         if buffer.length < needed {
             return Err(Cause::BufferTooShort.at(buffer.number));
@@ -168,7 +174,7 @@ pub(crate) fn check_lengths(n: usize, lent: &[Lent]) -> Result<(), Refusal> {
     Ok(())
 }
 
-/// Cause 3: the first bad cell, row by row.
+/// Refuses the first bad cell, row by row: cause 3.
 fn check_adjacency(n: usize, adjacency: &[u8]) -> Result<(), Refusal> {
     for row in 0..n {
         for column in 0..n {
@@ -180,16 +186,17 @@ fn check_adjacency(n: usize, adjacency: &[u8]) -> Result<(), Refusal> {
     Ok(())
 }
 
-/// A cell is bad when it is not 0 or 1, is a loop, or differs from its mirror.
+/// Whether a cell is not 0 or 1, is not 0 on the diagonal, or differs from its
+/// mirror.
 fn bad_cell(n: usize, adjacency: &[u8], row: usize, column: usize) -> bool {
     let cell = adjacency[row * n + column];
     let mirror = adjacency[column * n + row];
     cell > 1 || (row == column && cell != 0) || cell != mirror
 }
 
-/// Cause 4: the first weight outside 1..65520, with or without an edge.
+/// Refuses the first weight outside 1..65520, with or without an edge: cause 4.
 fn check_weights(n: usize, weights: &[u16]) -> Result<(), Refusal> {
-    for (index, &weight) in weights[..pair_count(n)].iter().enumerate() {
+    for (index, &weight) in weights[..weight_count(n)].iter().enumerate() {
         if weight == 0 || u64::from(weight) >= Residue::MODULUS {
             return Err(Cause::WeightOutOfRange.at(index as u64));
         }

@@ -1,11 +1,12 @@
-//! A plain reading of document 01.
+//! The reference: document 01 in plain Rust, which shares nothing with the
+//! crates.
 //!
 //! A graph of at most 96 vertices has an adjacency table and one weight for
-//! each two vertices. Its Tutte matrix modulo 65521 either has an inverse, and
-//! then a session matches the vertices pair by pair, or has a kernel vector.
+//! every two vertices. Its Tutte matrix modulo 65521 either has an inverse, and
+//! then a session matches the vertices pair by pair, or has a witness.
 //!
 //! Every decision is taken afresh by elimination from the adjacency table and
-//! the weights; nothing is updated. The modules stand in the order of the
+//! the weights: no inverse is updated. The modules stand in the order of the
 //! paper's sections.
 
 /// "The desk and its parts": numbers modulo 65521.
@@ -17,13 +18,13 @@ pub mod graph;
 /// "Sheet, matrix, session" and "Opening": inverse, rank, dependent columns.
 pub mod linear_algebra;
 
-/// "Opening": the inverse, or the kernel vector of the first dependent column.
+/// "Opening": the inverse, or the witness of the first dependent column.
 pub mod opening;
 
 /// "Opening", last paragraph: the part of a buffer that is shown.
 pub mod display;
 
-/// "Session calls": match two vertices, match the lowest, undo, partner row.
+/// "Session calls": pick, automatic, undo, row.
 pub mod session;
 
 /// "The plain desk": a list of pairs and nothing else.
@@ -32,7 +33,7 @@ pub mod model;
 /// "Draw roll": the generator of the weights.
 pub mod draws;
 
-/// "Sheet records": the reader of a graph.
+/// "Sheet records": the reader of a sheet.
 pub mod records;
 
 /// "Causes, numbers, and what is untouched": why a call is refused, and where.
@@ -41,7 +42,7 @@ pub mod causes;
 /// "Listing": what the program prints.
 pub mod listing;
 
-/// "Sheet records": any bytes as a readable text, and back.
+/// "Sheet records": the bytes of a sheet as text, and back.
 pub mod text;
 
 /// "For the host": words as two bytes, low first.

@@ -11,7 +11,7 @@ pub struct Matrix {
 }
 
 impl Matrix {
-    /// The matrix with the given rows; none if their lengths differ.
+    /// Makes a matrix of the given rows. None if their lengths differ.
     pub fn from_rows(rows: Vec<Vec<Residue>>) -> Option<Matrix> {
         let columns = rows.first().map_or(0, Vec::len);
         if rows.iter().all(|row| row.len() == columns) {
@@ -45,12 +45,12 @@ impl Matrix {
         self.rows.len() == self.columns
     }
 
-    /// The entry at a row and a column; none outside the matrix.
+    /// Returns entry (row, column). None outside the matrix.
     pub fn get(&self, row: usize, column: usize) -> Option<Residue> {
         self.rows.get(row)?.get(column).copied()
     }
 
-    /// The product; none where the shapes do not fit.
+    /// Multiplies two matrices. None if their shapes do not fit.
     pub fn times(&self, other: &Matrix) -> Option<Matrix> {
         if self.columns != other.rows.len() {
             return None;
@@ -77,7 +77,7 @@ impl Matrix {
         self.is_square() && *self == Matrix::from_entries(self.columns, self.columns, unit)
     }
 
-    /// The first columns, at most `count` of them.
+    /// Keeps the first `count` columns, or all if there are fewer.
     pub fn first_columns(&self, count: usize) -> Matrix {
         let columns = count.min(self.columns);
         Matrix::from_entries(self.rows.len(), columns, |row, column| {
@@ -85,7 +85,7 @@ impl Matrix {
         })
     }
 
-    /// The matrix with the columns of another of as many rows beside it.
+    /// Appends the columns of `right`, which has the same number of rows.
     fn beside(&self, right: &Matrix) -> Matrix {
         Matrix::from_entries(
             self.rows.len(),
@@ -108,13 +108,14 @@ struct Echelon {
 }
 
 impl Echelon {
-    /// Whether each of the first columns has a pivot.
+    /// Whether each of the first `count` columns has a pivot.
     fn has_pivots_in_first(&self, count: usize) -> bool {
         (0..count).all(|column| self.pivots.get(column) == Some(&column))
     }
 }
 
-/// Gauss-Jordan elimination, column by column from the left.
+/// Eliminates by Gauss and Jordan, column by column from the left. After each
+/// column the first rows are reduced, one for each pivot found.
 fn reduced_echelon(matrix: &Matrix) -> Echelon {
     let mut rows = matrix.rows.clone();
     let mut pivots = Vec::new();
@@ -139,8 +140,8 @@ fn reduced_echelon(matrix: &Matrix) -> Echelon {
     Echelon { rows, pivots }
 }
 
-/// The first row from `top` on whose entry in the column is not zero, and the
-/// reciprocal of that entry.
+/// Finds the first row from `top` on whose entry in the column is not zero, and
+/// the reciprocal of that entry.
 fn find_pivot(rows: &[Vec<Residue>], top: usize, column: usize) -> Option<(usize, Residue)> {
     (top..rows.len()).find_map(|row| Some((row, rows[row][column].reciprocal()?)))
 }
@@ -156,20 +157,20 @@ fn subtract_multiple(row: &mut [Residue], factor: Residue, pivot_row: &[Residue]
     }
 }
 
-/// The rank.
+/// Returns the rank.
 pub fn rank(matrix: &Matrix) -> usize {
     reduced_echelon(matrix).pivots.len()
 }
 
-/// The first column that is a combination of the columns before it. A zero
+/// Finds the first column that is a combination of the columns before it. A zero
 /// column 0 is one: the empty combination is zero.
 pub fn first_dependent_column(matrix: &Matrix) -> Option<usize> {
     let pivots = reduced_echelon(matrix).pivots;
     (0..matrix.columns).find(|&column| pivots.get(column) != Some(&column))
 }
 
-/// The one vector x with matrix times x equal to the right side; none if there
-/// is no such vector or more than one.
+/// Finds the one vector x with matrix times x equal to the right side. None if
+/// there is no such vector or more than one.
 pub fn solve(matrix: &Matrix, right_side: &[Residue]) -> Option<Vec<Residue>> {
     if right_side.len() != matrix.rows.len() {
         return None;
@@ -184,8 +185,8 @@ pub fn solve(matrix: &Matrix, right_side: &[Residue]) -> Option<Vec<Residue>> {
     }
 }
 
-/// The inverse; none for a singular matrix or one that is not square. The
-/// inverse of the empty matrix is empty.
+/// Inverts a matrix. None if it is singular or not square. The inverse of the
+/// empty matrix is empty.
 pub fn inverse(matrix: &Matrix) -> Option<Matrix> {
     if !matrix.is_square() {
         return None;
@@ -208,9 +209,10 @@ pub fn inverse(matrix: &Matrix) -> Option<Matrix> {
     }
 }
 
-/// The first dependent column f and the one vector w with matrix times w equal
-/// to zero, w(f) = 1 and zeros after f; none if the columns are independent.
-pub fn kernel_vector(matrix: &Matrix) -> Option<(usize, Vec<Residue>)> {
+/// Finds the first dependent column f and the one vector w with matrix times w
+/// equal to zero, w(f) = 1 and zeros after f. None if the columns are
+/// independent.
+pub fn witness(matrix: &Matrix) -> Option<(usize, Vec<Residue>)> {
     let column = first_dependent_column(matrix)?;
     let negated: Vec<Residue> = matrix
         .rows
@@ -223,7 +225,7 @@ pub fn kernel_vector(matrix: &Matrix) -> Option<(usize, Vec<Residue>)> {
     Some((column, vector))
 }
 
-/// The determinant by elimination below the diagonal; none for a matrix that
+/// Finds the determinant by elimination below the diagonal. None if the matrix
 /// is not square. The determinant of the empty matrix is one.
 pub fn determinant(matrix: &Matrix) -> Option<Residue> {
     if !matrix.is_square() {

@@ -1,12 +1,12 @@
 //! What the program prints (document 01, "Listing").
 
 use crate::causes::Refusal;
-use crate::graph::{pair_count, MAX_VERTICES};
+use crate::graph::{weight_count, MAX_VERTICES};
 use crate::opening::{open, Opening};
 use crate::records::{read_graph, Counts};
-use crate::session::{match_lowest, Session};
+use crate::session::{automatic, Session};
 
-/// The most bytes the program reads.
+/// How many bytes the program reads at most.
 pub const INPUT_LIMIT: usize = 16_384;
 
 /// Buffers for the largest graph.
@@ -14,12 +14,12 @@ struct Buffers {
     adjacency: Vec<u8>,
     weights: Vec<u16>,
     inverse: Vec<u16>,
-    order: Vec<u8>,
-    kernel: Vec<u16>,
-    scratch: Vec<u16>,
+    sequence: Vec<u8>,
+    witness: Vec<u16>,
+    work: Vec<u16>,
 }
 
-/// The whole listing of a graph's records, every line ended by a line feed.
+/// Lists a sheet: the whole text, every line ended by a line feed.
 pub fn listing(bytes: &[u8]) -> String {
     match accepted_lines(bytes) {
         Ok(lines) => lines,
@@ -40,14 +40,14 @@ fn accepted_lines(bytes: &[u8]) -> Result<String, Refusal> {
         &buffers.adjacency,
         &buffers.weights,
         &mut buffers.inverse,
-        &mut buffers.order,
-        &mut buffers.kernel,
-        &mut buffers.scratch,
+        &mut buffers.sequence,
+        &mut buffers.witness,
+        &mut buffers.work,
     )?;
     let rest = match opening {
         Opening::Opened(session) => pair_lines(session, &mut buffers) + "verdict F\n",
         Opening::Singular { .. } => {
-            witness_lines(&buffers.kernel[..counts.size as usize]) + "verdict N\n"
+            witness_lines(&buffers.witness[..counts.size as usize]) + "verdict N\n"
         }
     };
     Ok(first_line(counts) + &rest)
@@ -57,11 +57,11 @@ fn largest_buffers() -> Buffers {
     let n = MAX_VERTICES as usize;
     Buffers {
         adjacency: vec![0; n * n],
-        weights: vec![0; pair_count(n)],
+        weights: vec![0; weight_count(n)],
         inverse: vec![0; n * n],
-        order: vec![0; n],
-        kernel: vec![0; n],
-        scratch: vec![0; n * n],
+        sequence: vec![0; n],
+        witness: vec![0; n],
+        work: vec![0; n * n],
     }
 }
 
@@ -69,29 +69,29 @@ fn first_line(counts: Counts) -> String {
     format!("sleeves {} links {}\n", counts.size, counts.edges)
 }
 
-/// Automatic steps until one is refused, a line for each pair.
+/// Makes automatic picks until one is refused, and returns a line for each pair.
 fn pair_lines(opened: Session, buffers: &mut Buffers) -> String {
     let mut lines = String::new();
     let mut session = opened;
     loop {
-        let outcome = match_lowest(
+        let outcome = automatic(
             session,
             &buffers.adjacency,
             &buffers.weights,
             &mut buffers.inverse,
-            &mut buffers.order,
+            &mut buffers.sequence,
         );
         match outcome.answer {
-            Ok(edge) => lines += &format!("pair {} {}\n", edge.smaller, edge.larger),
+            Ok(pair) => lines += &format!("pair {} {}\n", pair.smaller, pair.larger),
             Err(_) => return lines,
         }
         session = outcome.session;
     }
 }
 
-/// A line for each nonzero word of the kernel vector, ascending.
-fn witness_lines(kernel: &[u16]) -> String {
-    let nonzero = kernel.iter().enumerate().filter(|(_, &word)| word != 0);
+/// Returns a line for each nonzero word of the witness, ascending.
+fn witness_lines(witness: &[u16]) -> String {
+    let nonzero = witness.iter().enumerate().filter(|(_, &word)| word != 0);
     nonzero
         .map(|(index, word)| format!("witness {index} {word}\n"))
         .collect()

@@ -1,54 +1,54 @@
 //! The plain model of a run of calls (document 01, "The plain desk").
 //!
-//! It keeps a list of pairs and nothing else. Everything else is worked out
-//! from that list and the graph, inverses by solving for one column after the
-//! other, their existence by the rank.
+//! It keeps a list of pairs and nothing else. All else follows from that list
+//! and the graph: inverses by solving for one column after the other, their
+//! existence by the rank.
 
 use crate::causes::{Cause, Refusal};
 use crate::graph::Graph;
 use crate::linear_algebra;
 use crate::residue::Residue;
-use crate::session::{Edge, Session, UNUSED};
+use crate::session::{Pair, Session, UNUSED};
 
 /// The list of pairs, in the order in which they were matched (document 01:
 /// "plain desk").
 #[derive(Clone, Debug, Default, PartialEq, Eq)]
 pub struct Model {
-    pub pairs: Vec<Edge>,
+    pub pairs: Vec<Pair>,
 }
 
 impl Model {
-    /// The model after opening.
+    /// Makes the model after opening, with no pairs.
     pub fn new() -> Model {
         Model::default()
     }
 
-    /// Matches a and b: refused with the lowest of 7, 8, 9 and 10 that applies.
-    pub fn match_pair(&mut self, graph: &Graph, a: u64, b: u64) -> Result<Edge, Refusal> {
+    /// Picks a and b (document 01: "hand pick"). Refuses with the lowest of 7, 8,
+    /// 9 and 10 that applies.
+    pub fn pick(&mut self, graph: &Graph, a: u64, b: u64) -> Result<Pair, Refusal> {
         if let Some(cause) = self.pair_cause(graph, a, b) {
             return Err(cause.refusal());
         }
-        let edge = Edge {
+        let pair = Pair {
             smaller: a.min(b),
             larger: a.max(b),
         };
-        self.pairs.push(edge);
-        Ok(edge)
+        self.pairs.push(pair);
+        Ok(pair)
     }
 
-    /// Matches the lowest unmatched vertex with its lowest open partner.
-    pub fn match_lowest(&mut self, graph: &Graph) -> Result<Edge, Refusal> {
+    /// Picks the lowest unmatched vertex and its lowest partner (document 01:
+    /// "automatic pick").
+    pub fn automatic(&mut self, graph: &Graph) -> Result<Pair, Refusal> {
         let nothing_left = Cause::NothingLeft.refusal();
         let &lowest = self.unmatched(graph).first().ok_or(nothing_left)?;
-        let &partner = self
-            .open_partners(graph, lowest)
-            .first()
-            .ok_or(nothing_left)?;
-        self.match_pair(graph, lowest, partner)
+        let &partner = self.partners(graph, lowest).first().ok_or(nothing_left)?;
+        self.pick(graph, lowest, partner)
     }
 
-    /// Removes the last pair: 11 without one, 10 if no inverse would be left.
-    pub fn undo(&mut self, graph: &Graph) -> Result<Edge, Refusal> {
+    /// Removes the last pair (document 01: "take-back"). Refuses with 11 without
+    /// a pair, then with 10 if no inverse would be left.
+    pub fn undo(&mut self, graph: &Graph) -> Result<Pair, Refusal> {
         let (&last, before) = self
             .pairs
             .split_last()
@@ -63,7 +63,7 @@ impl Model {
         Ok(last)
     }
 
-    /// The vertices on no pair, ascending.
+    /// Lists the vertices in no pair, ascending.
     pub fn unmatched(&self, graph: &Graph) -> Vec<u64> {
         let is_unmatched = |vertex: &u64| {
             self.pairs
@@ -73,7 +73,7 @@ impl Model {
         (0..graph.size() as u64).filter(is_unmatched).collect()
     }
 
-    /// The lowest of the causes 7 to 10 that applies to matching a and b.
+    /// Finds the lowest of the causes 7 to 10 that applies to a pick of a and b.
     pub fn pair_cause(&self, graph: &Graph, a: u64, b: u64) -> Option<Cause> {
         let n = graph.size() as u64;
         let unmatched = self.unmatched(graph);
@@ -95,26 +95,26 @@ impl Model {
         }
     }
 
-    /// The vertices whose matching with a would be accepted, ascending (document
+    /// Lists the vertices whose pick with a would be accepted, ascending (document
     /// 01: "open partner").
-    pub fn open_partners(&self, graph: &Graph, a: u64) -> Vec<u64> {
+    pub fn partners(&self, graph: &Graph, a: u64) -> Vec<u64> {
         (0..graph.size() as u64)
             .filter(|&b| self.pair_cause(graph, a, b).is_none())
             .collect()
     }
 
-    /// How many automatic steps in a row are accepted before one is refused
+    /// Counts the automatic picks in a row that are accepted before one is refused
     /// (document 01: "picks to come").
-    pub fn steps_to_come(&self, graph: &Graph) -> u64 {
+    pub fn picks_to_come(&self, graph: &Graph) -> u64 {
         let mut ahead = self.clone();
-        let mut steps = 0;
-        while ahead.match_lowest(graph).is_ok() {
-            steps += 1;
+        let mut picks = 0;
+        while ahead.automatic(graph).is_ok() {
+            picks += 1;
         }
-        steps
+        picks
     }
 
-    /// The size and the number of pairs.
+    /// Returns the session: the size and the number of pairs.
     pub fn session(&self, graph: &Graph) -> Session {
         Session {
             size: graph.size() as u64,
@@ -122,19 +122,21 @@ impl Model {
         }
     }
 
-    /// The pairs in order, then unused bytes, n in all.
-    pub fn order(&self, graph: &Graph) -> Vec<u8> {
-        let mut order: Vec<u8> = self
+    /// Returns the sequence of pairs (document 01: "strip"): the pairs in order,
+    /// then unused bytes, n in all.
+    pub fn sequence(&self, graph: &Graph) -> Vec<u8> {
+        let mut sequence: Vec<u8> = self
             .pairs
             .iter()
             .flat_map(|pair| [pair.smaller as u8, pair.larger as u8])
             .collect();
-        order.resize(graph.size(), UNUSED);
-        order
+        sequence.resize(graph.size(), UNUSED);
+        sequence
     }
 
-    /// The inverse for the unmatched vertices as a table of n times n words, 0
-    /// in the other rows and columns; none if there is no inverse.
+    /// Returns the inverse for the unmatched vertices as a table of n times n words
+    /// (document 01: "held table"), 0 in the other rows and columns. None if there
+    /// is no inverse.
     pub fn inverse(&self, graph: &Graph) -> Option<Vec<u16>> {
         let n = graph.size();
         let vertices = indices(&self.unmatched(graph));
@@ -156,8 +158,8 @@ fn indices(vertices: &[u64]) -> Vec<usize> {
     vertices.iter().map(|&vertex| vertex as usize).collect()
 }
 
-/// Whether the Tutte matrix of some vertices has an inverse; that of no
-/// vertices has.
+/// Whether the Tutte matrix of these vertices has an inverse. That of no
+/// vertices has one.
 fn has_inverse(graph: &Graph, vertices: &[u64]) -> bool {
     let matrix = graph.tutte_matrix(&indices(vertices));
     linear_algebra::rank(&matrix) == matrix.row_count()

@@ -2,26 +2,26 @@
 
 use crate::causes::Refusal;
 use crate::records::Counts;
-use crate::session::{Edge, Outcome};
+use crate::session::{Outcome, Pair};
 
-/// A pair appended or removed: kind 3, the smaller vertex in bits 16 to 23 and
-/// the larger in bits 24 to 31.
-pub fn pair_number(outcome: &Outcome<Edge>) -> u64 {
-    number(outcome, 3, |edge| edge.smaller | edge.larger << 8)
+/// Answers a pair appended or removed: kind 3, the smaller vertex in bits 16 to
+/// 23 and the larger in bits 24 to 31.
+pub fn pair_number(outcome: &Outcome<Pair>) -> u64 {
+    number(outcome, 3, |pair| pair.smaller | pair.larger << 8)
 }
 
-/// A row written: kind 4.
+/// Answers a row written: kind 4.
 pub fn row_number(outcome: &Outcome<()>) -> u64 {
     number(outcome, 4, |_| 0)
 }
 
-/// A list of calls made: kind 5.
+/// Answers a list of calls made: kind 5.
 pub fn replay_number(outcome: &Outcome<()>) -> u64 {
     number(outcome, 5, |_| 0)
 }
 
-/// A graph read: kind 6, the number of edges in bits 16 to 31 and the size in
-/// bits 32 to 39.
+/// Answers a sheet read: kind 6, the number of edges in bits 16 to 31 and the
+/// size in bits 32 to 39.
 pub fn read_number(answer: Result<Counts, Refusal>) -> u64 {
     match answer {
         Ok(counts) => 6 << 8 | counts.edges << 16 | counts.size << 32,
@@ -29,7 +29,7 @@ pub fn read_number(answer: Result<Counts, Refusal>) -> u64 {
     }
 }
 
-/// Weights drawn: kind 7, how many in bits 16 to 31.
+/// Answers weights drawn: kind 7, how many in bits 16 to 31.
 pub fn draws_number(answer: Result<u64, Refusal>) -> u64 {
     match answer {
         Ok(count) => 7 << 8 | count << 16,
@@ -37,8 +37,9 @@ pub fn draws_number(answer: Result<u64, Refusal>) -> u64 {
     }
 }
 
-/// Bits 0 to 7: the cause, or 0; 8 to 15: the kind, or 0; 16 to 31: a value, or
-/// the place; 32 to 39: the pairs made, where the call was carried out.
+/// Sets bits 0 to 7 to the cause, or 0; 8 to 15 to the answer-kind, or 0; 16 to
+/// 31 to a value, or the place; 32 to 39 to the pairs made, if the call was
+/// carried out.
 fn number<T>(outcome: &Outcome<T>, kind: u64, value: impl Fn(&T) -> u64) -> u64 {
     match &outcome.answer {
         Ok(answer) => kind << 8 | value(answer) << 16 | outcome.session.pairs << 32,

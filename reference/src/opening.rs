@@ -17,59 +17,58 @@ pub enum Opening {
 /// What opening writes.
 struct Contents {
     inverse: Vec<u16>,
-    kernel: Vec<u16>,
+    witness: Vec<u16>,
 }
 
-/// Opens a session on a graph. Lent are the adjacency table, the weights, the
-/// table of the inverse, the order of matching, the kernel vector (document 01:
-/// "witness") and the scratch table (document 01: "work").
+/// Opens a session on a graph. Writes the inverse, the sequence of pairs, the
+/// witness and the work table.
 pub fn open(
     size: u64,
     adjacency: &[u8],
     weights: &[u16],
     inverse: &mut [u16],
-    order: &mut [u8],
-    kernel: &mut [u16],
-    scratch: &mut [u16],
+    sequence: &mut [u8],
+    witness: &mut [u16],
+    work: &mut [u16],
 ) -> Result<Opening, Refusal> {
-    let others = other_buffers(inverse.len(), order.len(), kernel.len(), scratch.len());
+    let others = other_buffers(inverse.len(), sequence.len(), witness.len(), work.len());
     let graph = Graph::checked_with(size, adjacency, weights, &others)?;
     let n = graph.size();
     let (opening, contents) = decide(&graph);
     inverse[..n * n].copy_from_slice(&contents.inverse);
-    kernel[..n].copy_from_slice(&contents.kernel);
-    order[..n].fill(UNUSED);
-    scratch[..n * n].fill(0);
+    witness[..n].copy_from_slice(&contents.witness);
+    sequence[..n].fill(UNUSED);
+    work[..n * n].fill(0);
     Ok(opening)
 }
 
-fn other_buffers(inverse: usize, order: usize, kernel: usize, scratch: usize) -> [Lent; 4] {
+fn other_buffers(inverse: usize, sequence: usize, witness: usize, work: usize) -> [Lent; 4] {
     let lent = |number, extent, length| Lent {
         number,
         extent,
         length,
     };
     [
-        lent(buffer::INVERSE, Extent::Square, inverse),
-        lent(buffer::ORDER, Extent::Vertices, order),
-        lent(buffer::KERNEL, Extent::Vertices, kernel),
-        lent(buffer::SCRATCH, Extent::Square, scratch),
+        lent(buffer::INVERSE, Extent::Cells, inverse),
+        lent(buffer::SEQUENCE, Extent::Vertices, sequence),
+        lent(buffer::WITNESS, Extent::Vertices, witness),
+        lent(buffer::WORK, Extent::Cells, work),
     ]
 }
 
-/// A zero table and the kernel vector, or, without a dependent column, the
-/// inverse and a zero kernel vector.
+/// Finds the witness of the first dependent column, or, if there is none, the
+/// inverse. The other of the two is 0.
 fn decide(graph: &Graph) -> (Opening, Contents) {
     let n = graph.size();
     let vertices = graph.vertices();
-    match linear_algebra::kernel_vector(&graph.tutte_matrix(&vertices)) {
+    match linear_algebra::witness(&graph.tutte_matrix(&vertices)) {
         Some((column, vector)) => {
             let opening = Opening::Singular {
                 column: column as u64,
             };
             let contents = Contents {
                 inverse: vec![0; n * n],
-                kernel: vector.into_iter().map(|word| word.word()).collect(),
+                witness: vector.into_iter().map(|word| word.word()).collect(),
             };
             (opening, contents)
         }
@@ -80,7 +79,7 @@ fn decide(graph: &Graph) -> (Opening, Contents) {
             });
             let contents = Contents {
                 inverse: inverse_table(graph, &vertices).unwrap_or_else(|| vec![0; n * n]),
-                kernel: vec![0; n],
+                witness: vec![0; n],
             };
             (opening, contents)
         }

@@ -1,8 +1,8 @@
-//! The reader of a graph (document 01, "Sheet records").
+//! The reader of a sheet (document 01, "Sheet records").
 
 use crate::causes::{Cause, Refusal};
 use crate::draws;
-use crate::graph::{check_lengths, graph_buffers, pair_count, MAX_VERTICES};
+use crate::graph::{check_lengths, graph_buffers, weight_count, MAX_VERTICES};
 
 /// The two vertices of an edge record, in the order of the bytes.
 #[derive(Clone, Copy, Debug, PartialEq, Eq)]
@@ -43,7 +43,7 @@ impl Due {
 }
 
 /// What was read: the size and the number of edge records (document 01:
-/// "links").
+/// "number of links").
 #[derive(Clone, Copy, Debug, PartialEq, Eq)]
 pub struct Counts {
     pub size: u64,
@@ -62,13 +62,13 @@ impl<'a> Reader<'a> {
         Reader { bytes, place: 0 }
     }
 
-    /// The offset of the next record.
+    /// Returns the offset of the next record.
     pub fn place(&self) -> u64 {
         self.place as u64
     }
 
-    /// The next record: cause 12 if its kind is not due, cause 13 if the data
-    /// stops before or inside it. The place moves only past a whole record.
+    /// Reads the next record. Refuses with cause 12 if its kind is not due, with 13
+    /// if the data stops before or inside it. Moves only past a whole record.
     pub fn next_record(&mut self, due: Due) -> Result<Record, Refusal> {
         let stops = Cause::DataStops.at(self.bytes.len() as u64);
         let (&kind, rest) = self.bytes[self.place..].split_first().ok_or(stops)?;
@@ -86,7 +86,7 @@ impl<'a> Reader<'a> {
         Ok(record)
     }
 
-    /// Cause 12 if bytes follow the end record.
+    /// Refuses bytes after the end record: cause 12.
     pub fn finish(&self) -> Result<(), Refusal> {
         if self.place < self.bytes.len() {
             return Err(self.not_due());
@@ -99,7 +99,7 @@ impl<'a> Reader<'a> {
     }
 }
 
-/// The records of a whole graph.
+/// The records of a whole sheet.
 struct Parsed {
     size: usize,
     seed: u32,
@@ -107,8 +107,8 @@ struct Parsed {
     edges: u64,
 }
 
-/// Reads a graph and fills the adjacency table and the weights. The first
-/// faulty record is refused; the lengths of the buffers come last.
+/// Reads a sheet and fills the adjacency table and the weights. Refuses the first
+/// faulty record; looks at the lengths of the buffers last.
 pub fn read_graph(
     bytes: &[u8],
     adjacency: &mut [u8],
@@ -119,8 +119,8 @@ pub fn read_graph(
     check_lengths(n, &graph_buffers(adjacency, weights))?;
     adjacency[..n * n].copy_from_slice(&parsed.adjacency);
     let drawn = draws::weights(parsed.seed);
-    for (weight, draw) in weights[..pair_count(n)].iter_mut().zip(drawn) {
-        *weight = draw;
+    for (word, weight) in weights[..weight_count(n)].iter_mut().zip(drawn) {
+        *word = weight;
     }
     Ok(Counts {
         size: n as u64,
@@ -150,7 +150,7 @@ fn parse(bytes: &[u8]) -> Result<Parsed, Refusal> {
     Ok(parsed)
 }
 
-/// The size record; cause 1 at its offset.
+/// Reads the size record. Refuses a size above 96: cause 1 at its offset.
 fn read_size(reader: &mut Reader) -> Result<usize, Refusal> {
     let offset = reader.place();
     match reader.next_record(Due::Size)? {
@@ -159,7 +159,7 @@ fn read_size(reader: &mut Reader) -> Result<usize, Refusal> {
     }
 }
 
-/// The seed record.
+/// Reads the seed record.
 fn read_seed(reader: &mut Reader) -> Result<u32, Refusal> {
     let not_due = reader.not_due();
     match reader.next_record(Due::Seed)? {
@@ -168,7 +168,7 @@ fn read_seed(reader: &mut Reader) -> Result<u32, Refusal> {
     }
 }
 
-/// An edge record; cause 14, then cause 15, at its offset.
+/// Adds the edge of a record. Refuses with cause 14, then 15, at its offset.
 fn add_edge(parsed: &mut Parsed, body: EdgeBody, offset: u64) -> Result<(), Refusal> {
     let n = parsed.size;
     let (i, j) = (usize::from(body.first), usize::from(body.second));

@@ -1,17 +1,19 @@
 //! A list of session calls, made one after the other (docs/HOST.md, "Replay").
 //!
-//! A call of the list is three numbers: its kind and two vertices, which only a
-//! pick looks at. The list is judged whole before any call is made. Each call is
-//! then a single call on the session that the one before it handed back.
+//! A call of the list is three numbers: its call-kind and two vertices, which
+//! only a pick looks at. The session and the whole list are checked before any
+//! call is made. Each call is then a single call on the session that the one
+//! before it handed back.
 
 use crate::causes::{buffer, Cause, Refusal};
+use crate::graph::{Extent, Lent};
 use crate::numbers::pair_number;
-use crate::session::{check_sound, match_lowest, match_pair, undo, Edge, Outcome, Session};
+use crate::session::{automatic, check_sound, pick, undo, Outcome, Pair, Session};
 
 /// How many numbers a call has.
 const NUMBERS_A_CALL: usize = 3;
 
-/// The place of a fault that lies at this index or farther on.
+/// The place of a fault at this index or a later one.
 const LARGEST_PLACE: u64 = 65535;
 
 /// A call of a list.
@@ -23,7 +25,7 @@ enum Call {
 }
 
 impl Call {
-    /// The call of three numbers; none for an unknown kind.
+    /// Reads the three numbers of a call. None for an unknown call-kind.
     fn from_numbers(numbers: &[u64]) -> Option<Call> {
         match numbers[0] {
             1 => Some(Call::Pick(numbers[1], numbers[2])),
@@ -33,35 +35,42 @@ impl Call {
         }
     }
 
+    /// Makes the call, as a single one.
     fn make(
         self,
         session: Session,
         adjacency: &[u8],
         weights: &[u16],
         inverse: &mut [u16],
-        order: &mut [u8],
-    ) -> Outcome<Edge> {
+        sequence: &mut [u8],
+    ) -> Outcome<Pair> {
         match self {
-            Call::Pick(a, b) => match_pair(session, a, b, adjacency, weights, inverse, order),
-            Call::Automatic => match_lowest(session, adjacency, weights, inverse, order),
-            Call::Undo => undo(session, adjacency, weights, inverse, order),
+            Call::Pick(a, b) => pick(session, a, b, adjacency, weights, inverse, sequence),
+            Call::Automatic => automatic(session, adjacency, weights, inverse, sequence),
+            Call::Undo => undo(session, adjacency, weights, inverse, sequence),
         }
     }
 }
 
-/// Makes all calls of a list and writes what each returns. A faulty list is
-/// refused and no call is made. The answer is otherwise whether the session sent
-/// is sound: each call of one that is not gets the same refusal.
+/// Makes all calls of a list and writes the answer of each. Refuses with the
+/// lowest cause that applies: 1 to 6, the answers being the last buffer of 2,
+/// then 12 and 13. Then no call is made, and nothing is written.
 pub fn replay(
     session: Session,
     adjacency: &[u8],
     weights: &[u16],
     inverse: &mut [u16],
-    order: &mut [u8],
+    sequence: &mut [u8],
     calls: &[u64],
     answers: &mut [u64],
 ) -> Outcome<()> {
-    let list = match checked_list(calls, answers.len()) {
+    let lent = Lent {
+        number: buffer::ANSWERS,
+        extent: Extent::Fixed(calls.len() / NUMBERS_A_CALL),
+        length: answers.len(),
+    };
+    let sound = check_sound(session, adjacency, weights, inverse, sequence, lent);
+    let list = match sound.and_then(|()| checked_list(calls)) {
         Ok(list) => list,
         Err(refusal) => {
             return Outcome {
@@ -70,29 +79,25 @@ pub fn replay(
             }
         }
     };
-    let answer = check_sound(session, adjacency, weights, inverse, order);
     let mut now = session;
     for (call, number) in list.into_iter().zip(answers) {
-        let outcome = call.make(now, adjacency, weights, inverse, order);
+        let outcome = call.make(now, adjacency, weights, inverse, sequence);
         *number = pair_number(&outcome);
         now = outcome.session;
     }
     Outcome {
         session: now,
-        answer,
+        answer: Ok(()),
     }
 }
 
-/// The calls of a list. Refused are too little room for the answers; else an
-/// unknown kind, at the index of its call; else numbers after the last whole
-/// call, at the number of calls.
-fn checked_list(calls: &[u64], room: usize) -> Result<Vec<Call>, Refusal> {
+/// Reads the calls of a list. Refuses the first whole call of an unknown kind, at
+/// its index: cause 12. Else refuses numbers after the last whole call, at the
+/// number of whole calls: cause 13.
+fn checked_list(calls: &[u64]) -> Result<Vec<Call>, Refusal> {
     let whole = calls.chunks_exact(NUMBERS_A_CALL);
     let count = whole.len();
     let rest = whole.remainder().len();
-    if room < count {
-        return Err(Cause::BufferTooShort.at(buffer::ANSWERS));
-    }
     let list = whole
         .enumerate()
         .map(|(index, numbers)| {
@@ -105,7 +110,7 @@ fn checked_list(calls: &[u64], room: usize) -> Result<Vec<Call>, Refusal> {
     Ok(list)
 }
 
-/// An index as a place, which has 16 bits.
+/// Returns an index as a place, which has 16 bits.
 fn place_of(index: usize) -> u64 {
     (index as u64).min(LARGEST_PLACE)
 }

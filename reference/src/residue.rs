@@ -10,12 +10,12 @@ impl Residue {
     pub const ZERO: Residue = Residue(0);
     pub const ONE: Residue = Residue(1);
 
-    /// The residue of any number.
+    /// Reduces any number.
     pub fn new(number: u64) -> Residue {
         Residue((number % Self::MODULUS) as u16)
     }
 
-    /// The residue stored as `word`; none for a word of p or more.
+    /// Takes a word as a residue. None for a word of p or more.
     pub fn from_word(word: u16) -> Option<Residue> {
         if u64::from(word) < Self::MODULUS {
             Some(Residue(word))
@@ -24,7 +24,7 @@ impl Residue {
         }
     }
 
-    /// The word below p that stores this residue.
+    /// Returns the word below p that stores this residue.
     pub fn word(self) -> u16 {
         self.0
     }
@@ -37,7 +37,7 @@ impl Residue {
         Residue::new(self.number() + other.number())
     }
 
-    /// The difference; p is added first, so nothing goes below zero.
+    /// Subtracts. Adds p first, so that nothing goes below zero.
     pub fn minus(self, other: Residue) -> Residue {
         Residue::new(self.number() + Self::MODULUS - other.number())
     }
@@ -50,14 +50,15 @@ impl Residue {
         Residue::new(self.number() * other.number())
     }
 
-    /// This residue plus a product, reduced once. The sum is at most
+    /// Adds the product of a and b, and reduces once. The sum is at most
     /// 65520 * 65520 + 65520, which fits 32 bits.
     pub fn plus_product(self, a: Residue, b: Residue) -> Residue {
         let sum = u32::from(self.0) + u32::from(a.0) * u32::from(b.0);
         Residue((sum % Self::MODULUS as u32) as u16)
     }
 
-    /// The power by repeated squaring; the power with exponent 0 is one.
+    /// Raises to a power by repeated squaring: the result times the square to the
+    /// power left is the power wanted, all along.
     pub fn power(self, exponent: u64) -> Residue {
         let mut result = Residue::ONE;
         let mut square = self;
@@ -72,7 +73,7 @@ impl Residue {
         result
     }
 
-    /// The reciprocal by Fermat's theorem, x^(p-2); zero has none.
+    /// Finds the reciprocal by Fermat's theorem, x^(p-2). None for zero.
     pub fn reciprocal(self) -> Option<Residue> {
         if self == Residue::ZERO {
             None

@@ -1,17 +1,17 @@
 //! The session and its calls (document 01, "Sheet, matrix, session" and
 //! "Session calls").
 //!
-//! Every call is lent the adjacency table, the weights, the table of the
-//! inverse, and the order in which vertices were matched (document 01:
-//! "strip"). It first confirms that the session is sound, judges everything,
-//! and writes last. Inverses are computed afresh from the graph.
+//! Every call is lent the adjacency table, the weights, the inverse (document
+//! 01: "held table") and the sequence of pairs (document 01: "strip"). It first
+//! confirms that the session is sound, then checks all else, and writes last.
+//! Inverses are computed afresh from the graph.
 
 use crate::causes::{buffer, Cause, Refusal};
 use crate::graph::{Extent, Graph, Lent};
 use crate::linear_algebra;
 use crate::residue::Residue;
 
-/// A byte of the order of matching that holds no vertex.
+/// A byte of the sequence of pairs that holds no vertex.
 pub const UNUSED: u8 = 255;
 
 /// The size and the number of pairs made, passed in and handed back (document
@@ -24,7 +24,7 @@ pub struct Session {
 
 /// Two matched vertices, the smaller first (document 01: "pair").
 #[derive(Clone, Copy, Debug, PartialEq, Eq)]
-pub struct Edge {
+pub struct Pair {
     pub smaller: u64,
     pub larger: u64,
 }
@@ -46,44 +46,44 @@ struct Sound<'a> {
 
 /// What an accepted call returns and writes.
 struct Change {
-    edge: Edge,
+    pair: Pair,
     /// The number of pairs afterwards.
     pairs: usize,
-    /// Where two bytes of the order of matching are written, and which.
-    order_index: usize,
-    order_bytes: [u8; 2],
+    /// Where the two bytes are written in the sequence of pairs.
+    sequence_index: usize,
+    sequence_bytes: [u8; 2],
     inverse: Vec<u16>,
 }
 
-/// Matches two vertices, named in either order (document 01: "hand pick").
-pub fn match_pair(
+/// Matches a and b, named in either order (document 01: "hand pick").
+pub fn pick(
     session: Session,
     a: u64,
     b: u64,
     adjacency: &[u8],
     weights: &[u16],
     inverse: &mut [u16],
-    order: &mut [u8],
-) -> Outcome<Edge> {
-    let change = confirm(session, adjacency, weights, inverse, order, None)
-        .and_then(|sound| matching_change(&sound, a, b));
-    carry_out(session, change, inverse, order)
+    sequence: &mut [u8],
+) -> Outcome<Pair> {
+    let change = confirm(session, adjacency, weights, inverse, sequence, None)
+        .and_then(|sound| pick_change(&sound, a, b));
+    carry_out(session, change, inverse, sequence)
 }
 
-/// Matches the lowest unmatched vertex with the lowest vertex it may be matched
-/// with (document 01: "automatic pick").
-pub fn match_lowest(
+/// Matches the lowest unmatched vertex with its lowest partner (document 01:
+/// "automatic pick").
+pub fn automatic(
     session: Session,
     adjacency: &[u8],
     weights: &[u16],
     inverse: &mut [u16],
-    order: &mut [u8],
-) -> Outcome<Edge> {
-    let change = confirm(session, adjacency, weights, inverse, order, None).and_then(|sound| {
+    sequence: &mut [u8],
+) -> Outcome<Pair> {
+    let change = confirm(session, adjacency, weights, inverse, sequence, None).and_then(|sound| {
         let (lowest, partner) = lowest_pair(&sound)?;
-        matching_change(&sound, lowest, partner)
+        pick_change(&sound, lowest, partner)
     });
-    carry_out(session, change, inverse, order)
+    carry_out(session, change, inverse, sequence)
 }
 
 /// Removes the last pair (document 01: "take-back").
@@ -92,50 +92,57 @@ pub fn undo(
     adjacency: &[u8],
     weights: &[u16],
     inverse: &mut [u16],
-    order: &mut [u8],
-) -> Outcome<Edge> {
-    let change = confirm(session, adjacency, weights, inverse, order, None)
-        .and_then(|sound| undoing_change(&sound, order));
-    carry_out(session, change, inverse, order)
+    sequence: &mut [u8],
+) -> Outcome<Pair> {
+    let change = confirm(session, adjacency, weights, inverse, sequence, None)
+        .and_then(|sound| undo_change(&sound, sequence));
+    carry_out(session, change, inverse, sequence)
 }
 
-/// Writes 1 for each vertex that may be matched with a, 0 for the others
+/// Writes 1 for each vertex whose pick with a would be accepted, 0 for the others
 /// (document 01: "open row").
-pub fn partner_row(
+pub fn row(
     session: Session,
     a: u64,
     adjacency: &[u8],
     weights: &[u16],
     inverse: &[u16],
-    order: &[u8],
+    sequence: &[u8],
     row: &mut [u8],
 ) -> Outcome<()> {
-    let partners = confirm(session, adjacency, weights, inverse, order, Some(row.len()))
+    let lent = Lent {
+        number: buffer::ROW,
+        extent: Extent::Vertices,
+        length: row.len(),
+    };
+    let partners = confirm(session, adjacency, weights, inverse, sequence, Some(lent))
         .and_then(|sound| partners_of(&sound, a));
     let answer = partners.map(|bytes| row[..bytes.len()].copy_from_slice(&bytes));
     Outcome { session, answer }
 }
 
-/// Whether the session is sound: the causes 1 to 6.
+/// Refuses a session that is not sound, or a short buffer, `last` being the one
+/// of the highest number: the causes 1 to 6.
 pub(crate) fn check_sound(
     session: Session,
     adjacency: &[u8],
     weights: &[u16],
     inverse: &[u16],
-    order: &[u8],
+    sequence: &[u8],
+    last: Lent,
 ) -> Result<(), Refusal> {
-    confirm(session, adjacency, weights, inverse, order, None).map(|_| ())
+    confirm(session, adjacency, weights, inverse, sequence, Some(last)).map(|_| ())
 }
 
-/// Whether the session is in order (document 01: "well formed"): at most n/2
-/// pairs; the used bytes of the order of matching are adjacent pairs, smaller
-/// first, all vertices different and below n; the others up to n are unused.
-pub fn is_well_formed(graph: &Graph, pairs: u64, order: &[u8]) -> bool {
+/// Whether the session is well formed: at most n/2 pairs; the used bytes of the
+/// sequence are adjacent pairs, smaller first, all vertices different and below
+/// n; the others up to n are unused.
+pub fn is_well_formed(graph: &Graph, pairs: u64, sequence: &[u8]) -> bool {
     let n = graph.size();
-    if order.len() < n || pairs > (n / 2) as u64 {
+    if sequence.len() < n || pairs > (n / 2) as u64 {
         return false;
     }
-    let (used, rest) = order[..n].split_at(2 * pairs as usize);
+    let (used, rest) = sequence[..n].split_at(2 * pairs as usize);
     used.chunks(2).all(|pair| is_edge(graph, pair))
         && all_different(used)
         && rest.iter().all(|&byte| byte == UNUSED)
@@ -149,9 +156,9 @@ fn all_different(bytes: &[u8]) -> bool {
     (0..bytes.len()).all(|index| !bytes[..index].contains(&bytes[index]))
 }
 
-/// The table of n times n words that a session stores (document 01: "held
-/// table"): the inverse of the Tutte matrix of the given vertices in their rows
-/// and columns, 0 elsewhere. None if there is no such inverse.
+/// Inverts the Tutte matrix of the given vertices, as a table of n times n words
+/// with the inverse in their rows and columns and 0 elsewhere. None if there is
+/// no inverse.
 pub(crate) fn inverse_table(graph: &Graph, vertices: &[usize]) -> Option<Vec<u16>> {
     let n = graph.size();
     let inverse = linear_algebra::inverse(&graph.tutte_matrix(vertices))?;
@@ -164,22 +171,23 @@ pub(crate) fn inverse_table(graph: &Graph, vertices: &[usize]) -> Option<Vec<u16
     Some(table)
 }
 
-/// The causes 1 to 6 of a session call; a row is lent to one call only.
+/// Confirms that the session is sound. Refuses with the causes 1 to 6; `last` is
+/// a buffer that only some calls are lent, after the four of every call.
 fn confirm<'a>(
     session: Session,
     adjacency: &'a [u8],
     weights: &'a [u16],
     inverse: &[u16],
-    order: &[u8],
-    row: Option<usize>,
+    sequence: &[u8],
+    last: Option<Lent>,
 ) -> Result<Sound<'a>, Refusal> {
-    let others = other_buffers(inverse.len(), order.len(), row);
+    let others = other_buffers(inverse.len(), sequence.len(), last);
     let graph = Graph::checked_with(session.size, adjacency, weights, &others)?;
-    if !is_well_formed(&graph, session.pairs, order) {
+    if !is_well_formed(&graph, session.pairs, sequence) {
         return Err(Cause::SessionMalformed.refusal());
     }
     let pairs = session.pairs as usize;
-    let unmatched = unmatched_vertices(&graph, &order[..2 * pairs]);
+    let unmatched = unmatched_vertices(&graph, &sequence[..2 * pairs]);
     let n = graph.size();
     match inverse_table(&graph, &unmatched) {
         Some(table) if table[..] == inverse[..n * n] => Ok(Sound {
@@ -191,36 +199,30 @@ fn confirm<'a>(
     }
 }
 
-fn other_buffers(inverse: usize, order: usize, row: Option<usize>) -> Vec<Lent> {
+fn other_buffers(inverse: usize, sequence: usize, last: Option<Lent>) -> Vec<Lent> {
     let mut others = vec![
         Lent {
             number: buffer::INVERSE,
-            extent: Extent::Square,
+            extent: Extent::Cells,
             length: inverse,
         },
         Lent {
-            number: buffer::ORDER,
+            number: buffer::SEQUENCE,
             extent: Extent::Vertices,
-            length: order,
+            length: sequence,
         },
     ];
-    if let Some(length) = row {
-        others.push(Lent {
-            number: buffer::ROW,
-            extent: Extent::Vertices,
-            length,
-        });
-    }
+    others.extend(last);
     others
 }
 
-/// The vertices that are not matched (document 01: "loose"), ascending.
+/// Lists the unmatched vertices (document 01: "loose"), ascending.
 fn unmatched_vertices(graph: &Graph, matched: &[u8]) -> Vec<usize> {
     let is_unmatched = |vertex: &usize| matched.iter().all(|&byte| usize::from(byte) != *vertex);
     (0..graph.size()).filter(is_unmatched).collect()
 }
 
-/// The causes 7 to 10 for matching a and b.
+/// Refuses a pick of a and b: the causes 7 to 10.
 fn check_pair(sound: &Sound, a: u64, b: u64) -> Result<(), Refusal> {
     check_below(sound, a)?;
     check_below(sound, b)?;
@@ -239,7 +241,7 @@ fn check_pair(sound: &Sound, a: u64, b: u64) -> Result<(), Refusal> {
     Ok(())
 }
 
-/// Cause 7 for one vertex.
+/// Refuses a vertex that is not below n: cause 7.
 fn check_below(sound: &Sound, vertex: u64) -> Result<(), Refusal> {
     if vertex >= sound.graph.size() as u64 {
         return Err(Cause::VertexInvalid.refusal());
@@ -247,7 +249,7 @@ fn check_below(sound: &Sound, vertex: u64) -> Result<(), Refusal> {
     Ok(())
 }
 
-/// Cause 8 for one vertex below n.
+/// Refuses a matched vertex: cause 8.
 fn check_unmatched(sound: &Sound, vertex: u64) -> Result<(), Refusal> {
     if !sound.unmatched.contains(&(vertex as usize)) {
         return Err(Cause::VertexMatched.refusal());
@@ -255,15 +257,15 @@ fn check_unmatched(sound: &Sound, vertex: u64) -> Result<(), Refusal> {
     Ok(())
 }
 
-/// The unmatched vertices other than a and b.
+/// Lists the unmatched vertices other than a and b.
 fn without(sound: &Sound, a: u64, b: u64) -> Vec<usize> {
     let stays = |vertex: &usize| *vertex as u64 != a && *vertex as u64 != b;
     sound.unmatched.iter().copied().filter(stays).collect()
 }
 
-/// The lowest unmatched vertex and its lowest possible partner; cause 11. A
-/// sound session has a partner for every unmatched vertex (source document 001,
-/// theorem 2.6).
+/// Finds the lowest unmatched vertex and its lowest partner. Refuses if no vertex
+/// is unmatched: cause 11. A sound session has a partner for every unmatched
+/// vertex (source document 001, theorem 2.6).
 fn lowest_pair(sound: &Sound) -> Result<(u64, u64), Refusal> {
     let nothing_left = Cause::NothingLeft.refusal();
     let &lowest = sound.unmatched.first().ok_or(nothing_left)?;
@@ -274,7 +276,7 @@ fn lowest_pair(sound: &Sound) -> Result<(u64, u64), Refusal> {
         .ok_or(nothing_left)
 }
 
-/// The row of bytes for vertex a; the causes 7 and 8 for a itself.
+/// Makes the row of vertex a. Refuses with the causes 7 and 8 for a itself.
 fn partners_of(sound: &Sound, a: u64) -> Result<Vec<u8>, Refusal> {
     check_below(sound, a)?;
     check_unmatched(sound, a)?;
@@ -282,62 +284,62 @@ fn partners_of(sound: &Sound, a: u64) -> Result<Vec<u8>, Refusal> {
     Ok((0..sound.graph.size() as u64).map(byte).collect())
 }
 
-/// Matching a and b: the two are appended, smaller first.
-fn matching_change(sound: &Sound, a: u64, b: u64) -> Result<Change, Refusal> {
+/// Appends a and b to the sequence, smaller first.
+fn pick_change(sound: &Sound, a: u64, b: u64) -> Result<Change, Refusal> {
     check_pair(sound, a, b)?;
     let inverse =
         inverse_table(&sound.graph, &without(sound, a, b)).ok_or(Cause::RestSingular.refusal())?;
-    let edge = Edge {
+    let pair = Pair {
         smaller: a.min(b),
         larger: a.max(b),
     };
     Ok(Change {
-        edge,
+        pair,
         pairs: sound.pairs + 1,
-        order_index: 2 * sound.pairs,
-        order_bytes: [edge.smaller as u8, edge.larger as u8],
+        sequence_index: 2 * sound.pairs,
+        sequence_bytes: [pair.smaller as u8, pair.larger as u8],
         inverse,
     })
 }
 
-/// Undoing the last pair; cause 11, then cause 10.
-fn undoing_change(sound: &Sound, order: &[u8]) -> Result<Change, Refusal> {
+/// Removes the last pair from the sequence. Refuses with cause 11, then 10.
+fn undo_change(sound: &Sound, sequence: &[u8]) -> Result<Change, Refusal> {
     if sound.pairs == 0 {
         return Err(Cause::NothingLeft.refusal());
     }
     let pairs = sound.pairs - 1;
-    let unmatched = unmatched_vertices(&sound.graph, &order[..2 * pairs]);
+    let unmatched = unmatched_vertices(&sound.graph, &sequence[..2 * pairs]);
     let inverse = inverse_table(&sound.graph, &unmatched).ok_or(Cause::RestSingular.refusal())?;
     Ok(Change {
-        edge: Edge {
-            smaller: u64::from(order[2 * pairs]),
-            larger: u64::from(order[2 * pairs + 1]),
+        pair: Pair {
+            smaller: u64::from(sequence[2 * pairs]),
+            larger: u64::from(sequence[2 * pairs + 1]),
         },
         pairs,
-        order_index: 2 * pairs,
-        order_bytes: [UNUSED, UNUSED],
+        sequence_index: 2 * pairs,
+        sequence_bytes: [UNUSED, UNUSED],
         inverse,
     })
 }
 
-/// Writes an accepted change; a refusal writes nothing.
+/// Writes an accepted change, and nothing on a refusal.
 fn carry_out(
     session: Session,
     change: Result<Change, Refusal>,
     inverse: &mut [u16],
-    order: &mut [u8],
-) -> Outcome<Edge> {
+    sequence: &mut [u8],
+) -> Outcome<Pair> {
     match change {
         Ok(change) => {
             inverse[..change.inverse.len()].copy_from_slice(&change.inverse);
-            let index = change.order_index;
-            order[index..index + 2].copy_from_slice(&change.order_bytes);
+            let index = change.sequence_index;
+            sequence[index..index + 2].copy_from_slice(&change.sequence_bytes);
             Outcome {
                 session: Session {
                     size: session.size,
                     pairs: change.pairs as u64,
                 },
-                answer: Ok(change.edge),
+                answer: Ok(change.pair),
             }
         }
         Err(refusal) => Outcome {

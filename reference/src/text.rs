@@ -16,10 +16,10 @@ pub struct Fault {
     pub what: String,
 }
 
-/// How many bytes stand on a line of `bytes`.
+/// How many bytes show writes on a line of `bytes`.
 const BYTES_A_LINE: usize = 16;
 
-/// The bytes of a text.
+/// Makes the bytes that a text describes.
 pub fn make(text: &[u8]) -> Result<Vec<u8>, Fault> {
     let mut bytes = Vec::new();
     let text = text.strip_prefix(b"\xef\xbb\xbf").unwrap_or(text);
@@ -39,6 +39,7 @@ pub fn make(text: &[u8]) -> Result<Vec<u8>, Fault> {
     Ok(bytes)
 }
 
+/// Makes the bytes of one line.
 fn make_line(line: &[u8]) -> Result<Vec<u8>, String> {
     let code = line.split(|&byte| byte == b'#').next().unwrap_or_default();
     let code = std::str::from_utf8(code).map_err(|_| "this is no plain text".to_string())?;
@@ -46,7 +47,7 @@ fn make_line(line: &[u8]) -> Result<Vec<u8>, String> {
     match words[..] {
         [] => Ok(Vec::new()),
         ["size", size] => Ok(vec![1, byte(size, SIZES)?]),
-        ["share", first, second] => Ok(vec![2, byte(first, SLEEVES)?, byte(second, SLEEVES)?]),
+        ["share", first, second] => Ok(vec![2, byte(first, VERTICES)?, byte(second, VERTICES)?]),
         ["seed", seed] => {
             let seed = number(seed, u32::MAX, "a seed is at most 4294967295")?;
             Ok([&[3][..], &seed.to_le_bytes()].concat())
@@ -68,17 +69,17 @@ fn make_line(line: &[u8]) -> Result<Vec<u8>, String> {
     }
 }
 
-/// What is said of a size or a sleeve for which there is no byte; a smaller one
-/// may be too large for a sheet all the same, which its reader then refuses.
+/// The limits named for a size or a vertex above 255. A smaller one that is still
+/// too large becomes a byte, and the reader of the sheet refuses it.
 const SIZES: &str = "a sheet has at most 96 sleeves";
-const SLEEVES: &str = "the last of 96 sleeves is 95";
+const VERTICES: &str = "the last of 96 sleeves is 95";
 
-/// A number from 0 to 255.
+/// Reads a number from 0 to 255.
 fn byte(digits: &str, limit: &str) -> Result<u8, String> {
     number(digits, u32::from(u8::MAX), limit).map(|number| number as u8)
 }
 
-/// A number from 0 to the largest; the limit is said of one above it.
+/// Reads a number from 0 to the largest. Names the limit if it is above that.
 fn number(digits: &str, largest: u32, limit: &str) -> Result<u32, String> {
     if !digits.bytes().all(|digit| digit.is_ascii_digit()) {
         return Err(format!("'{digits}' is no number in digits alone"));
@@ -89,7 +90,7 @@ fn number(digits: &str, largest: u32, limit: &str) -> Result<u32, String> {
     }
 }
 
-/// A byte of two hexadecimal digits.
+/// Reads a byte of two hexadecimal digits.
 fn hexadecimal(digits: &str) -> Result<u8, String> {
     let right = digits.len() == 2 && digits.bytes().all(|digit| digit.is_ascii_hexdigit());
     match u8::from_str_radix(digits, 16) {
@@ -98,7 +99,7 @@ fn hexadecimal(digits: &str) -> Result<u8, String> {
     }
 }
 
-/// The text of any bytes: a line for each whole record up to the end record,
+/// Shows any bytes as text: a line for each whole record up to the end record,
 /// with its offset as a comment, and the rest as `bytes`.
 pub fn show(bytes: &[u8]) -> String {
     let mut text = String::new();
@@ -120,7 +121,7 @@ fn line(code: &str, offset: usize) -> String {
     format!("{code:<15} # at {offset}\n")
 }
 
-/// The whole record that bytes begin with, whether due or not, and its length.
+/// Finds the whole record that bytes begin with, due or not, and its length.
 fn record_at(bytes: &[u8]) -> Option<(Record, usize)> {
     match *bytes {
         [1, size, ..] => Some((Record::Size(size), 2)),

@@ -4,7 +4,7 @@ mod common;
 
 use common::*;
 use reference::linear_algebra::{
-    determinant, first_dependent_column, inverse, kernel_vector, rank, solve, Matrix,
+    determinant, first_dependent_column, inverse, rank, solve, witness, Matrix,
 };
 use reference::opening::Opening;
 use reference::residue::Residue;
@@ -17,7 +17,7 @@ fn rows_of(matrix: &Matrix) -> Rows {
     (0..matrix.row_count()).map(row).collect()
 }
 
-/// Expansion along the first row.
+/// Expands along the first row.
 fn brute_determinant(rows: &Rows) -> Residue {
     let Some(first) = rows.first() else {
         return Residue::ONE;
@@ -34,7 +34,7 @@ fn brute_determinant(rows: &Rows) -> Residue {
     sum
 }
 
-/// The rows without the first, and without one column.
+/// Removes the first row and one column.
 fn minor(rows: &Rows, column: usize) -> Rows {
     let shorten = |row: &Vec<Residue>| {
         let mut row = row.clone();
@@ -44,7 +44,8 @@ fn minor(rows: &Rows, column: usize) -> Rows {
     rows[1..].iter().map(shorten).collect()
 }
 
-/// The Pfaffian of a skew matrix of even size: the first vertex with each other.
+/// Expands the Pfaffian of a skew matrix of even size: pairs the first vertex
+/// with each other one.
 fn pfaffian(matrix: &Matrix, vertices: &[usize]) -> Residue {
     let Some((&first, others)) = vertices.split_first() else {
         return Residue::ONE;
@@ -64,7 +65,7 @@ fn pfaffian(matrix: &Matrix, vertices: &[usize]) -> Residue {
     sum
 }
 
-/// All sets of `count` numbers below `bound`, ascending.
+/// Lists all sets of `count` numbers below `bound`, ascending.
 fn subsets(bound: usize, count: usize) -> Vec<Vec<usize>> {
     if count == 0 {
         return vec![Vec::new()];
@@ -79,7 +80,7 @@ fn subsets(bound: usize, count: usize) -> Vec<Vec<usize>> {
     all
 }
 
-/// The size of the largest square part whose determinant is not zero.
+/// Finds the largest square part whose determinant is not zero.
 fn brute_rank(rows: &Rows, columns: usize) -> usize {
     let has_minor = |size: usize| {
         subsets(rows.len(), size).iter().any(|chosen_rows| {
@@ -97,7 +98,7 @@ fn brute_rank(rows: &Rows, columns: usize) -> usize {
 }
 
 fn random_matrix(random: &mut Random, rows: usize, columns: usize) -> Matrix {
-    let bound = random.pick(&[2, 3, 65_521]);
+    let bound = random.choose(&[2, 3, 65_521]);
     let row = |random: &mut Random| {
         (0..columns)
             .map(|_| Residue::new(random.below(bound)))
@@ -197,13 +198,13 @@ fn image(rows: &Rows, vector: &[Residue]) -> Vec<Residue> {
     rows.iter().map(product).collect()
 }
 
-/// The first column that does not raise the rank of those before it.
+/// Finds the first column that does not raise the rank of those before it.
 fn brute_dependent_column(rows: &Rows, columns: usize) -> Option<usize> {
     (0..columns).find(|&column| brute_rank(rows, column + 1) == brute_rank(rows, column))
 }
 
 #[test]
-fn dependent_column_and_kernel_vector_by_ranks() {
+fn dependent_column_and_witness_by_ranks() {
     let mut random = Random(64);
     for _ in 0..300 {
         let (height, width) = (1 + random.below(5) as usize, 1 + random.below(5) as usize);
@@ -211,7 +212,7 @@ fn dependent_column_and_kernel_vector_by_ranks() {
         let rows = rows_of(&matrix);
         let expected = brute_dependent_column(&rows, width);
         assert_eq!(first_dependent_column(&matrix), expected);
-        let Some((column, vector)) = kernel_vector(&matrix) else {
+        let Some((column, vector)) = witness(&matrix) else {
             assert_eq!(expected, None);
             continue;
         };
@@ -235,7 +236,7 @@ fn tutte_matrix_by_its_definition() {
         let graph = buffers.graph(n);
         let matrix = graph.tutte_matrix(&graph.vertices());
         let mut expected = vec![vec![0u64; n]; n];
-        for (&(i, j), &weight) in all_pairs(n).iter().zip(&buffers.weights) {
+        for (&(i, j), &weight) in every_two(n).iter().zip(&buffers.weights) {
             assert_eq!(graph.weight(i, j), Some(weight));
             assert_eq!(graph.weight(j, i), Some(weight));
             if buffers.adjacency[i * n + j] == 1 {
@@ -253,7 +254,7 @@ fn tutte_matrix_by_its_definition() {
     }
 }
 
-/// Opening against the Pfaffian, ranks and products.
+/// Checks opening by the Pfaffian, ranks and products.
 fn check_opening(mut buffers: Buffers, n: usize) {
     let graph = buffers.graph(n);
     let matrix = graph.tutte_matrix(&graph.vertices());
@@ -272,12 +273,12 @@ fn check_opening(mut buffers: Buffers, n: usize) {
             let found = Matrix::from_rows(table_rows).expect("a square");
             assert!(matrix.times(&found).expect("a product").is_identity());
             assert!(found.times(&matrix).expect("a product").is_identity());
-            assert_eq!(buffers.kernel, vec![0; n]);
+            assert_eq!(buffers.witness, vec![0; n]);
         }
         Opening::Singular { column } => {
             assert!(!invertible);
             let column = column as usize;
-            let vector = words(&buffers.kernel);
+            let vector = words(&buffers.witness);
             assert_eq!(Some(column), brute_dependent_column(&rows, n));
             assert_eq!(image(&rows, &vector), vec![Residue::ZERO; n]);
             assert_eq!(vector[column], Residue::ONE);
@@ -292,7 +293,7 @@ fn check_opening(mut buffers: Buffers, n: usize) {
 #[test]
 fn every_graph_of_at_most_four_vertices() {
     for n in 0..=4 {
-        let pairs = all_pairs(n);
+        let pairs = every_two(n);
         for chosen in 0..1u32 << pairs.len() {
             for signs in 0..1u32 << pairs.len() {
                 let is_set = |bits: u32, index: usize| bits >> index & 1 == 1;

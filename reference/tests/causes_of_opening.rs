@@ -20,9 +20,9 @@ fn each_short_buffer_in_the_order_of_its_number() {
         |buffers| buffers.adjacency.truncate(15),
         |buffers| buffers.weights.truncate(5),
         |buffers| buffers.inverse.truncate(15),
-        |buffers| buffers.order.truncate(3),
-        |buffers| buffers.kernel.truncate(3),
-        |buffers| buffers.scratch.truncate(15),
+        |buffers| buffers.sequence.truncate(3),
+        |buffers| buffers.witness.truncate(3),
+        |buffers| buffers.work.truncate(15),
     ];
     for (index, shorten_one) in shorten.iter().enumerate() {
         let mut buffers = Buffers::complete(4);
@@ -116,7 +116,7 @@ fn the_lowest_cause_is_returned() {
     assert_eq!(buffers.opening_refused(4), (4, 0));
     buffers.adjacency[15] = 1;
     assert_eq!(buffers.opening_refused(4), (3, 15));
-    buffers.scratch.truncate(15);
+    buffers.work.truncate(15);
     assert_eq!(buffers.opening_refused(4), (2, 6));
     assert_eq!(buffers.opening_refused(97), (1, 0));
 }
@@ -142,12 +142,12 @@ fn accepted_openings_write_all_and_nothing_past_it() {
             assert_eq!(long.open(n as u64), answer);
             let mut expected = before;
             expected.inverse[..n * n].copy_from_slice(&exact.inverse);
-            expected.order[..n].copy_from_slice(&exact.order);
-            expected.kernel[..n].copy_from_slice(&exact.kernel);
-            expected.scratch[..n * n].copy_from_slice(&exact.scratch);
+            expected.sequence[..n].copy_from_slice(&exact.sequence);
+            expected.witness[..n].copy_from_slice(&exact.witness);
+            expected.work[..n * n].copy_from_slice(&exact.work);
             assert_eq!(long, expected);
-            assert_eq!(exact.order, vec![255; n]);
-            assert_eq!(exact.scratch, vec![0; n * n]);
+            assert_eq!(exact.sequence, vec![255; n]);
+            assert_eq!(exact.work, vec![0; n * n]);
         }
     }
 }

@@ -6,12 +6,12 @@ mod common;
 use common::*;
 use reference::session::Session;
 
-/// A complete graph of six with one pair, 1 and 4, matched.
+/// Makes a complete graph of six vertices, with 1 and 4 matched.
 fn one_pair() -> (Buffers, Session) {
     let mut buffers = Buffers::complete(6);
     let opened = buffers.opened(6);
-    let matched = buffers.match_pair(opened, 4, 1);
-    assert_eq!(matched.answer, Ok(edge(1, 4)));
+    let matched = buffers.pick(opened, 4, 1);
+    assert_eq!(matched.answer, Ok(pair(1, 4)));
     (buffers, matched.session)
 }
 
@@ -35,7 +35,7 @@ fn short_buffers_lent_to_every_call() {
         |buffers| buffers.adjacency.truncate(35),
         |buffers| buffers.weights.truncate(14),
         |buffers| buffers.inverse.truncate(35),
-        |buffers| buffers.order.truncate(5),
+        |buffers| buffers.sequence.truncate(5),
     ];
     for call in EACH_CALL {
         for (index, shorten_one) in shorten.iter().enumerate() {
@@ -55,11 +55,11 @@ fn a_short_row_concerns_the_partner_row_only() {
     for call in EACH_CALL {
         let (mut buffers, now) = one_pair();
         buffers.row.truncate(5);
-        buffers.kernel.clear();
-        buffers.scratch.clear();
+        buffers.witness.clear();
+        buffers.work.clear();
         if let Call::Row(_) = call {
             assert_eq!(buffers.refused(now, call), (2, 7));
-            buffers.order.truncate(5);
+            buffers.sequence.truncate(5);
             assert_eq!(buffers.refused(now, call), (2, 4));
         } else {
             let answer = buffers.call(now, call).answer;
@@ -104,8 +104,8 @@ fn too_many_pairs() {
 }
 
 #[test]
-fn order_of_matching_not_well_formed() {
-    let bad_orders: [(u64, [u8; 6]); 11] = [
+fn sequence_of_pairs_not_well_formed() {
+    let bad_sequences: [(u64, [u8; 6]); 11] = [
         (0, [1, 4, 255, 255, 255, 255]),
         (2, [1, 4, 255, 255, 255, 255]),
         (1, [4, 1, 255, 255, 255, 255]),
@@ -119,11 +119,11 @@ fn order_of_matching_not_well_formed() {
         (2, [1, 4, 0, 4, 255, 255]),
     ];
     for call in EACH_CALL {
-        for (pairs, order) in bad_orders {
+        for (pairs, sequence) in bad_sequences {
             let (mut buffers, now) = one_pair();
-            buffers.order = order.to_vec();
+            buffers.sequence = sequence.to_vec();
             let made = session(now.size, pairs);
-            assert_eq!(buffers.refused(made, call), (5, 0), "{pairs} {order:?}");
+            assert_eq!(buffers.refused(made, call), (5, 0), "{pairs} {sequence:?}");
         }
     }
 }
@@ -141,9 +141,9 @@ fn a_matched_pair_without_an_edge_is_not_well_formed() {
 #[test]
 fn bytes_past_the_order_are_not_looked_at() {
     let (mut buffers, now) = one_pair();
-    buffers.order.extend([0, 1, 2]);
-    assert_eq!(buffers.match_lowest(now).answer, Ok(edge(0, 2)));
-    assert_eq!(buffers.order, [1, 4, 0, 2, 255, 255, 0, 1, 2]);
+    buffers.sequence.extend([0, 1, 2]);
+    assert_eq!(buffers.automatic(now).answer, Ok(pair(0, 2)));
+    assert_eq!(buffers.sequence, [1, 4, 0, 2, 255, 255, 0, 1, 2]);
 }
 
 #[test]
@@ -181,7 +181,7 @@ fn a_word_of_the_modulus_is_not_zero() {
 fn words_past_the_inverse_are_not_looked_at() {
     let (mut buffers, now) = one_pair();
     buffers.inverse.extend([65_535, 1]);
-    assert_eq!(buffers.match_lowest(now).answer, Ok(edge(0, 2)));
+    assert_eq!(buffers.automatic(now).answer, Ok(pair(0, 2)));
     assert_eq!(buffers.inverse[36..], [65_535, 1]);
 }
 
@@ -196,7 +196,7 @@ fn no_inverse_for_the_unmatched_vertices() {
         let mut odd = Buffers::complete(3);
         odd.open(3).expect("accepted");
         assert_eq!(odd.refused(session(3, 0), call), (6, 0));
-        odd.order = order_of(3, &[(0, 1)]);
+        odd.sequence = sequence_of(3, &[(0, 1)]);
         assert_eq!(odd.refused(session(3, 1), call), (6, 0));
         let mut one = Buffers::new(1, &[]);
         one.open(1).expect("accepted");
@@ -210,10 +210,10 @@ fn the_inverse_before_a_pair_does_not_fit_after_it() {
         let (mut buffers, now) = one_pair();
         let after = buffers.inverse.clone();
         let undone = buffers.undo(now);
-        assert_eq!(undone.answer, Ok(edge(1, 4)));
-        buffers.order = order_of(6, &[(1, 4)]);
+        assert_eq!(undone.answer, Ok(pair(1, 4)));
+        buffers.sequence = sequence_of(6, &[(1, 4)]);
         assert_eq!(buffers.refused(now, call), (6, 0));
-        buffers.order = order_of(6, &[]);
+        buffers.sequence = sequence_of(6, &[]);
         buffers.inverse = after;
         assert_eq!(buffers.refused(undone.session, call), (6, 0));
     }
@@ -235,11 +235,11 @@ fn vertices_not_below_n() {
     ];
     let (mut buffers, now) = one_pair();
     for vertex in far {
-        assert_eq!(buffers.refused(now, Call::Pair(vertex, 0)), (7, 0));
-        assert_eq!(buffers.refused(now, Call::Pair(0, vertex)), (7, 0));
-        assert_eq!(buffers.refused(now, Call::Pair(vertex, vertex)), (7, 0));
-        assert_eq!(buffers.refused(now, Call::Pair(1, vertex)), (7, 0));
-        assert_eq!(buffers.refused(now, Call::Pair(vertex, 1)), (7, 0));
+        assert_eq!(buffers.refused(now, Call::Pick(vertex, 0)), (7, 0));
+        assert_eq!(buffers.refused(now, Call::Pick(0, vertex)), (7, 0));
+        assert_eq!(buffers.refused(now, Call::Pick(vertex, vertex)), (7, 0));
+        assert_eq!(buffers.refused(now, Call::Pick(1, vertex)), (7, 0));
+        assert_eq!(buffers.refused(now, Call::Pick(vertex, 1)), (7, 0));
         assert_eq!(buffers.refused(now, Call::Row(vertex)), (7, 0));
     }
 }
@@ -247,18 +247,18 @@ fn vertices_not_below_n() {
 #[test]
 fn a_vertex_named_twice_also_when_matched() {
     let (mut buffers, now) = one_pair();
-    assert_eq!(buffers.refused(now, Call::Pair(2, 2)), (7, 0));
-    assert_eq!(buffers.refused(now, Call::Pair(1, 1)), (7, 0));
+    assert_eq!(buffers.refused(now, Call::Pick(2, 2)), (7, 0));
+    assert_eq!(buffers.refused(now, Call::Pick(1, 1)), (7, 0));
 }
 
 #[test]
 fn matched_vertices() {
     let (mut buffers, now) = one_pair();
     for call in [
-        Call::Pair(1, 0),
-        Call::Pair(0, 4),
-        Call::Pair(1, 4),
-        Call::Pair(4, 1),
+        Call::Pick(1, 0),
+        Call::Pick(0, 4),
+        Call::Pick(1, 4),
+        Call::Pick(4, 1),
         Call::Row(1),
         Call::Row(4),
     ] {
@@ -266,7 +266,7 @@ fn matched_vertices() {
     }
 }
 
-/// A path 2 0 1 3 and an edge 4 5.
+/// Makes a path 2 0 1 3 and an edge 4 5.
 fn path_and_edge() -> (Buffers, Session) {
     let mut buffers = Buffers::new(6, &[(0, 1), (0, 2), (1, 3), (4, 5)]);
     let opened = buffers.opened(6);
@@ -276,39 +276,39 @@ fn path_and_edge() -> (Buffers, Session) {
 #[test]
 fn matched_before_not_adjacent_before_singular() {
     let (mut buffers, opened) = path_and_edge();
-    assert_eq!(buffers.refused(opened, Call::Pair(0, 4)), (9, 0));
-    assert_eq!(buffers.refused(opened, Call::Pair(4, 0)), (9, 0));
+    assert_eq!(buffers.refused(opened, Call::Pick(0, 4)), (9, 0));
+    assert_eq!(buffers.refused(opened, Call::Pick(4, 0)), (9, 0));
     // Not adjacent, although the rest of the vertices has an inverse.
-    assert_eq!(buffers.refused(opened, Call::Pair(3, 2)), (9, 0));
-    assert_eq!(buffers.refused(opened, Call::Pair(0, 1)), (10, 0));
-    assert_eq!(buffers.refused(opened, Call::Pair(1, 0)), (10, 0));
-    let matched = buffers.match_pair(opened, 5, 4).session;
-    assert_eq!(buffers.refused(matched, Call::Pair(0, 4)), (8, 0));
-    assert_eq!(buffers.refused(matched, Call::Pair(0, 1)), (10, 0));
+    assert_eq!(buffers.refused(opened, Call::Pick(3, 2)), (9, 0));
+    assert_eq!(buffers.refused(opened, Call::Pick(0, 1)), (10, 0));
+    assert_eq!(buffers.refused(opened, Call::Pick(1, 0)), (10, 0));
+    let matched = buffers.pick(opened, 5, 4).session;
+    assert_eq!(buffers.refused(matched, Call::Pick(0, 4)), (8, 0));
+    assert_eq!(buffers.refused(matched, Call::Pick(0, 1)), (10, 0));
 }
 
 #[test]
-fn an_edge_of_a_full_matching_is_refused_when_weights_cancel() {
-    // 0 with 5 belongs to a full matching, yet the ring of the rest cancels.
+fn an_edge_of_a_perfect_matching_is_refused_when_weights_cancel() {
+    // 0 with 5 belongs to a perfect matching, yet the ring of the rest cancels.
     let edges = [(1, 2), (2, 3), (3, 4), (1, 4), (0, 5), (0, 1), (2, 5)];
     let mut weights = vec![1; 15];
-    let index = all_pairs(6).iter().position(|&pair| pair == (1, 4));
+    let index = every_two(6).iter().position(|&pair| pair == (1, 4));
     weights[index.expect("a pair")] = 65_520;
     let mut buffers = Buffers::new(6, &edges).with_weights(&weights);
     let ring = buffers.graph(6).tutte_matrix(&[1, 2, 3, 4]);
     assert_eq!(reference::linear_algebra::rank(&ring), 2);
     let opened = buffers.opened(6);
-    assert_eq!(buffers.refused(opened, Call::Pair(0, 5)), (10, 0));
-    assert_eq!(buffers.match_lowest(opened).answer, Ok(edge(0, 1)));
+    assert_eq!(buffers.refused(opened, Call::Pick(0, 5)), (10, 0));
+    assert_eq!(buffers.automatic(opened).answer, Ok(pair(0, 1)));
 }
 
 #[test]
-fn automatic_step_without_an_unmatched_vertex() {
+fn automatic_pick_without_an_unmatched_vertex() {
     let mut buffers = Buffers::complete(2);
     let opened = buffers.opened(2);
-    let full = buffers.match_lowest(opened).session;
+    let full = buffers.automatic(opened).session;
     assert_eq!(full, session(2, 1));
-    assert_eq!(buffers.refused(full, Call::Lowest), (11, 0));
+    assert_eq!(buffers.refused(full, Call::Automatic), (11, 0));
 }
 
 #[test]
@@ -318,7 +318,8 @@ fn undo_without_a_pair() {
     assert_eq!(buffers.refused(opened, Call::Undo), (11, 0));
 }
 
-/// A ring of four whose matchings cancel; after 0 and 1 the rest has an inverse.
+/// Makes a ring of four whose matchings cancel. Without 0 and 1 the rest has an
+/// inverse.
 fn cancelling_ring() -> Buffers {
     let edges = [(0, 1), (1, 2), (2, 3), (0, 3)];
     Buffers::new(4, &edges).with_weights(&[1, 1, 1, 65520, 1, 1])
@@ -327,13 +328,13 @@ fn cancelling_ring() -> Buffers {
 #[test]
 fn undo_to_a_singular_matrix() {
     let mut buffers = cancelling_ring();
-    buffers.order = order_of(4, &[(0, 1)]);
+    buffers.sequence = sequence_of(4, &[(0, 1)]);
     buffers.inverse = vec![0; 16];
     buffers.inverse[11] = 65_520;
     buffers.inverse[14] = 1;
     assert_eq!(buffers.refused(session(4, 1), Call::Undo), (10, 0));
     // With no pair the same matrix is cause 6 before 11 and 10.
-    buffers.order = order_of(4, &[]);
+    buffers.sequence = sequence_of(4, &[]);
     assert_eq!(buffers.refused(session(4, 0), Call::Undo), (6, 0));
 }
 
@@ -347,17 +348,17 @@ fn undo_without_a_pair_comes_after_the_session() {
 fn the_last_two_vertices_leave_the_empty_matrix_which_has_an_inverse() {
     let mut buffers = Buffers::new(2, &[(0, 1)]).with_weights(&[65520]);
     let opened = buffers.opened(2);
-    assert_eq!(buffers.match_pair(opened, 1, 0).answer, Ok(edge(0, 1)));
+    assert_eq!(buffers.pick(opened, 1, 0).answer, Ok(pair(0, 1)));
     assert_eq!(buffers.inverse, [0; 4]);
-    assert_eq!(buffers.order, [0, 1]);
+    assert_eq!(buffers.sequence, [0, 1]);
 }
 
 #[test]
 fn the_lowest_cause_is_returned() {
-    // Each step adds a fault of a lower number to the ones before it.
+    // Each line adds a fault of a lower number to those before it.
     for (call, own) in [
-        (Call::Pair(1, 0), 8),
-        (Call::Pair(300, 300), 7),
+        (Call::Pick(1, 0), 8),
+        (Call::Pick(300, 300), 7),
         (Call::Row(4), 8),
         (Call::Row(300), 7),
     ] {
@@ -371,7 +372,7 @@ fn the_lowest_cause_is_returned() {
         assert_eq!(buffers.refused(now, call), (4, 3));
         buffers.adjacency[35] = 1;
         assert_eq!(buffers.refused(now, call), (3, 35));
-        buffers.order.truncate(5);
+        buffers.sequence.truncate(5);
         assert_eq!(buffers.refused(now, call), (2, 4));
         now.size = 97;
         assert_eq!(buffers.refused(now, call), (1, 0));
@@ -379,7 +380,7 @@ fn the_lowest_cause_is_returned() {
 }
 
 #[test]
-fn partner_row_of_each_vertex() {
+fn row_of_each_vertex() {
     let (mut buffers, opened) = path_and_edge();
     let expected = [
         [0, 0, 1, 0, 0, 0],
@@ -392,7 +393,7 @@ fn partner_row_of_each_vertex() {
     buffers.row.extend([3, 4]);
     for (a, bytes) in expected.iter().enumerate() {
         let before = buffers.clone();
-        let outcome = buffers.partner_row(opened, a as u64);
+        let outcome = buffers.row(opened, a as u64);
         assert_eq!(outcome.answer, Ok(()));
         assert_eq!(outcome.session, opened);
         assert_eq!(buffers.row[..6], bytes[..]);
@@ -403,14 +404,14 @@ fn partner_row_of_each_vertex() {
 }
 
 #[test]
-fn sound_does_not_mean_reachable_by_the_lowest_order() {
-    // Pairs matched in an order of one's own are sound.
+fn sound_does_not_mean_reachable_by_automatic_picks() {
+    // Pairs picked in any order are sound.
     let mut buffers = Buffers::complete(6);
     let mut now = buffers.opened(6);
     for (a, b) in [(5, 3), (1, 2), (4, 0)] {
-        let outcome = buffers.match_pair(now, a, b);
+        let outcome = buffers.pick(now, a, b);
         assert!(outcome.answer.is_ok());
         now = outcome.session;
     }
-    assert_eq!(buffers.order, [3, 5, 1, 2, 0, 4]);
+    assert_eq!(buffers.sequence, [3, 5, 1, 2, 0, 4]);
 }

@@ -20,7 +20,7 @@ fn read_into(bytes: &[u8], adjacency: usize, weights: usize) -> Result<Counts, R
     answer
 }
 
-/// The refusal, which is the same whatever the lengths of the buffers.
+/// Returns the refusal, which must be the same for any lengths of the buffers.
 fn refused(bytes: &[u8]) -> (u8, u64) {
     let long = read_into(bytes, 9216, 4560).expect_err("a refusal");
     let empty = read_into(bytes, 0, 0).expect_err("a refusal");
@@ -29,7 +29,7 @@ fn refused(bytes: &[u8]) -> (u8, u64) {
 }
 
 #[test]
-fn a_good_graph_fills_table_and_weights() {
+fn a_good_sheet_fills_adjacency_and_weights() {
     let bytes = records(4, 0, &[(0, 1), (2, 0), (3, 1)]);
     let mut table = [JUNK_BYTE; 18];
     let mut words = [JUNK_WORD; 8];
@@ -199,7 +199,7 @@ fn reader_gives_one_record_after_the_other() {
 /// The size and the edges of an accepted graph.
 type SizeAndEdges = (u8, Vec<(u8, u8)>);
 
-/// What the reader answers, worked out once more from offsets alone.
+/// Finds what the reader must answer, from offsets alone.
 fn expected(bytes: &[u8]) -> Result<SizeAndEdges, (u8, usize)> {
     let length = bytes.len();
     let body_end = |at: usize, size: usize| {
@@ -243,7 +243,7 @@ fn expected(bytes: &[u8]) -> Result<SizeAndEdges, (u8, usize)> {
 }
 
 #[test]
-fn random_bytes_close_to_a_good_graph() {
+fn random_bytes_close_to_a_good_sheet() {
     let mut random = Random(15);
     let mut accepted = 0;
     for _ in 0..20_000 {
@@ -280,13 +280,13 @@ fn random_bytes_close_to_a_good_graph() {
                 for i in 0..n {
                     for j in 0..n {
                         let pair = (i as u8, j as u8);
-                        let linked = edges.contains(&pair) || edges.contains(&(pair.1, pair.0));
-                        assert_eq!(table[i * n + j], u8::from(linked));
+                        let is_edge = edges.contains(&pair) || edges.contains(&(pair.1, pair.0));
+                        assert_eq!(table[i * n + j], u8::from(is_edge));
                     }
                 }
                 assert!(table[n * n..].iter().all(|&byte| byte == JUNK_BYTE));
                 let seed = u32::from_le_bytes([bytes[3], bytes[4], bytes[5], bytes[6]]);
-                let count = pair_count(n);
+                let count = weight_count(n);
                 let drawn: Vec<u16> = draws::weights(seed).take(count).collect();
                 assert_eq!(words[..count], drawn[..]);
                 assert!(words[count..].iter().all(|&word| word == JUNK_WORD));

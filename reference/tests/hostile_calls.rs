@@ -10,14 +10,14 @@ use reference::model::Model;
 use reference::residue::Residue;
 use reference::session::{is_well_formed, Session};
 
-/// Cause 2, for buffers given as number, length and length needed.
+/// Lists the short buffers, each given as number, length and length needed.
 fn short_buffers(lengths: &[(u64, usize, usize)]) -> Vec<(u8, u64)> {
     let is_short = |&&(_, length, needed): &&(u64, usize, usize)| length < needed;
     let places = lengths.iter().filter(is_short);
     places.map(|&(number, _, _)| (2, number)).collect()
 }
 
-/// All faults of adjacency and weights.
+/// Lists all faults of adjacency and weights.
 fn graph_faults(n: usize, buffers: &Buffers) -> Vec<(u8, u64)> {
     let mut faults = Vec::new();
     for i in 0..n {
@@ -34,7 +34,7 @@ fn graph_faults(n: usize, buffers: &Buffers) -> Vec<(u8, u64)> {
             }
         }
     }
-    for (index, weight) in buffers.weights[..pair_count(n)].iter().enumerate() {
+    for (index, weight) in buffers.weights[..weight_count(n)].iter().enumerate() {
         if !(1..=65_520).contains(weight) {
             faults.push((4, index as u64));
         }
@@ -42,14 +42,14 @@ fn graph_faults(n: usize, buffers: &Buffers) -> Vec<(u8, u64)> {
     faults
 }
 
-/// Well formed, sentence by sentence.
+/// Whether the session is well formed, sentence by sentence.
 fn well_formed(n: usize, buffers: &Buffers, pairs: u64) -> bool {
     if u128::from(pairs) * 2 > n as u128 {
         return false;
     }
     let used = 2 * pairs as usize;
     let mut seen = vec![false; 256];
-    for pair in buffers.order[..used].chunks(2) {
+    for pair in buffers.sequence[..used].chunks(2) {
         let (i, j) = (usize::from(pair[0]), usize::from(pair[1]));
         if i >= n || j >= n || i >= j || seen[i] || seen[j] {
             return false;
@@ -60,7 +60,7 @@ fn well_formed(n: usize, buffers: &Buffers, pairs: u64) -> bool {
         seen[i] = true;
         seen[j] = true;
     }
-    buffers.order[used..n].iter().all(|&byte| byte == 255)
+    buffers.sequence[used..n].iter().all(|&byte| byte == 255)
 }
 
 /// Whether the stored table is the inverse, by a product with the matrix.
@@ -93,7 +93,7 @@ fn inverse_fits(graph: &Graph, buffers: &Buffers, unmatched: &[u64]) -> bool {
     true
 }
 
-/// All causes that apply to a session call, each with its place.
+/// Lists all causes that apply to a session call, each with its place.
 fn causes(buffers: &Buffers, session: Session, call: Call) -> Vec<(u8, u64)> {
     if session.size > 96 {
         return vec![(1, 0)];
@@ -101,9 +101,9 @@ fn causes(buffers: &Buffers, session: Session, call: Call) -> Vec<(u8, u64)> {
     let n = session.size as usize;
     let mut lengths = vec![
         (1, buffers.adjacency.len(), n * n),
-        (2, buffers.weights.len(), pair_count(n)),
+        (2, buffers.weights.len(), weight_count(n)),
         (3, buffers.inverse.len(), n * n),
-        (4, buffers.order.len(), n),
+        (4, buffers.sequence.len(), n),
     ];
     if let Call::Row(_) = call {
         lengths.push((7, buffers.row.len(), n));
@@ -119,17 +119,17 @@ fn causes(buffers: &Buffers, session: Session, call: Call) -> Vec<(u8, u64)> {
     let graph = buffers.graph(n);
     let formed = well_formed(n, buffers, session.pairs);
     assert_eq!(
-        is_well_formed(&graph, session.pairs, &buffers.order),
+        is_well_formed(&graph, session.pairs, &buffers.sequence),
         formed
     );
     if !formed {
         return vec![(5, 0)];
     }
-    let used = &buffers.order[..2 * session.pairs as usize];
+    let used = &buffers.sequence[..2 * session.pairs as usize];
     let mut model = Model {
         pairs: used
             .chunks(2)
-            .map(|pair| edge(u64::from(pair[0]), u64::from(pair[1])))
+            .map(|bytes| pair(u64::from(bytes[0]), u64::from(bytes[1])))
             .collect(),
     };
     let unmatched = model.unmatched(&graph);
@@ -137,8 +137,8 @@ fn causes(buffers: &Buffers, session: Session, call: Call) -> Vec<(u8, u64)> {
         return vec![(6, 0)];
     }
     let answer = match call {
-        Call::Pair(a, b) => model.match_pair(&graph, a, b).err(),
-        Call::Lowest => model.match_lowest(&graph).err(),
+        Call::Pick(a, b) => model.pick(&graph, a, b).err(),
+        Call::Automatic => model.automatic(&graph).err(),
         Call::Undo => model.undo(&graph).err(),
         Call::Row(a) if a >= n as u64 => return vec![(7, 0)],
         Call::Row(a) if !unmatched.contains(&a) => return vec![(8, 0)],
@@ -150,10 +150,10 @@ fn causes(buffers: &Buffers, session: Session, call: Call) -> Vec<(u8, u64)> {
         .collect()
 }
 
-/// A sound session on a random graph, reached by random pairs.
+/// Makes a sound session on a random graph by random picks.
 fn random_session(random: &mut Random) -> (Buffers, Session) {
     loop {
-        let n = random.pick(&[0, 2, 3, 4, 4, 5, 6, 6, 8, 8]);
+        let n = random.choose(&[0, 2, 3, 4, 4, 5, 6, 6, 8, 8]);
         let mut buffers = Buffers::random(random, n).with_excess(random);
         let answer = buffers.open(n as u64).expect("accepted");
         let mut now = session(n as u64, 0);
@@ -164,7 +164,7 @@ fn random_session(random: &mut Random) -> (Buffers, Session) {
         }
         for _ in 0..random.below(5) {
             let (a, b) = (random.below(9), random.below(9));
-            now = buffers.match_pair(now, a, b).session;
+            now = buffers.pick(now, a, b).session;
         }
         return (buffers, now);
     }
@@ -178,7 +178,7 @@ fn cut<T>(random: &mut Random, buffer: &mut Vec<T>) {
 fn put<T: Copy>(random: &mut Random, buffer: &mut [T], values: &[T]) {
     if !buffer.is_empty() {
         let index = random.below(buffer.len() as u64) as usize;
-        buffer[index] = random.pick(values);
+        buffer[index] = random.choose(values);
     }
 }
 
@@ -209,20 +209,20 @@ fn spoil(random: &mut Random, buffers: &mut Buffers, session: &mut Session) {
     const BYTES: [u8; 9] = [0, 1, 2, 3, 5, 8, 96, 254, 255];
     const WORDS: [u16; 8] = [0, 1, 2, 32_760, 65_520, 65_521, 65_522, 65_535];
     match random.below(16) {
-        0 => session.size = random.pick(&NUMBERS),
-        1 => session.pairs = random.pick(&NUMBERS),
+        0 => session.size = random.choose(&NUMBERS),
+        1 => session.pairs = random.choose(&NUMBERS),
         2 => session.pairs = session.pairs.wrapping_add(1),
         3 => session.pairs = session.pairs.wrapping_sub(1),
         4 => cut(random, &mut buffers.adjacency),
         5 => cut(random, &mut buffers.weights),
         6 => cut(random, &mut buffers.inverse),
-        7 => cut(random, &mut buffers.order),
+        7 => cut(random, &mut buffers.sequence),
         8 => cut(random, &mut buffers.row),
         9 => put(random, &mut buffers.adjacency, &BYTES),
         10 => put(random, &mut buffers.weights, &WORDS),
         11 => put(random, &mut buffers.inverse, &WORDS),
-        12 => put(random, &mut buffers.order, &BYTES),
-        13 => swap(random, &mut buffers.order),
+        12 => put(random, &mut buffers.sequence, &BYTES),
+        13 => swap(random, &mut buffers.sequence),
         14 => swap(random, &mut buffers.inverse),
         _ => session.size = session.size.wrapping_sub(1),
     }
@@ -231,10 +231,10 @@ fn spoil(random: &mut Random, buffers: &mut Buffers, session: &mut Session) {
 fn random_call(random: &mut Random) -> Call {
     const VERTICES: [u64; 14] = [0, 1, 2, 3, 4, 5, 6, 7, 8, 255, 256, 257, 1 << 32, u64::MAX];
     match random.below(4) {
-        0 => Call::Pair(random.pick(&VERTICES), random.pick(&VERTICES)),
-        1 => Call::Lowest,
+        0 => Call::Pick(random.choose(&VERTICES), random.choose(&VERTICES)),
+        1 => Call::Automatic,
         2 => Call::Undo,
-        _ => Call::Row(random.pick(&VERTICES)),
+        _ => Call::Row(random.choose(&VERTICES)),
     }
 }
 
@@ -266,7 +266,7 @@ fn session_calls_answer_the_lowest_cause() {
     assert!(counts.iter().all(|&count| count > 100), "{counts:?}");
 }
 
-/// All causes that apply to opening, each with its place.
+/// Lists all causes that apply to opening, each with its place.
 fn opening_causes(buffers: &Buffers, size: u64) -> Vec<(u8, u64)> {
     if size > 96 {
         return vec![(1, 0)];
@@ -274,11 +274,11 @@ fn opening_causes(buffers: &Buffers, size: u64) -> Vec<(u8, u64)> {
     let n = size as usize;
     let lengths = [
         (1, buffers.adjacency.len(), n * n),
-        (2, buffers.weights.len(), pair_count(n)),
+        (2, buffers.weights.len(), weight_count(n)),
         (3, buffers.inverse.len(), n * n),
-        (4, buffers.order.len(), n),
-        (5, buffers.kernel.len(), n),
-        (6, buffers.scratch.len(), n * n),
+        (4, buffers.sequence.len(), n),
+        (5, buffers.witness.len(), n),
+        (6, buffers.work.len(), n * n),
     ];
     let short = short_buffers(&lengths);
     if short.is_empty() {
@@ -297,8 +297,8 @@ fn openings_answer_the_lowest_cause() {
         for _ in 0..random.below(3) {
             spoil(&mut random, &mut buffers, &mut now);
             match random.below(6) {
-                0 => cut(&mut random, &mut buffers.kernel),
-                1 => cut(&mut random, &mut buffers.scratch),
+                0 => cut(&mut random, &mut buffers.witness),
+                1 => cut(&mut random, &mut buffers.work),
                 _ => {}
             }
         }
@@ -320,15 +320,16 @@ fn openings_answer_the_lowest_cause() {
 fn display_takes_any_lengths() {
     let mut random = Random(83);
     for _ in 0..5000 {
-        let size = random.pick(&[0, 1, 2, 3, 96, 97, 1 << 32, u64::MAX]);
+        let size = random.choose(&[0, 1, 2, 3, 96, 97, 1 << 32, u64::MAX]);
         let inverse = vec![random.below(2) as u16; random.below(12) as usize];
-        let kernel = vec![random.below(2) as u16; random.below(5) as usize];
-        let part = displayed_part(size, &inverse, &kernel);
-        let fits = size <= 96 && inverse.len() as u64 >= size * size && kernel.len() as u64 >= size;
-        let shows_kernel = fits && kernel.iter().take(size as usize).any(|&word| word != 0);
-        let expected = match (fits, shows_kernel) {
+        let witness = vec![random.below(2) as u16; random.below(5) as usize];
+        let part = displayed_part(size, &inverse, &witness);
+        let fits =
+            size <= 96 && inverse.len() as u64 >= size * size && witness.len() as u64 >= size;
+        let shows_witness = fits && witness.iter().take(size as usize).any(|&word| word != 0);
+        let expected = match (fits, shows_witness) {
             (false, _) => &inverse[..0],
-            (true, true) => &kernel[..size as usize],
+            (true, true) => &witness[..size as usize],
             (true, false) => &inverse[..(size * size) as usize],
         };
         assert_eq!(part.as_ptr(), expected.as_ptr());

@@ -30,7 +30,7 @@ fn every_cut_of_the_listed_input_stops_at_its_length() {
 }
 
 #[test]
-fn no_vertices_are_fully_matched() {
+fn no_vertices_have_a_perfect_matching() {
     let expected = "sleeves 0 links 0\nverdict F\n";
     assert_eq!(listing(&records(0, 7, &[])), expected);
 }
@@ -54,7 +54,7 @@ fn zero_words_of_a_witness_are_passed_over() {
 }
 
 #[test]
-fn cancelling_ring_has_a_witness_although_it_has_a_full_matching() {
+fn cancelling_ring_has_a_witness_although_it_has_a_perfect_matching() {
     let edges = [(0, 1), (1, 2), (2, 3), (3, 0)];
     let expected = "sleeves 4 links 4\nwitness 0 45208\nwitness 2 1\nverdict N\n";
     assert_eq!(listing(&records(4, 247_978, &edges)), expected);

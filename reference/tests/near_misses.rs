@@ -10,37 +10,37 @@ use reference::linear_algebra::{inverse, Matrix};
 use reference::model::Model;
 use reference::opening::Opening;
 use reference::residue::Residue;
-use reference::session::{Edge, Outcome, Session};
+use reference::session::{Outcome, Pair, Session};
 
-/// The calls of a program; the right ones unless a variant says otherwise.
+/// The calls of a program: the right ones, unless a variant has its own.
 trait Program {
     fn open(&self, buffers: &mut Buffers, size: u64) -> Result<Opening, Refusal> {
         buffers.open(size)
     }
 
-    fn pair(&self, buffers: &mut Buffers, session: Session, a: u64, b: u64) -> Outcome<Edge> {
-        buffers.match_pair(session, a, b)
+    fn pick(&self, buffers: &mut Buffers, session: Session, a: u64, b: u64) -> Outcome<Pair> {
+        buffers.pick(session, a, b)
     }
 
-    fn lowest(&self, buffers: &mut Buffers, session: Session) -> Outcome<Edge> {
-        buffers.match_lowest(session)
+    fn automatic(&self, buffers: &mut Buffers, session: Session) -> Outcome<Pair> {
+        buffers.automatic(session)
     }
 }
 
 struct Right;
 impl Program for Right {}
 
-/// What is seen after a call: the answer, the session, order and inverse.
+/// What is seen after a call: the answer, the session, sequence and inverse.
 #[derive(Clone, Debug, PartialEq)]
 struct Seen {
-    answer: Result<Edge, (u8, u64)>,
+    answer: Result<Pair, (u8, u64)>,
     session: Session,
-    order: Vec<u8>,
+    sequence: Vec<u8>,
     inverse: Vec<u16>,
 }
 
-/// What is seen of a program on an opened graph, call by call; none if the
-/// graph does not open.
+/// Returns what is seen of a program on an opened graph, call by call. None if
+/// the graph does not open.
 fn seen(program: &dyn Program, graph: &Buffers, n: usize, calls: &[Call]) -> Option<Vec<Seen>> {
     let mut buffers = graph.clone();
     let Ok(Opening::Opened(mut session)) = program.open(&mut buffers, n as u64) else {
@@ -49,8 +49,8 @@ fn seen(program: &dyn Program, graph: &Buffers, n: usize, calls: &[Call]) -> Opt
     let mut steps = Vec::new();
     for call in calls {
         let outcome = match *call {
-            Call::Pair(a, b) => program.pair(&mut buffers, session, a, b),
-            Call::Lowest => program.lowest(&mut buffers, session),
+            Call::Pick(a, b) => program.pick(&mut buffers, session, a, b),
+            Call::Automatic => program.automatic(&mut buffers, session),
             Call::Undo => buffers.undo(session),
             Call::Row(_) => panic!("no call of a run"),
         };
@@ -58,37 +58,37 @@ fn seen(program: &dyn Program, graph: &Buffers, n: usize, calls: &[Call]) -> Opt
         steps.push(Seen {
             answer: outcome.answer.map_err(Refusal::numbers),
             session,
-            order: buffers.order.clone(),
+            sequence: buffers.sequence.clone(),
             inverse: buffers.inverse.clone(),
         });
     }
     Some(steps)
 }
 
-/// What the plain model says of the same calls.
+/// Returns what the plain model answers to these calls.
 fn expected(graph: &Buffers, n: usize, calls: &[Call]) -> Vec<Seen> {
     let graph = graph.graph(n);
     let mut model = Model::new();
     let mut steps = Vec::new();
     for call in calls {
         let answer = match *call {
-            Call::Pair(a, b) => model.match_pair(&graph, a, b),
-            Call::Lowest => model.match_lowest(&graph),
+            Call::Pick(a, b) => model.pick(&graph, a, b),
+            Call::Automatic => model.automatic(&graph),
             Call::Undo => model.undo(&graph),
             Call::Row(_) => panic!("no call of a run"),
         };
         steps.push(Seen {
             answer: answer.map_err(Refusal::numbers),
             session: model.session(&graph),
-            order: model.order(&graph),
+            sequence: model.sequence(&graph),
             inverse: model.inverse(&graph).expect("an inverse"),
         });
     }
     steps
 }
 
-/// The right program agrees with the model, the wrong one does not: gives what
-/// the two show at the first call where they differ.
+/// Checks that the right program agrees with the model and the wrong one does
+/// not. Returns what the two show at the first call where they differ.
 fn told_apart(wrong: &dyn Program, graph: &Buffers, n: usize, calls: &[Call]) -> (Seen, Seen) {
     let expected = expected(graph, n, calls);
     assert_eq!(seen(&Right, graph, n, calls), Some(expected.clone()));
@@ -100,21 +100,21 @@ fn told_apart(wrong: &dyn Program, graph: &Buffers, n: usize, calls: &[Call]) ->
         .expect("a difference")
 }
 
-/// The path 2 0 1 3 of the paper: edges 01, 02, 13.
+/// Makes the path 2 0 1 3 of the paper: edges 01, 02, 13.
 fn path() -> Buffers {
     Buffers::new(4, &[(0, 1), (0, 2), (1, 3)])
 }
 
-/// An accepted pair written with the right table or a table of one's own.
+/// Appends a pair to the sequence, and writes a table of the inverse.
 fn write_pair(
     buffers: &mut Buffers,
     session: Session,
-    pair: Edge,
+    pair: Pair,
     table: Vec<u16>,
-) -> Outcome<Edge> {
+) -> Outcome<Pair> {
     let index = 2 * session.pairs as usize;
-    buffers.order[index] = pair.smaller as u8;
-    buffers.order[index + 1] = pair.larger as u8;
+    buffers.sequence[index] = pair.smaller as u8;
+    buffers.sequence[index + 1] = pair.larger as u8;
     buffers.inverse = table;
     Outcome {
         session: Session {
@@ -129,7 +129,7 @@ fn write_pair(
 struct EntryAlone;
 
 impl Program for EntryAlone {
-    fn pair(&self, buffers: &mut Buffers, session: Session, a: u64, b: u64) -> Outcome<Edge> {
+    fn pick(&self, buffers: &mut Buffers, session: Session, a: u64, b: u64) -> Outcome<Pair> {
         let n = session.size as usize;
         let (i, j) = (a.min(b) as usize, a.max(b) as usize);
         if buffers.inverse[i * n + j] == 0 {
@@ -138,7 +138,7 @@ impl Program for EntryAlone {
         }
         let once = eliminate(n, &buffers.inverse, i, j, Residue::minus);
         let twice = eliminate(n, &once, j, i, Residue::minus);
-        write_pair(buffers, session, edge(i as u64, j as u64), twice)
+        write_pair(buffers, session, pair(i as u64, j as u64), twice)
     }
 }
 
@@ -147,9 +147,9 @@ fn nonzero_entry_without_the_adjacency_test() {
     let mut buffers = path();
     buffers.opened(4);
     assert_ne!(buffers.inverse[3 * 4 + 2], 0);
-    let (right, wrong) = told_apart(&EntryAlone, &path(), 4, &[Call::Pair(3, 2)]);
+    let (right, wrong) = told_apart(&EntryAlone, &path(), 4, &[Call::Pick(3, 2)]);
     assert_eq!(right.answer, Err((9, 0)));
-    assert_eq!(wrong.answer, Ok(edge(2, 3)));
+    assert_eq!(wrong.answer, Ok(pair(2, 3)));
 }
 
 /// The adjacency test alone: the lowest unmatched vertex with its lowest
@@ -157,16 +157,16 @@ fn nonzero_entry_without_the_adjacency_test() {
 struct AdjacencyAlone;
 
 impl Program for AdjacencyAlone {
-    fn lowest(&self, buffers: &mut Buffers, session: Session) -> Outcome<Edge> {
+    fn automatic(&self, buffers: &mut Buffers, session: Session) -> Outcome<Pair> {
         let n = session.size as usize;
         let unmatched: Vec<usize> = (0..n)
-            .filter(|&vertex| !buffers.order.contains(&(vertex as u8)))
+            .filter(|&vertex| !buffers.sequence.contains(&(vertex as u8)))
             .collect();
         let pair = unmatched.first().and_then(|&c| {
             let partner = unmatched
                 .iter()
                 .find(|&&r| buffers.adjacency[c * n + r] == 1);
-            partner.map(|&r| edge(c as u64, r as u64))
+            partner.map(|&r| pair(c as u64, r as u64))
         });
         match pair {
             Some(pair) => write_pair(buffers, session, pair, vec![0; n * n]),
@@ -180,30 +180,30 @@ impl Program for AdjacencyAlone {
 
 #[test]
 fn adjacency_test_alone_is_stuck() {
-    let calls = [Call::Lowest, Call::Lowest];
+    let calls = [Call::Automatic, Call::Automatic];
     let (right, wrong) = told_apart(&AdjacencyAlone, &path(), 4, &calls);
-    assert_eq!(right.answer, Ok(edge(0, 2)));
-    assert_eq!(wrong.answer, Ok(edge(0, 1)));
+    assert_eq!(right.answer, Ok(pair(0, 2)));
+    assert_eq!(wrong.answer, Ok(pair(0, 1)));
     let steps = seen(&AdjacencyAlone, &path(), 4, &calls).expect("opened");
     assert_eq!(steps[1].answer, Err((11, 0)));
     assert_eq!(steps[1].session, session(4, 1));
 }
 
-/// One row and one column eliminated per pair.
+/// One row and one column eliminated for a pick.
 struct OneElimination;
 
 impl Program for OneElimination {
-    fn pair(&self, buffers: &mut Buffers, session: Session, a: u64, b: u64) -> Outcome<Edge> {
+    fn pick(&self, buffers: &mut Buffers, session: Session, a: u64, b: u64) -> Outcome<Pair> {
         let n = session.size as usize;
         let table = eliminate(n, &buffers.inverse, a as usize, b as usize, Residue::minus);
-        write_pair(buffers, session, edge(a.min(b), a.max(b)), table)
+        write_pair(buffers, session, pair(a.min(b), a.max(b)), table)
     }
 }
 
 #[test]
 fn one_row_and_one_column_eliminated() {
     let graph = Buffers::complete(4);
-    let calls = [Call::Pair(0, 1), Call::Lowest];
+    let calls = [Call::Pick(0, 1), Call::Automatic];
     let (right, wrong) = told_apart(&OneElimination, &graph, 4, &calls);
     assert_eq!(right.answer, wrong.answer);
     assert_ne!(right.inverse, wrong.inverse);
@@ -242,15 +242,15 @@ fn weight_on_both_sides_of_the_diagonal() {
     let wrong = Symmetric.open(&mut triangle.clone(), 3);
     assert_eq!(wrong, Ok(Opening::Opened(session(3, 0))));
     assert_eq!(triangle.open(3), Ok(Opening::Singular { column: 2 }));
-    assert_eq!(triangle.kernel, [1, 65520, 1]);
+    assert_eq!(triangle.witness, [1, 65520, 1]);
 }
 
-/// A difference that wraps at 2^16 instead of adding the modulus first.
+/// Subtracts, wrapping at 2^16 instead of adding the modulus first.
 fn wrapping_difference(a: Residue, b: Residue) -> Residue {
     Residue::new(u64::from(a.word().wrapping_sub(b.word())))
 }
 
-/// The same at 2^32 and 2^64.
+/// Subtracts, wrapping at 2^32 and at 2^64.
 fn wider_wrapping_differences(a: Residue, b: Residue) -> [Residue; 2] {
     let (a, b) = (a.word(), b.word());
     let narrow = u32::from(a).wrapping_sub(u32::from(b));
@@ -269,7 +269,7 @@ fn difference_without_adding_the_modulus() {
     }
 }
 
-/// Forms the entry below the diagonal as such a difference, 0 minus the weight.
+/// Forms the entry below the diagonal by wrapping_difference, 0 minus the weight.
 struct WrappingEntry;
 
 impl Program for WrappingEntry {
@@ -306,23 +306,23 @@ fn entries_formed_without_adding_the_modulus() {
     assert_ne!(wrong.inverse, right.inverse);
 }
 
-/// Eliminates with such a difference.
+/// Eliminates with wrapping_difference.
 struct WrappingElimination;
 
 impl Program for WrappingElimination {
-    fn pair(&self, buffers: &mut Buffers, session: Session, a: u64, b: u64) -> Outcome<Edge> {
+    fn pick(&self, buffers: &mut Buffers, session: Session, a: u64, b: u64) -> Outcome<Pair> {
         let n = session.size as usize;
         let (i, j) = (a.min(b) as usize, a.max(b) as usize);
         let once = eliminate(n, &buffers.inverse, i, j, wrapping_difference);
         let twice = eliminate(n, &once, j, i, wrapping_difference);
-        write_pair(buffers, session, edge(i as u64, j as u64), twice)
+        write_pair(buffers, session, pair(i as u64, j as u64), twice)
     }
 }
 
 #[test]
 fn elimination_without_adding_the_modulus() {
     let graph = Buffers::complete(4);
-    let (right, wrong) = told_apart(&WrappingElimination, &graph, 4, &[Call::Pair(0, 1)]);
+    let (right, wrong) = told_apart(&WrappingElimination, &graph, 4, &[Call::Pick(0, 1)]);
     assert_eq!(right.answer, wrong.answer);
     assert_ne!(right.inverse, wrong.inverse);
 }
@@ -350,16 +350,16 @@ fn a_program_that_refuses_every_graph() {
 struct FixedPairs;
 
 impl Program for FixedPairs {
-    fn lowest(&self, buffers: &mut Buffers, session: Session) -> Outcome<Edge> {
+    fn automatic(&self, buffers: &mut Buffers, session: Session) -> Outcome<Pair> {
         let n = session.size as usize;
-        let pair = edge(2 * session.pairs, 2 * session.pairs + 1);
+        let pair = pair(2 * session.pairs, 2 * session.pairs + 1);
         let once = eliminate_or_keep(n, &buffers.inverse, pair);
         write_pair(buffers, session, pair, once)
     }
 }
 
-/// Both eliminations where the entry is not 0, else the table as it is.
-fn eliminate_or_keep(n: usize, table: &[u16], pair: Edge) -> Vec<u16> {
+/// Eliminates both ways if the entry is not 0, else keeps the table.
+fn eliminate_or_keep(n: usize, table: &[u16], pair: Pair) -> Vec<u16> {
     let (a, b) = (pair.smaller as usize, pair.larger as usize);
     if table[a * n + b] == 0 {
         return table.to_vec();
@@ -370,60 +370,60 @@ fn eliminate_or_keep(n: usize, table: &[u16], pair: Edge) -> Vec<u16> {
 
 #[test]
 fn a_program_that_always_matches_0_with_1_and_2_with_3() {
-    let calls = [Call::Lowest, Call::Lowest];
+    let calls = [Call::Automatic, Call::Automatic];
     let complete = seen(&FixedPairs, &Buffers::complete(4), 4, &calls);
     assert_eq!(complete, seen(&Right, &Buffers::complete(4), 4, &calls));
     let (right, wrong) = told_apart(&FixedPairs, &path(), 4, &calls);
-    assert_eq!(right.answer, Ok(edge(0, 2)));
-    assert_eq!(wrong.answer, Ok(edge(0, 1)));
+    assert_eq!(right.answer, Ok(pair(0, 2)));
+    assert_eq!(wrong.answer, Ok(pair(0, 1)));
 }
 
 /// Answers rightly and writes nothing.
 struct WritesNothing;
 
 impl Program for WritesNothing {
-    fn lowest(&self, buffers: &mut Buffers, session: Session) -> Outcome<Edge> {
-        buffers.clone().match_lowest(session)
+    fn automatic(&self, buffers: &mut Buffers, session: Session) -> Outcome<Pair> {
+        buffers.clone().automatic(session)
     }
 }
 
 #[test]
 fn a_program_that_writes_nothing() {
-    let calls = [Call::Lowest, Call::Lowest];
+    let calls = [Call::Automatic, Call::Automatic];
     let (right, wrong) = told_apart(&WritesNothing, &path(), 4, &calls);
     assert_eq!(right.answer, wrong.answer);
     assert_ne!(right.inverse, wrong.inverse);
-    assert_ne!(right.order, wrong.order);
+    assert_ne!(right.sequence, wrong.sequence);
 }
 
-/// Fills the whole order of matching at the first step and nods afterwards.
+/// Fills the whole sequence at the first pick and nods afterwards.
 struct FillsAtOnce;
 
 impl Program for FillsAtOnce {
-    fn lowest(&self, buffers: &mut Buffers, opened: Session) -> Outcome<Edge> {
+    fn automatic(&self, buffers: &mut Buffers, opened: Session) -> Outcome<Pair> {
         let mut ahead = opened;
-        while buffers.order.contains(&255) {
-            ahead = buffers.match_lowest(ahead).session;
+        while buffers.sequence.contains(&255) {
+            ahead = buffers.automatic(ahead).session;
         }
         let index = 2 * opened.pairs as usize;
-        let pair = &buffers.order[index..index + 2];
+        let bytes = &buffers.sequence[index..index + 2];
         Outcome {
             session: session(opened.size, opened.pairs + 1),
-            answer: Ok(edge(u64::from(pair[0]), u64::from(pair[1]))),
+            answer: Ok(pair(u64::from(bytes[0]), u64::from(bytes[1]))),
         }
     }
 }
 
 #[test]
-fn a_program_that_fills_the_order_at_once() {
-    let calls = [Call::Lowest, Call::Lowest];
+fn a_program_that_fills_the_sequence_at_once() {
+    let calls = [Call::Automatic, Call::Automatic];
     let (right, wrong) = told_apart(&FillsAtOnce, &path(), 4, &calls);
     assert_eq!(right.answer, wrong.answer);
     assert_eq!(right.session, wrong.session);
-    assert_eq!(right.order, [0, 2, 255, 255]);
-    assert_eq!(wrong.order, [0, 2, 1, 3]);
+    assert_eq!(right.sequence, [0, 2, 255, 255]);
+    assert_eq!(wrong.sequence, [0, 2, 1, 3]);
     assert_ne!(right.inverse, wrong.inverse);
-    // After the last step nothing tells them apart: every call is compared.
+    // After the last call nothing tells them apart: every call is compared.
     let steps = seen(&FillsAtOnce, &path(), 4, &calls).expect("opened");
     assert_eq!(steps.last(), expected(&path(), 4, &calls).last());
 }
@@ -432,8 +432,8 @@ fn a_program_that_fills_the_order_at_once() {
 struct InventsPairs;
 
 impl Program for InventsPairs {
-    fn pair(&self, buffers: &mut Buffers, session: Session, a: u64, b: u64) -> Outcome<Edge> {
-        let mut outcome = buffers.match_pair(session, a, b);
+    fn pick(&self, buffers: &mut Buffers, session: Session, a: u64, b: u64) -> Outcome<Pair> {
+        let mut outcome = buffers.pick(session, a, b);
         outcome.session.pairs = 2;
         outcome
     }
@@ -442,10 +442,10 @@ impl Program for InventsPairs {
 #[test]
 fn a_program_that_invents_its_number_of_pairs() {
     let graph = Buffers::complete(4);
-    let calls = [Call::Pair(0, 1), Call::Lowest];
+    let calls = [Call::Pick(0, 1), Call::Automatic];
     let (right, wrong) = told_apart(&InventsPairs, &graph, 4, &calls);
     assert_ne!(right.session, wrong.session);
     let steps = seen(&InventsPairs, &graph, 4, &calls).expect("opened");
     assert_eq!(steps[1].answer, Err((5, 0)));
-    assert_eq!(expected(&graph, 4, &calls)[1].answer, Ok(edge(2, 3)));
+    assert_eq!(expected(&graph, 4, &calls)[1].answer, Ok(pair(2, 3)));
 }

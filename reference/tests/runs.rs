@@ -6,7 +6,7 @@ use common::*;
 use reference::causes::{Cause, Refusal};
 use reference::model::Model;
 use reference::opening::Opening;
-use reference::session::{Edge, Session};
+use reference::session::{Pair, Session};
 
 /// A session and its buffers beside a model that is told the calls only.
 struct Run {
@@ -14,12 +14,12 @@ struct Run {
     buffers: Buffers,
     session: Session,
     model: Model,
-    /// Session and buffers before each pair matched in this run.
-    before_pairs: Vec<(Session, Buffers)>,
+    /// Session and buffers before each pick of this run.
+    before_picks: Vec<(Session, Buffers)>,
 }
 
 impl Run {
-    /// A random graph with excess in every buffer, if it opens.
+    /// Opens a random graph with excess in every buffer. None if it is singular.
     fn opened(random: &mut Random, n: usize) -> Option<Run> {
         let mut buffers = Buffers::random(random, n).with_excess(random);
         let Ok(Opening::Opened(session)) = buffers.open(n as u64) else {
@@ -30,11 +30,11 @@ impl Run {
             buffers,
             session,
             model: Model::new(),
-            before_pairs: Vec::new(),
+            before_picks: Vec::new(),
         })
     }
 
-    /// A session put together by hand: some edges in any order, if the other
+    /// Makes a session by hand: some edges in any order, if the other
     /// vertices have an inverse. The whole graph need not have one.
     fn by_hand(random: &mut Random, n: usize) -> Option<Run> {
         let mut buffers = Buffers::random(random, n).with_excess(random);
@@ -45,25 +45,25 @@ impl Run {
             let unmatched = model.unmatched(&graph);
             let both = unmatched.contains(&a) && unmatched.contains(&b);
             if a < b && both && graph.adjacent(a as usize, b as usize) {
-                model.pairs.push(edge(a, b));
+                model.pairs.push(pair(a, b));
             }
         }
         let inverse = model.inverse(&graph)?;
-        let order = model.order(&graph);
+        let sequence = model.sequence(&graph);
         let session = model.session(&graph);
         buffers.inverse[..n * n].copy_from_slice(&inverse);
-        buffers.order[..n].copy_from_slice(&order);
+        buffers.sequence[..n].copy_from_slice(&sequence);
         Some(Run {
             n,
             buffers,
             session,
             model,
-            before_pairs: Vec::new(),
+            before_picks: Vec::new(),
         })
     }
 
-    /// Carries a call out on both sides and compares everything.
-    fn step(&mut self, call: Call) -> Result<Option<Edge>, Refusal> {
+    /// Makes a call on both sides and compares everything.
+    fn call(&mut self, call: Call) -> Result<Option<Pair>, Refusal> {
         let before = self.buffers.clone();
         let session_before = self.session;
         let outcome = self.buffers.call(self.session, call);
@@ -84,18 +84,18 @@ impl Run {
         outcome.answer
     }
 
-    fn model_answer(&mut self, call: Call) -> Result<Option<Edge>, Refusal> {
+    fn model_answer(&mut self, call: Call) -> Result<Option<Pair>, Refusal> {
         let graph = self.buffers.graph(self.n);
         match call {
-            Call::Pair(a, b) => self.model.match_pair(&graph, a, b).map(Some),
-            Call::Lowest => self.model.match_lowest(&graph).map(Some),
+            Call::Pick(a, b) => self.model.pick(&graph, a, b).map(Some),
+            Call::Automatic => self.model.automatic(&graph).map(Some),
             Call::Undo => self.model.undo(&graph).map(Some),
             Call::Row(a) if a >= self.n as u64 => Err(Cause::VertexInvalid.refusal()),
             Call::Row(a) if !self.model.unmatched(&graph).contains(&a) => {
                 Err(Cause::VertexMatched.refusal())
             }
             Call::Row(a) => {
-                let partners = self.model.open_partners(&graph, a);
+                let partners = self.model.partners(&graph, a);
                 for b in 0..self.n {
                     let open = partners.contains(&(b as u64));
                     assert_eq!(self.buffers.row[b], u8::from(open));
@@ -105,7 +105,7 @@ impl Run {
         }
     }
 
-    /// An accepted call writes only order and inverse, or only the row, and
+    /// Checks that an accepted call writes only sequence and inverse, or only the row, and
     /// nothing past n or n times n.
     fn check_untouched(&self, call: Call, before: &Buffers) {
         let n = self.n;
@@ -113,20 +113,20 @@ impl Run {
         if let Call::Row(_) = call {
             expected.row[..n].copy_from_slice(&self.buffers.row[..n]);
         } else {
-            expected.order[..n].copy_from_slice(&self.buffers.order[..n]);
+            expected.sequence[..n].copy_from_slice(&self.buffers.sequence[..n]);
             expected.inverse[..n * n].copy_from_slice(&self.buffers.inverse[..n * n]);
         }
         assert_eq!(self.buffers, expected);
     }
 
-    /// An undo restores the session and every byte and word from before the
+    /// Checks that an undo restores the session and every byte and word from before the
     /// pair it removes.
     fn check_undo(&mut self, call: Call, session: Session, before: Buffers) {
         match call {
-            Call::Pair(..) | Call::Lowest => self.before_pairs.push((session, before)),
+            Call::Pick(..) | Call::Automatic => self.before_picks.push((session, before)),
             Call::Row(_) => {}
             Call::Undo => {
-                if let Some((session, mut buffers)) = self.before_pairs.pop() {
+                if let Some((session, mut buffers)) = self.before_picks.pop() {
                     buffers.row = self.buffers.row.clone();
                     assert_eq!(self.session, session);
                     assert_eq!(self.buffers, buffers);
@@ -135,46 +135,46 @@ impl Run {
         }
     }
 
-    /// Session, order and inverse are those of the model.
+    /// Checks that session, sequence and inverse are those of the model.
     fn check_session(&self) {
         let graph = self.buffers.graph(self.n);
         assert_eq!(self.session, self.model.session(&graph));
-        assert_eq!(self.buffers.order[..self.n], self.model.order(&graph));
+        assert_eq!(self.buffers.sequence[..self.n], self.model.sequence(&graph));
         let inverse = self.model.inverse(&graph).expect("an inverse");
         assert_eq!(self.buffers.inverse[..self.n * self.n], inverse);
     }
 
-    /// The automatic steps to come are half the unmatched vertices, each of
-    /// which has an open partner.
-    fn check_steps_to_come(&self) {
+    /// Checks that the automatic picks to come are half the unmatched vertices, each of
+    /// which has a partner.
+    fn check_picks_to_come(&self) {
         let graph = self.buffers.graph(self.n);
         let unmatched = self.model.unmatched(&graph);
         assert_eq!(unmatched.len() % 2, 0);
         let half = unmatched.len() as u64 / 2;
-        assert_eq!(self.model.steps_to_come(&graph), half);
+        assert_eq!(self.model.picks_to_come(&graph), half);
         for vertex in unmatched {
-            assert!(!self.model.open_partners(&graph, vertex).is_empty());
+            assert!(!self.model.partners(&graph, vertex).is_empty());
         }
         let mut ahead = self.buffers.clone();
         let mut session = self.session;
         for _ in 0..half {
-            let outcome = ahead.match_lowest(session);
+            let outcome = ahead.automatic(session);
             assert!(outcome.answer.is_ok());
             session = outcome.session;
         }
-        assert_eq!(ahead.refused(session, Call::Lowest), (11, 0));
+        assert_eq!(ahead.refused(session, Call::Automatic), (11, 0));
     }
 
-    /// With no vertex unmatched, each stands in the order once, in an edge.
-    fn check_full_matching(&self) {
-        let order = &self.buffers.order[..self.n];
-        if order.contains(&255) {
+    /// Checks that, with no vertex unmatched, each stands in the sequence once, in an edge.
+    fn check_perfect_matching(&self) {
+        let sequence = &self.buffers.sequence[..self.n];
+        if sequence.contains(&255) {
             return;
         }
-        let mut sorted = order.to_vec();
+        let mut sorted = sequence.to_vec();
         sorted.sort();
         assert_eq!(sorted, (0..self.n as u8).collect::<Vec<_>>());
-        for pair in order.chunks(2) {
+        for pair in sequence.chunks(2) {
             let cell = usize::from(pair[0]) * self.n + usize::from(pair[1]);
             assert_eq!(self.buffers.adjacency[cell], 1);
         }
@@ -182,16 +182,16 @@ impl Run {
 
     fn check_all(&self) {
         self.check_session();
-        self.check_steps_to_come();
-        self.check_full_matching();
+        self.check_picks_to_come();
+        self.check_perfect_matching();
     }
 }
 
-/// A vertex: mostly a good one, sometimes any number.
+/// Returns mostly a vertex, sometimes any number.
 fn random_vertex(random: &mut Random, n: usize) -> u64 {
     let n = n as u64;
     match random.below(12) {
-        0 => random.pick(&[n, n + 1, 255, 256, 257, 300, 1 << 32, u64::MAX]),
+        0 => random.choose(&[n, n + 1, 255, 256, 257, 300, 1 << 32, u64::MAX]),
         1 => 256 + random.below(n.max(1)),
         _ => random.below(n.max(1)),
     }
@@ -199,8 +199,8 @@ fn random_vertex(random: &mut Random, n: usize) -> u64 {
 
 fn random_call(random: &mut Random, n: usize) -> Call {
     match random.below(10) {
-        0..=3 => Call::Pair(random_vertex(random, n), random_vertex(random, n)),
-        4..=5 => Call::Lowest,
+        0..=3 => Call::Pick(random_vertex(random, n), random_vertex(random, n)),
+        4..=5 => Call::Automatic,
         6..=7 => Call::Undo,
         _ => Call::Row(random_vertex(random, n)),
     }
@@ -211,7 +211,7 @@ fn random_run(random: &mut Random, mut run: Run, calls: usize) -> Counts {
     run.check_all();
     for _ in 0..calls {
         let call = random_call(random, run.n);
-        match run.step(call) {
+        match run.call(call) {
             Ok(_) => counts.accepted += 1,
             Err(refusal) => counts.refused[usize::from(refusal.cause.number())] += 1,
         }
@@ -266,7 +266,7 @@ fn small_sessions_put_together_by_hand() {
             continue;
         };
         let pairs = run.session.pairs;
-        if run.step(Call::Undo) == Err(Cause::RestSingular.refusal()) {
+        if run.call(Call::Undo) == Err(Cause::RestSingular.refusal()) {
             assert!(pairs > 0);
             undo_refused += 1;
         }
@@ -309,14 +309,14 @@ fn all_the_way_and_back() {
         };
         let opened = run.buffers.clone();
         for _ in 0..n / 2 {
-            assert!(run.step(Call::Lowest).is_ok());
+            assert!(run.call(Call::Automatic).is_ok());
         }
-        run.check_full_matching();
-        assert!(run.step(Call::Lowest).is_err());
+        run.check_perfect_matching();
+        assert!(run.call(Call::Automatic).is_err());
         for _ in 0..n / 2 {
-            assert!(run.step(Call::Undo).is_ok());
+            assert!(run.call(Call::Undo).is_ok());
         }
-        assert!(run.step(Call::Undo).is_err());
+        assert!(run.call(Call::Undo).is_err());
         assert_eq!(run.buffers, opened);
     }
 }
@@ -335,18 +335,18 @@ fn the_largest_graph() {
         buffers,
         session,
         model: Model::new(),
-        before_pairs: Vec::new(),
+        before_picks: Vec::new(),
     };
     for call in [
         Call::Row(95),
-        Call::Pair(95, 0),
-        Call::Pair(0, 95),
-        Call::Lowest,
+        Call::Pick(95, 0),
+        Call::Pick(0, 95),
+        Call::Automatic,
         Call::Undo,
         Call::Undo,
         Call::Undo,
     ] {
-        let _ = run.step(call);
+        let _ = run.call(call);
     }
     assert_eq!(run.session.pairs, 0);
 }

@@ -134,7 +134,7 @@ fn faults_name_their_line() {
     );
 }
 
-/// Good records, damaged in up to four places, or any bytes.
+/// Makes good records, damaged in up to four places, or any bytes.
 fn any_bytes(random: &mut Random) -> Vec<u8> {
     if random.chance(20) {
         return (0..random.below(40)).map(|_| random.next() as u8).collect();

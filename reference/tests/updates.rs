@@ -7,7 +7,7 @@ use reference::linear_algebra::determinant;
 use reference::opening::Opening;
 use reference::residue::Residue;
 
-/// Random graphs that open, with their tables.
+/// Opens random graphs, and keeps those that have an inverse.
 fn opened_graphs(seed: u64, count: usize) -> Vec<(usize, Buffers)> {
     let mut random = Random(seed);
     let mut graphs = Vec::new();
@@ -21,16 +21,14 @@ fn opened_graphs(seed: u64, count: usize) -> Vec<(usize, Buffers)> {
     graphs
 }
 
-/// "Held after a pick follows 001, theorem 3.1, applied for both (a,b) and
-/// (b,a)", and a pair is refused 10 exactly where the entry is 0.
+/// Document 01: "Held after a pick follows 001, theorem 3.1, applied for both
+/// (a,b) and (b,a)". A pick is refused with 10 exactly if the entry is 0.
 #[test]
-fn two_eliminations_give_the_table_after_a_pair() {
+fn two_eliminations_give_the_inverse_after_a_pick() {
     for (n, buffers) in opened_graphs(71, 60) {
-        for (a, b) in all_pairs(n) {
+        for (a, b) in every_two(n) {
             let mut after = buffers.clone();
-            let answer = after
-                .match_pair(session(n as u64, 0), a as u64, b as u64)
-                .answer;
+            let answer = after.pick(session(n as u64, 0), a as u64, b as u64).answer;
             let adjacent = buffers.adjacency[a * n + b] == 1;
             let nonzero = buffers.inverse[a * n + b] != 0;
             match answer {
@@ -58,7 +56,7 @@ fn two_eliminations_give_the_table_after_a_pair() {
 fn the_rest_has_an_inverse_where_the_entry_is_not_zero() {
     for (n, buffers) in opened_graphs(72, 60) {
         let graph = buffers.graph(n);
-        for (a, b) in all_pairs(n) {
+        for (a, b) in every_two(n) {
             let rest: Vec<usize> = (0..n).filter(|&v| v != a && v != b).collect();
             let singular = determinant(&graph.tutte_matrix(&rest)) == Some(Residue::ZERO);
             assert_eq!(singular, buffers.inverse[a * n + b] == 0);
@@ -78,13 +76,13 @@ fn the_inverse_is_skew() {
     }
 }
 
-/// Every unmatched vertex has an open partner (source document 001, theorem
+/// Every unmatched vertex has a partner (source document 001, theorem
 /// 2.6).
 #[test]
 fn every_row_has_a_partner() {
     for (n, mut buffers) in opened_graphs(74, 60) {
         for a in 0..n {
-            let outcome = buffers.partner_row(session(n as u64, 0), a as u64);
+            let outcome = buffers.row(session(n as u64, 0), a as u64);
             assert_eq!(outcome.answer, Ok(()));
             assert!(buffers.row.contains(&1));
             for b in 0..n {

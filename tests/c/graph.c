@@ -99,7 +99,8 @@ static void sizes(void)
     check("about 55 KB", sizeof graph > 55000 && sizeof graph < 56000);
 
     for (size_t k = 0; k < COUNT(large); k++) {
-        uint64_t call[] = {SASZVIGOM_CALL_AUTOMATIC, 0, 0}, answer = 0;
+        const uint64_t call[] = {SASZVIGOM_CALL_AUTOMATIC, 0, 0}, unknown[] = {9, 0, 0};
+        uint64_t answer = 0;
         check("init of too many", !saszvigom_graph_init(&graph, large[k]));
         before = graph;
         check_number("open of too many", saszvigom_graph_open(&graph), 1);
@@ -109,7 +110,10 @@ static void sizes(void)
         check_number("undo of too many", saszvigom_graph_undo(&graph), 1);
         check_number("row of too many", saszvigom_graph_row(&graph, 0), 1);
         check_number("replay of too many", saszvigom_graph_replay(&graph, call, 3, &answer, 1), 1);
-        check_number("answer of too many", answer, 1);
+        check_number("answer of too many", answer, 0);
+        check_number("unknown call of too many", saszvigom_graph_replay(&graph, unknown, 3, &answer, 1), 1);
+        check_number("cut list of too many", saszvigom_graph_replay(&graph, NULL, 1, NULL, 0), 1);
+        check_number("answer still", answer, 0);
         check("edge of too many", !saszvigom_graph_set_edge(&graph, 0, 1));
         check("no edge of too many", !saszvigom_graph_clear_edge(&graph, 0, 1));
         check("adjacent of too many", !saszvigom_graph_adjacent(&graph, 0, 1));
@@ -292,7 +296,15 @@ static void replays(void)
     check_number("too few answers", saszvigom_graph_replay(&graph, calls, 12, answers, 3), 0xA0002);
     check_number("cut list", saszvigom_graph_replay(&graph, calls, 11, answers, 5), 0x3000D);
     check_number("unknown call", saszvigom_graph_replay(&graph, unknown, 6, answers, 5), 0x1000C);
-    check("refused lists, unchanged", unchanged() && answers[0] == 7);
+    graph.weights[0] = graph.weights[1] = 0;
+    before = graph;
+    check_number("too few answers, and a weight 0", saszvigom_graph_replay(&graph, calls, 12, answers, 3), 0xA0002);
+    check_number("cut list, and a weight 0", saszvigom_graph_replay(&graph, calls, 11, answers, 5), 4);
+    check_number("unknown call, and a weight 0", saszvigom_graph_replay(&graph, unknown, 6, answers, 5), 4);
+    check("refused lists, unchanged",
+          unchanged() && answers[0] == 7 && answers[1] == 7 && answers[2] == 7 && answers[3] == 7);
+    open_ring(6);
+    before = graph;
 
     check_number("list", saszvigom_graph_replay(&graph, calls, 12, answers, 5), 0x100000500);
     check_number("its pick", answers[0], 0x101000300);

@@ -3,12 +3,14 @@
  * byte of every buffer with what is expected. Prints a line for each case and
  * stops with status 1 at the first difference.
  */
+#define _DEFAULT_SOURCE
 #include "setup.h"
 
 #include <stdbool.h>
 #include <stdio.h>
 #include <stdlib.h>
 #include <string.h>
+#include <sys/mman.h>
 
 #define COUNT(array) (sizeof(array) / sizeof(array)[0])
 
@@ -126,8 +128,6 @@ static void run_refused(enum entry entry, unsigned cause, unsigned place, const 
     char name[96];
     call_entry(entry);
     expect_refusal(cause, place);
-    if (entry == REPLAY)
-        memcpy(expected.bytes[ANSWERS], &expected.number, sizeof expected.number);
     (void)snprintf(name, sizeof name, "%s refused with %u: %s", entry_names[entry], cause, what);
     run(name);
 }
@@ -421,7 +421,7 @@ static void run_list_refused(const uint64_t *list, size_t length, size_t room, u
     expect_refusal(cause, place);
     run(name);
     call.n = 97;
-    expect_refusal(cause, place);
+    expect_refusal(SASZVIGOM_SIZE_TOO_LARGE, 0);
     run("the same with size 97");
     call.n = 4;
 }
@@ -440,6 +440,142 @@ static void faulty_lists(void)
     run_list_refused(list, 1, 0, SASZVIGOM_LIST_CUT, 0, "list of one number");
     run_list_refused((const uint64_t[]){4294967297u, 0, 1}, 3, 1, SASZVIGOM_CALL_UNKNOWN, 0,
                      "list with a kind of more than 32 bits");
+}
+
+/* Faults of a list and of its session at once. Each line adds one, which is the
+   lowest cause so far. */
+static void several_causes(void)
+{
+    const uint64_t list[] = {2, 0, 0, 2, 0, 0, 9, 0, 0, 2};
+    open_four();
+    set_lengths_as_needed();
+    replay(list, 10, 3);
+    expect_refusal(SASZVIGOM_CALL_UNKNOWN, 2);
+    run("cut list with an unknown kind");
+    call.bytes[INVERSE][2] ^= 1;
+    expect_refusal(SASZVIGOM_INVERSE_WRONG, 0);
+    run("and a wrong inverse");
+    call.made = 1;
+    expect_refusal(SASZVIGOM_SESSION_MALFORMED, 0);
+    run("and pairs made that are not there");
+    set_weight(3, 0);
+    expect_refusal(SASZVIGOM_WEIGHT_OUT_OF_RANGE, 3);
+    run("and a weight of 0");
+    set_cell(1, 1, 1);
+    expect_refusal(SASZVIGOM_ADJACENCY_FAULT, 5);
+    run("and a loop");
+    replay(list, 10, 2);
+    expect_refusal(SASZVIGOM_BUFFER_TOO_SHORT, SASZVIGOM_BUFFER_ANSWERS);
+    run("and too few answers");
+    for (unsigned b = SEQUENCE + 1; b-- > ADJACENCY;) {
+        call.length[b]--;
+        expect_refusal(SASZVIGOM_BUFFER_TOO_SHORT, b + 1);
+        run("and a short buffer");
+    }
+    call.n = 97;
+    expect_refusal(SASZVIGOM_SIZE_TOO_LARGE, 0);
+    run("and size 97");
+
+    open_four();
+    replay(list, 8, 2);
+    call.made = 1;
+    expect_refusal(SASZVIGOM_SESSION_MALFORMED, 0);
+    run("cut list on a session that is not sound");
+    open_four();
+    replay(list, 3, 1);
+    call.n = 97;
+    expect_refusal(SASZVIGOM_SIZE_TOO_LARGE, 0);
+    run("one automatic pick with size 97");
+}
+
+/* A page, to be read only or also written. */
+static void protect(void *page, bool writable)
+{
+    if (mprotect(page, 4096, writable ? PROT_READ | PROT_WRITE : PROT_READ) != 0) {
+        printf("FAIL mprotect\n");
+        exit(1);
+    }
+}
+
+static void check(const char *name, bool right)
+{
+    if (!right) {
+        printf("FAIL %s\n", name);
+        exit(1);
+    }
+    cases++;
+    printf("ok   %s\n", name);
+}
+
+static void check_number(const char *name, uint64_t number, uint64_t wanted)
+{
+    if (number != wanted)
+        printf("number %#llx instead of %#llx\n", (unsigned long long)number,
+               (unsigned long long)wanted);
+    check(name, number == wanted);
+}
+
+/* Four vertices in pages of their own: a buffer that is written while it is read
+   only ends the program. */
+static void read_only_sessions(void)
+{
+    enum { LENT = 5 };
+    static const uint64_t refused[] = {SASZVIGOM_CALL_UNDO, 0, 0, SASZVIGOM_CALL_PICK, 0, 0,
+                                       SASZVIGOM_CALL_PICK, 0, 4, 9,                   0, 0};
+    static const uint64_t accepted[] = {SASZVIGOM_CALL_PICK, 0, 1, SASZVIGOM_CALL_UNDO, 0, 0};
+    uint8_t opened[SASZVIGOM_INVERSE_BYTES(4)], *page[LENT], partners[4];
+    uint64_t *answers;
+    open_four();
+    set_lengths_as_needed();
+    for (unsigned b = 0; b < LENT; b++) {
+        page[b] = mmap(NULL, 4096, PROT_READ | PROT_WRITE, MAP_PRIVATE | MAP_ANONYMOUS, -1, 0);
+        if (page[b] == MAP_FAILED) {
+            printf("FAIL mmap\n");
+            exit(1);
+        }
+        if (b <= SEQUENCE)
+            memcpy(page[b], call.bytes[b], call.length[b]);
+        protect(page[b], false);
+    }
+    answers = (uint64_t *)page[LENT - 1];
+    memcpy(opened, page[INVERSE], sizeof opened);
+
+#define SESSION page[0], 16, page[1], 12, page[2], 32, page[3], 4
+    check_number("empty list, read only", saszvigom_replay(4, 0, SESSION, refused, 0, answers, 0),
+                 0x500);
+    check_number("size 97, read only", saszvigom_replay(97, 0, SESSION, refused, 9, answers, 3), 1);
+    check_number("no room, read only", saszvigom_replay(4, 0, SESSION, refused, 9, answers, 2),
+                 0xA0002);
+    check_number("not sound, read only", saszvigom_replay(4, 1, SESSION, refused, 9, answers, 3), 5);
+    check_number("cut list, read only", saszvigom_replay(4, 0, SESSION, refused, 10, answers, 3),
+                 0x3000D);
+    check_number("unknown kind, read only",
+                 saszvigom_replay(4, 0, SESSION, refused, 12, answers, 4), 0x3000C);
+    check_number("refused pick, read only", saszvigom_pick(4, 0, 1, 1, SESSION), 7);
+    check_number("refused undo, read only", saszvigom_undo(4, 0, SESSION), 11);
+    check_number("row, read only", saszvigom_row(4, 0, 0, SESSION, partners, 4), 0x400);
+
+    protect(answers, true);
+    check_number("refused calls, read only",
+                 saszvigom_replay(4, 0, SESSION, refused, 9, answers, 3), 0x500);
+    check_number("refused undo in a list", answers[0], 11);
+    check_number("refused pick in a list", answers[1], 7);
+    check_number("refused pick of no vertex in a list", answers[2], 7);
+
+    protect(page[INVERSE], true);
+    protect(page[SEQUENCE], true);
+    check_number("pick", saszvigom_replay(4, 0, SESSION, accepted, 3, answers, 1), 0x100000500);
+    check_number("its pair", answers[0], 0x101000300);
+    check("its sequence", page[SEQUENCE][0] == 0 && page[SEQUENCE][1] == 1);
+    check("its inverse", memcmp(opened, page[INVERSE], sizeof opened) != 0);
+    check_number("undo", saszvigom_replay(4, 1, SESSION, accepted + 3, 3, answers, 1), 0x500);
+    check_number("its pair", answers[0], 0x1000300);
+    check_number("pick and undo", saszvigom_replay(4, 0, SESSION, accepted, 6, answers, 2), 0x500);
+    check("the inverse as opened", memcmp(opened, page[INVERSE], sizeof opened) == 0);
+    check("the sequence as opened", memcmp(page[SEQUENCE], call.bytes[SEQUENCE], 4) == 0);
+#undef SESSION
+    for (unsigned b = 0; b < LENT; b++)
+        munmap(page[b], 4096);
 }
 
 /* A fault so far on that its place is 65535. */
@@ -566,6 +702,8 @@ int main(void)
     inverses_of_others();
     a_list();
     faulty_lists();
+    several_causes();
+    read_only_sessions();
     long_list();
     largest_sessions();
     accessors();

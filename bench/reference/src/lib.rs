@@ -1,10 +1,10 @@
-//! The opening of the plain reading as a C function.
+//! The opening of the reference as a C function.
 
 use reference::opening::{self, Opening};
 use reference::words::{words_from_bytes, write_words};
 use std::slice::from_raw_parts_mut;
 
-/// A buffer of so many bytes.
+/// A buffer of length bytes.
 #[repr(C)]
 pub struct Buffer {
     bytes: *mut u8,

@@ -162,7 +162,7 @@ module _ {p : ℕ} (P : OddPrime p) (g : Graph) (S : Subset) where
   moves pairs (c ∷ calls) I (suc k) = moves (step P g S pairs c .pairs) calls (step-nonsingular P g S pairs c I) k
 
   -- call k is answered as the pairs before it say, and leaves those after it
-  called : (pairs : Pairs) (calls : List Call) (k : ℕ) (c : Call) (a : Answer) → At calls k c → At (answered P g S pairs calls) k a
+  pub called : (pairs : Pairs) (calls : List Call) (k : ℕ) (c : Call) (a : Answer) → At calls k c → At (answered P g S pairs calls) k a
       → step P g S (pairs-after P g S pairs calls k) c ≡ record { answer = a; pairs = pairs-after P g S pairs calls (suc k) }
   unfolding pairs-after answered At
   called pairs [] k c a h q = absurd h
@@ -170,7 +170,7 @@ module _ {p : ℕ} (P : OddPrime p) (g : Graph) (S : Subset) where
   called pairs (d ∷ calls) (suc k) c a h q = called (step P g S pairs d .pairs) calls k c a h q
 
   -- an accepted take-back removes the newest pair
-  undo-removes : (pairs : Pairs) (e : Pair) (after : Pairs) → step P g S pairs undo ≡ record { answer = done e; pairs = after } → pairs ≡ e ∷ after
+  pub undo-removes : (pairs : Pairs) (e : Pair) (after : Pairs) → step P g S pairs undo ≡ record { answer = done e; pairs = after } → pairs ≡ e ∷ after
   unfolding step
   undo-removes [] e after q = absurd (let w = ap (λ s. s .answer) q in let z : _≡_ {A = ℕ} 0 1 = cc in omega arith)
   undo-removes (x ∷ earlier) e after q = go (nonsingular? P g S earlier) q

@@ -9,18 +9,21 @@ use lib.ListN.{length, replicate}
 use Rattle.modular.specs.Prime.{OddPrime}
 use Rattle.skew.specs.Subset.{Subset}
 use Rattle.matching.specs.Decision.{At, accepted}
-use Rattle.matching.specs.Graph.{over}
-use Rattle.matching.specs.Pairs.{unused, sequence}
-use Rattle.matching.specs.Session.{session, State, onto}
+use Rattle.matching.specs.Graph.{Graph, over}
+use Rattle.matching.specs.Pairs.{Pair, unused, sequence}
+use Rattle.matching.specs.Session.{Session, session, State, onto}
 use Rattle.matching.specs.Causes.{session-ruling}
 use Rattle.matching.specs.Opening.{Opening, opened, singular, not-opened, Buffers, Opens, opens, opened-state}
-use Rattle.matching.specs.Model.{Call, Answer, done, denied}
+use Rattle.matching.specs.Model.{Call, undo, Answer, done, denied}
 use Rattle.matching.specs.Calls.{Returned, state-after, Handles, unsound, refuses, carries, Runs, none, more}
 use Rattle.matching.specs.Host.{words, bytes-of, Bytes, cause-in, kind-in, unpacked, opening-number, answer-number, session-back, unpacked-state, stored-over, state-stored, stored-after, HostOpens, HostHandles}
-use Rattle.matching.specs.HostRuns.{HostReturned, host-after, host-opened-state, HostRuns, host-none, host-more, HostOnWords, HostDemandByCalls}
+use Rattle.matching.specs.HostRuns.{HostReturned, host-after, host-opened-state, HostRuns, host-none, host-more, HostOnWords, HostRestores, HostDemandByCalls}
+use Rattle.matching.specs.Demand.{Undoes, FollowsModel}
+use Rattle.matching.specs.Replay.{numbers-of}
 use Rattle.laws.specs.Onto.{onto-length, onto-again}
 use Rattle.laws.specs.Words.{bytes-length, own-words, read-words, stored-bytes}
 use Rattle.laws.specs.Sound.{opening-accepted, session-accepted}
+use Rattle.laws.specs.Demand.{called, undo-removes}
 use Rattle.laws.specs.Fresh.{opened-sound, demand-three}
 use Rattle.laws.specs.Numbers.{opens-small, kind-field, SmallAnswer, answer-low-byte, handles-small, host-handles-some, host-handles-unique, host-session}
 
@@ -141,6 +144,40 @@ module _ {p : ℕ} (P : OddPrime p) (S : Subset) (narrow : p ≤ 2 ^ 16) where
   host-on-words s B (host-more {r = r} H rest) =
       let F = host-on-words (r .state) (next-bytes s r B H) rest in (_, one-more s r B H (F .0) (F .1))
 
+  -- the answer of a call whose number stands in a run
+  record Numbered (returned : List Returned) (k answer : ℕ) : Type 0 where
+    given : Answer
+    session : Session
+    stands : At (map (λ (r : Returned). r .answer) returned) k given
+    small : SmallAnswer given
+    numbered : answer ≡ answer-number given session
+
+  numbered-at : {s : State} {calls : List Call} {returned : List Returned} → Runs P S s calls returned → (k answer : ℕ) → At (numbers-of returned) k answer
+      → Numbered returned k answer
+  unfolding At
+  numbered-at none k answer e = absurd e
+  numbered-at (more {r = r} h rest) zero answer e =
+      record { given = r .answer; session = r .state .session; stands = refl; small = handles-small P S h; numbered = sym e }
+  numbered-at (more h rest) (suc k) answer e =
+      let N = numbered-at rest k answer e in
+      record { given = N .given; session = N .session; stands = N .stands; small = N .small; numbered = N .numbered }
+
+  -- where the states of the words are equal, as after a take-back and before its pick, so are those of the bytes
+  host-restores : (g : Graph) (s : State) {calls : List Call} {returned : List HostReturned} {on-words : List Returned} → HostOnWords P S s calls returned on-words
+      → FollowsModel P g S [] calls (unpacked-state s) on-words → HostRestores P S g s calls returned
+  host-restores g s {calls} {returned} {on-words} M F j answer u d z = go (N .given) (N .stands) (N .small) (N .numbered)
+    where
+      N : Numbered on-words j answer
+      N = numbered-at (M .runs) j answer (rw (M .answers-are) at d)
+
+      go : (a : Answer) → At (map (λ (r : Returned). r .answer) on-words) j a → SmallAnswer a → answer ≡ answer-number a (N .session)
+          → (i : ℕ) × (e : Pair) × Undoes P g S [] calls i j e × (host-after s returned (suc j) ≡ host-after s returned i)
+      go (denied r) t f w = absurd (omega (arith, z, ap cause-in w, answer-low-byte (denied r) (N .session) f, f .cause-from))
+      go (done e) t f w =
+          let q = undo-removes P g S _ e _ (called P g S [] calls j undo (done e) u (rw (F .answers-are) at t)) in
+          let R = F .restores j e u t (omega (arith, ap length q)) in
+          (R .0, e, R .1, M .states-are (suc j) ∙ ap (λ t. stored-over t s) (R .2) ∙ sym (M .states-are (R .0)))
+
   module _ (n : ℕ) (adjacency weights : List ℕ) where
     -- an opening of kind 1 is one with an inverse, which is read back
     record Back (b buffers : Buffers) (o : Opening) : Type 0 where
@@ -185,7 +222,8 @@ module _ {p : ℕ} (P : OddPrime p) (S : Subset) (narrow : p ≤ 2 ^ 16) where
         let e = read b after answer B H k in
         let M = host-on-words (host-opened-state n adjacency weights answer after) (rw (H .stored) (h b after answer B H k .bytes)) R in
         let F = demand-three P (over n adjacency (words weights)) S (unpacked b) (H .buffers) (session n []) (opens-words b after answer B H k) calls (M .0) (rw e at (M .1 .runs)) in
-        (M .0, M .1, rw e F)
+        let F′ = rw (← e) at F in
+        (M .0, M .1, host-restores (over n adjacency (words weights)) (host-opened-state n adjacency weights answer after) (M .1) F′, F′)
 
 module _ {p : ℕ} (P : OddPrime p) (S : Subset) where
   -- every list of single calls has a run, and no other

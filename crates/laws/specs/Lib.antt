@@ -19,6 +19,7 @@ pub mod Fresh
 pub mod Cells
 pub mod Reading
 pub mod Bounds
+pub mod Longest
 pub mod Outcomes
 pub mod Sheets
 -- The host: its number, words as bytes, and demand 3 by single calls.

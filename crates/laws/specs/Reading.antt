@@ -114,7 +114,8 @@ pub record Fit (n : ℕ) (weights : List ℕ) (edges : List Pair) : Type 0 where
   pub drawn : weights ≡ draws seeded-by (pair-count n)
   pub edges-fit : EdgesFit n edges
 
-abbrev So : Progress → Type 0
+-- so far
+abbrev pub So : Progress → Type 0
 So start = Unit {0}
 So (sized n) = n ≤ largest
 So (weighted n weights edges) = Fit n weights edges
@@ -128,7 +129,7 @@ fit-edge {n} {a} {b} {edges = edges} h F = record { small = F .small; seeded-by 
     go (no _) (yes l) = rw (pair-of-larger a b l) (l, h .0, F .edges-fit)
     go (no c) (no d) = absurd (h .2 (omega arith))
 
-takes-so : {q next : Progress} {r : Record} → Takes q r next → So q → So next
+pub takes-so : {q next : Progress} {r : Record} → Takes q r next → So q → So next
 takes-so (takes-size l) _ = l
 takes-so (takes-seed {s = s}) l = record { small = l; seeded-by = s; drawn = refl; edges-fit = tt }
 takes-so (takes-share h z) F = fit-edge h F
@@ -175,7 +176,7 @@ module _ {n : ℕ} {drawn : List ℕ} {edges : List Pair} (F : Fit n drawn edges
   abbrev g : Graph
   g = over n (onto (cells n edges) adjacency) (onto drawn weights)
 
-  drawn-length : length drawn ≡ pair-count n
+  pub drawn-length : length drawn ≡ pair-count n
   drawn-length = rw (F .drawn) (draws-length (F .seeded-by) (pair-count n))
 
   cell-is : (i j : ℕ) → i < n → j < n → cell g i j ≡ among (pair-of i j) edges
@@ -196,7 +197,7 @@ module _ {n : ℕ} {drawn : List ℕ} {edges : List Pair} (F : Fit n drawn edges
       go (no d) =
           kind-equal _ _ i j (among-small (pair-of i j) edges) d (ap (λ e. among e edges) (pair-of-swap i j d))
 
-  in-range : Every (pair-count n) (InRange g modulus)
+  pub in-range : Every (pair-count n) (InRange g modulus)
   in-range x l =
       let e : getD (onto drawn weights) x 0 ≡ getD (draws (F .seeded-by) (pair-count n)) x 0 =
       List·getD-append drawn _ 0 x (omega (arith, drawn-length)) ∙ ap (λ w. getD w x 0) (F .drawn) in

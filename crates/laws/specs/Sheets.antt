@@ -1,17 +1,27 @@
--- Listing into a buffer, and reading a sheet through the host, have exactly one outcome each; what the number of a sheet says back.
--- Assumes nothing.
+-- Listing into a buffer, and reading a sheet through the host, have exactly one outcome each; what the number of a sheet says back; and
+-- opening through the host does not refuse what was read through it. Assumes nothing.
 use mathlib.Core.Path.{_≡_, refl, sym, ap, ap₂, _∙_}
-use mathlib.Core.List.{List}
-use Prim.Native.Nat.{ℕ, _%_, _^_, _<_}
+use mathlib.Core.List.{List, [], _∷_}
+use Prim.Native.Nat.{ℕ, _%_, _^_, _≤_, _<_}
 use native.Mathlib.Omega.{arith}
 use native.Mathlib.Decide.{decLt}
-use lib.ListN.{length, take}
-use Rattle.matching.specs.Decision.{because}
-use Rattle.matching.specs.Records.{Read, graph-read, not-read}
+use lib.ListN.{length, getD, take, drop, length-take, List·getD-append}
+use Rattle.residue.specs.Modulus.{modulus}
+use Rattle.skew.specs.Subset.{Subset}
+use Rattle.matching.specs.Decision.{Ruling, accepted, refused, because}
+use Rattle.matching.specs.Graph.{over, pair-count}
+use Rattle.matching.specs.Session.{onto}
+use Rattle.matching.specs.Causes.{lent-graph, lent-inverse, lent-sequence, lent-witness, lent-work, too-short, LongEnough, opening-ruling}
+use Rattle.matching.specs.Opening.{Opening, opened, singular, not-opened, Buffers, Opens, opens, finds-singular, refuses-opening}
+use Rattle.matching.specs.Records.{Read, graph-read, not-read, room, FillsFrom, fills}
 use Rattle.matching.specs.Listing.{input-limit, text-room, Listed, ListsInto, lists-into, lacks-text-room}
-use Rattle.matching.specs.Host.{words, read-number, weights-stored, HostReads}
-use Rattle.laws.specs.Bounds.{Answers}
+use Rattle.matching.specs.Host.{words, Bytes, bytes-of, cause-in, made-in, unpacked, read-number, weights-stored, opening-number, HostReads, HostOpens}
+use Rattle.laws.specs.Sound.{judge-accepted, short-absent}
+use Rattle.laws.specs.Reading.{reads-fit, drawn-length, in-range, filled-accepted}
+use Rattle.laws.specs.Bounds.{Answers, fills-answer}
 use Rattle.laws.specs.Outcomes.{fills-some, fills-unique, lists-some, lists-unique}
+use Rattle.laws.specs.Numbers.{made-field, opens-small, opening-low-byte}
+use Rattle.laws.specs.Words.{read-words}
 
 pub lists-into-some : (input buffer : List ℕ) → (o : Listed) × (after : List ℕ) × ListsInto input buffer o after
 lists-into-some input buffer = go (decLt (length buffer) text-room)
@@ -58,3 +68,57 @@ read-numbers len (graph-read n m) (not-read why) l h h′ e = absurd (omega (ari
 read-numbers len (not-read why) (graph-read n m) l h h′ e = absurd (omega (arith, h .cause-from, h .cause-below))
 read-numbers len (not-read why) (not-read why′) l h h′ e =
     ap not-read (ap₂ because {x = why .cause} {y = why′ .cause} (omega (arith, h .cause-below, h′ .cause-below)) (omega (arith, h .cause-below, h′ .cause-below)))
+
+-- the buffers that opening is lent besides the graph are long enough for n vertices, as bytes
+abbrev pub LongBytes : ℕ → Buffers → Type 0
+LongBytes n b =
+    LongEnough
+    (lent-inverse n (length (words (b .inverse)))
+    ∷ lent-sequence n (length (b .sequence))
+    ∷ lent-witness n (length (words (b .witness)))
+    ∷ lent-work n (length (words (b .work)))
+    ∷ [])
+
+-- the weights that were stored are read back
+stored-back : {bytes adjacency a left : List ℕ} {n m : ℕ} (weights : List ℕ) → Bytes weights → FillsFrom bytes 0 adjacency (words weights) (graph-read n m) a left
+    → words (onto (bytes-of left) weights) ≡ left
+stored-back {adjacency = adjacency} weights B (fills {n = n} {drawn = drawn} R e) =
+    let F = reads-fit R refl tt in
+    let l = drawn-length F adjacency (words weights) in
+    let long = short-absent (lent-graph (over n adjacency (words weights))) .0 (judge-accepted (too-short (lent-graph (over n adjacency (words weights))) ∷ []) .0 e .0) in
+    read-words drawn weights B (omega (arith, long .1 .0))
+    (λ x h.
+    let small = in-range F adjacency (words weights) x (omega arith) .1 in
+    omega (arith, small, List·getD-append drawn (drop (length drawn) (words weights)) 0 x h))
+
+-- a graph that was read through the host is opened through it, or found singular: no cause applies
+module _ {sheet adjacency weights a w : List ℕ} {k : ℕ} (B : Bytes weights) (H : HostReads sheet adjacency weights k a w) (none : cause-in k ≡ 0) (S : Subset) (b : Buffers) where
+  -- what is read, with its size
+  record ReadSize : Type 0 where
+    edges : ℕ
+    filled : FillsFrom (take input-limit sheet) 0 adjacency (words weights) (graph-read (made-in k) edges) a (words w)
+
+  read-size : ReadSize
+  read-size = go (H .given) (H .outcome) (H .numbered) (H .stored)
+    where
+      go : (o : Read) → FillsFrom (take input-limit sheet) 0 adjacency (words weights) o a (H .left) → k ≡ read-number o → w ≡ weights-stored o (H .left) weights
+          → ReadSize
+      go (not-read why) F e s =
+          let h = fills-answer F in
+          absurd (omega (arith, none, ap cause-in e, read-low-byte _ (not-read why) h, h .cause-from))
+      go (graph-read n m) F e s =
+          let h = fills-answer F in
+          let q : made-in k ≡ n = ap made-in e ∙ made-field 0 6 m n (omega arith) (omega arith) (omega (arith, h .1, length-take input-limit sheet)) (omega (arith, h .0)) in
+          let v : words w ≡ H .left = ap words s ∙ stored-back weights B F in
+          record { edges = m; filled = rw (q, v) F }
+
+  pub host-read-opens : {answer : ℕ} {after : Buffers} → LongBytes (made-in k) b → HostOpens modulus (made-in k) a w S b answer after → cause-in answer ≡ 0
+  host-read-opens long O = ap cause-in (O .numbered) ∙ go (O .opening) (O .outcome)
+    where
+      ok : opening-ruling modulus (over (made-in k) a (words w)) (length (words (b .inverse))) (length (b .sequence)) (length (words (b .witness))) (length (words (b .work))) ≡ accepted
+      ok = filled-accepted _ _ _ _ (read-size .filled) long
+
+      go : (o : Opening) {left : Buffers} → Opens modulus (over (made-in k) a (words w)) S (unpacked b) o left → cause-in (opening-number o) ≡ 0
+      go (opened s) X = opening-low-byte (made-in k) (opened s) (opens-small X)
+      go (singular f) X = opening-low-byte (made-in k) (singular f) (opens-small X)
+      go (not-opened r) (refuses-opening _ e) = let a = ok in absurd (let z : _≡_ {A = ℕ} 0 1 = cc in omega arith)

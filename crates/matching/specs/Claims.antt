@@ -180,7 +180,7 @@ ShownSingular g f words =
     × IsYes (first-dependent? modulus-prime (g .n) (tutte g modulus) (skew modulus-prime g everything) everything f)
     × IsYes (witness? modulus (g .n) (tutte g modulus) everything f (vector words))
 
-shown-singular : (g : Graph) (f : ℕ) (words : List ℕ) → ShownSingular g f words → Singular modulus g everything f words
+pub shown-singular : (g : Graph) (f : ℕ) (words : List ℕ) → ShownSingular g f words → Singular modulus g everything f words
 unfolding ShownSingular
 shown-singular g f words e = record {
   small = decided (every? _ (g .n) (λ x. decLt (getD words x 0) modulus)) (e .0);

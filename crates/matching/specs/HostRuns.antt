@@ -6,12 +6,13 @@ use Prim.Native.Nat.{ℕ, zero, suc}
 use Rattle.modular.specs.Prime.{OddPrime}
 use Rattle.skew.specs.Subset.{Subset}
 use Rattle.matching.specs.Decision.{At}
-use Rattle.matching.specs.Graph.{over}
+use Rattle.matching.specs.Graph.{Graph, over}
+use Rattle.matching.specs.Pairs.{Pair}
 use Rattle.matching.specs.Session.{State}
 use Rattle.matching.specs.Opening.{Buffers}
-use Rattle.matching.specs.Model.{Call}
+use Rattle.matching.specs.Model.{Call, undo}
 use Rattle.matching.specs.Calls.{Returned, state-after, Runs}
-use Rattle.matching.specs.Demand.{FollowsModel}
+use Rattle.matching.specs.Demand.{Undoes, FollowsModel}
 use Rattle.matching.specs.Replay.{numbers-of}
 use Rattle.matching.specs.Host.{words, Bytes, cause-in, kind-in, made-in, session-back, unpacked-state, stored-over, HostOpens, HostHandles}
 
@@ -57,12 +58,19 @@ module _ {p : ℕ} (P : OddPrime p) (S : Subset) where
     pub refused-same : (k answer : ℕ) → At (map (λ (r : HostReturned). r .answer) returned) k answer → cause-in answer ≢ 0
         → host-after s returned (suc k) ≡ host-after s returned k
 
-  -- demand 3 through the host: after every opening whose number has kind 1, for every list of single calls. Where the states of the words are
-  -- equal, as after a take-back and before its pick, so are those of the bytes. A residue fits a word: p is at most 2^16 in the law
+  -- an accepted take-back restores the session and every byte from before the pick it undoes
+  abbrev pub HostRestores : Graph → State → List Call → List HostReturned → Type 0
+  HostRestores g s calls returned =
+      (j answer : ℕ) → At calls j undo → At (map (λ (r : HostReturned). r .answer) returned) j answer → cause-in answer ≡ 0
+      → (i : ℕ) × (e : Pair) × Undoes P g S [] calls i j e × (host-after s returned (suc j) ≡ host-after s returned i)
+
+  -- demand 3 through the host: after every opening whose number has kind 1, for every list of single calls. A residue fits a word: p is at
+  -- most 2^16 in the law
   abbrev pub HostDemandByCalls : ℕ → (adjacency weights : List ℕ) → Type 0
   HostDemandByCalls n adjacency weights =
       (b after : Buffers) (answer : ℕ) → Bytes (b .inverse) → HostOpens p n adjacency weights S b answer after → kind-in answer ≡ 1
       → (calls : List Call) (returned : List HostReturned) → HostRuns (host-opened-state n adjacency weights answer after) calls returned
       → (on-words : List Returned)
       × HostOnWords (host-opened-state n adjacency weights answer after) calls returned on-words
+      × HostRestores (over n adjacency (words weights)) (host-opened-state n adjacency weights answer after) calls returned
       × FollowsModel P (over n adjacency (words weights)) S [] calls (unpacked-state (host-opened-state n adjacency weights answer after)) on-words

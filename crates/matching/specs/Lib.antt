@@ -23,3 +23,4 @@ pub mod Computed
 pub mod Claims
 pub mod Marked
 pub mod Worked
+pub mod Instances

@@ -10,12 +10,12 @@ ghost use Rattle.opening.specs.Answers.{buffers};
 ghost use Rattle.crossing.specs.Through.{handed-back};
 ghost use Rattle.saszvigom.specs.Version.{version};
 
-// The version of the library: 0.4.0.
+// The version of the library: 0.5.0.
 #[no_mangle]
 pub extern "C" fn saszvigom_version() -> u64
     ensures { λ r. ⌜ r ≡ version ⌝ }
 {
-    1024
+    1280
 }
 
 // Opens a session: document 01, "Opening", through the host.

@@ -1,5 +1,5 @@
-//! Reads a graph's records from standard input and prints the listing
-//! (document 01, "Listing").
+//! Reads a sheet from standard input and prints its listing (document 01,
+//! "Listing").
 
 use reference::listing::{listing, INPUT_LIMIT};
 use std::io::{self, Read, Write};
@@ -19,7 +19,7 @@ fn main() -> ExitCode {
     }
 }
 
-/// No argument, or the one word `list`.
+/// Whether there is no argument, or the one word `list`.
 fn arguments_are_known() -> bool {
     let arguments: Vec<_> = std::env::args_os().skip(1).collect();
     arguments.is_empty() || (arguments.len() == 1 && arguments[0] == "list")

@@ -6,7 +6,7 @@ use std::env;
 use std::io::{self, Read, Write};
 use std::process::ExitCode;
 
-/// Said after a fault, for the shell may have made an empty file for the sheet.
+/// Said after a fault, since the shell may have made an empty file for the sheet.
 const NONE_MADE: &str = "no sheet is made; correct that line, and make it again";
 
 fn main() -> ExitCode {
@@ -32,7 +32,7 @@ fn main() -> ExitCode {
     }
 }
 
-/// Nothing is written unless all of the input is in order.
+/// Converts standard input. Writes nothing unless all of it is in order.
 fn convert(turn: impl Fn(&[u8]) -> Result<Vec<u8>, String>) -> Result<(), String> {
     let mut input = Vec::new();
     let read = io::stdin().read_to_end(&mut input);

@@ -5,11 +5,9 @@ use reference::causes::Refusal;
 use reference::graph::Graph;
 use reference::opening::{open, Opening};
 use reference::residue::Residue;
-use reference::session::{
-    match_lowest, match_pair, partner_row, undo, Edge, Outcome, Session, UNUSED,
-};
+use reference::session::{automatic, pick, row, undo, Outcome, Pair, Session, UNUSED};
 
-/// A small generator for the tests.
+/// A seeded generator.
 pub struct Random(pub u64);
 
 impl Random {
@@ -21,7 +19,7 @@ impl Random {
         z ^ (z >> 31)
     }
 
-    /// A number below the bound, which is not 0.
+    /// Returns a number below the bound, which is not 0.
     pub fn below(&mut self, bound: u64) -> u64 {
         self.next() % bound
     }
@@ -30,7 +28,7 @@ impl Random {
         self.below(100) < percent
     }
 
-    pub fn pick<T: Copy>(&mut self, items: &[T]) -> T {
+    pub fn choose<T: Copy>(&mut self, items: &[T]) -> T {
         items[self.below(items.len() as u64) as usize]
     }
 }
@@ -42,21 +40,21 @@ pub struct Buffers {
     pub adjacency: Vec<u8>,
     pub weights: Vec<u16>,
     pub inverse: Vec<u16>,
-    pub order: Vec<u8>,
-    pub kernel: Vec<u16>,
-    pub scratch: Vec<u16>,
+    pub sequence: Vec<u8>,
+    pub witness: Vec<u16>,
+    pub work: Vec<u16>,
     pub row: Vec<u8>,
 }
 
 pub const JUNK_BYTE: u8 = 170;
 pub const JUNK_WORD: u16 = 43690;
 
-pub fn pair_count(n: usize) -> usize {
+pub fn weight_count(n: usize) -> usize {
     (1..n).sum()
 }
 
-/// The pairs i < j of n vertices in the order of the weights.
-pub fn all_pairs(n: usize) -> Vec<(usize, usize)> {
+/// Lists the vertices i < j of n in the order of the weights.
+pub fn every_two(n: usize) -> Vec<(usize, usize)> {
     let mut pairs = Vec::new();
     for i in 0..n {
         for j in i + 1..n {
@@ -67,15 +65,15 @@ pub fn all_pairs(n: usize) -> Vec<(usize, usize)> {
 }
 
 impl Buffers {
-    /// Exact buffers for n vertices with some edges, all weights 1.
+    /// Makes exact buffers for n vertices with these edges, all weights 1.
     pub fn new(n: usize, edges: &[(usize, usize)]) -> Buffers {
         let mut buffers = Buffers {
             adjacency: vec![0; n * n],
-            weights: vec![1; pair_count(n)],
+            weights: vec![1; weight_count(n)],
             inverse: vec![JUNK_WORD; n * n],
-            order: vec![JUNK_BYTE; n],
-            kernel: vec![JUNK_WORD; n],
-            scratch: vec![JUNK_WORD; n * n],
+            sequence: vec![JUNK_BYTE; n],
+            witness: vec![JUNK_WORD; n],
+            work: vec![JUNK_WORD; n * n],
             row: vec![JUNK_BYTE; n],
         };
         for &(i, j) in edges {
@@ -86,7 +84,7 @@ impl Buffers {
     }
 
     pub fn complete(n: usize) -> Buffers {
-        Buffers::new(n, &all_pairs(n))
+        Buffers::new(n, &every_two(n))
     }
 
     pub fn with_weights(mut self, weights: &[u16]) -> Buffers {
@@ -94,20 +92,20 @@ impl Buffers {
         self
     }
 
-    /// A random graph; small weights often, so that matrices are singular by
+    /// Makes a random graph, often with small weights, so that matrices are singular by
     /// cancellation too.
     pub fn random(random: &mut Random, n: usize) -> Buffers {
-        let percent = random.pick(&[20, 40, 60, 80, 100]);
+        let percent = random.choose(&[20, 40, 60, 80, 100]);
         let range = random.below(3);
         let mut edges = Vec::new();
         let mut weights = Vec::new();
-        for pair in all_pairs(n) {
+        for pair in every_two(n) {
             if random.chance(percent) {
                 edges.push(pair);
             }
             weights.push(match range {
-                0 => random.pick(&[1, 65520]),
-                1 => random.pick(&[1, 2, 3, 65519, 65520]),
+                0 => random.choose(&[1, 65520]),
+                1 => random.choose(&[1, 2, 3, 65519, 65520]),
                 _ => 1 + random.below(65520) as u16,
             });
         }
@@ -123,9 +121,9 @@ impl Buffers {
         extend(&mut self.adjacency, JUNK_BYTE, random);
         extend(&mut self.weights, 0, random);
         extend(&mut self.inverse, JUNK_WORD, random);
-        extend(&mut self.order, JUNK_BYTE, random);
-        extend(&mut self.kernel, JUNK_WORD, random);
-        extend(&mut self.scratch, JUNK_WORD, random);
+        extend(&mut self.sequence, JUNK_BYTE, random);
+        extend(&mut self.witness, JUNK_WORD, random);
+        extend(&mut self.work, JUNK_WORD, random);
         extend(&mut self.row, JUNK_BYTE, random);
         self
     }
@@ -140,9 +138,9 @@ impl Buffers {
             &self.adjacency,
             &self.weights,
             &mut self.inverse,
-            &mut self.order,
-            &mut self.kernel,
-            &mut self.scratch,
+            &mut self.sequence,
+            &mut self.witness,
+            &mut self.work,
         )
     }
 
@@ -154,62 +152,62 @@ impl Buffers {
         }
     }
 
-    pub fn match_pair(&mut self, session: Session, a: u64, b: u64) -> Outcome<Edge> {
-        match_pair(
+    pub fn pick(&mut self, session: Session, a: u64, b: u64) -> Outcome<Pair> {
+        pick(
             session,
             a,
             b,
             &self.adjacency,
             &self.weights,
             &mut self.inverse,
-            &mut self.order,
+            &mut self.sequence,
         )
     }
 
-    pub fn match_lowest(&mut self, session: Session) -> Outcome<Edge> {
-        match_lowest(
+    pub fn automatic(&mut self, session: Session) -> Outcome<Pair> {
+        automatic(
             session,
             &self.adjacency,
             &self.weights,
             &mut self.inverse,
-            &mut self.order,
+            &mut self.sequence,
         )
     }
 
-    pub fn undo(&mut self, session: Session) -> Outcome<Edge> {
+    pub fn undo(&mut self, session: Session) -> Outcome<Pair> {
         undo(
             session,
             &self.adjacency,
             &self.weights,
             &mut self.inverse,
-            &mut self.order,
+            &mut self.sequence,
         )
     }
 
-    pub fn partner_row(&mut self, session: Session, a: u64) -> Outcome<()> {
-        partner_row(
+    pub fn row(&mut self, session: Session, a: u64) -> Outcome<()> {
+        row(
             session,
             a,
             &self.adjacency,
             &self.weights,
             &self.inverse,
-            &self.order,
+            &self.sequence,
             &mut self.row,
         )
     }
 
-    /// Carries any call out; a partner row answers no pair.
-    pub fn call(&mut self, session: Session, call: Call) -> Outcome<Option<Edge>> {
-        let some = |outcome: Outcome<Edge>| Outcome {
+    /// Makes any call. A row answers no pair.
+    pub fn call(&mut self, session: Session, call: Call) -> Outcome<Option<Pair>> {
+        let some = |outcome: Outcome<Pair>| Outcome {
             session: outcome.session,
             answer: outcome.answer.map(Some),
         };
         match call {
-            Call::Pair(a, b) => some(self.match_pair(session, a, b)),
-            Call::Lowest => some(self.match_lowest(session)),
+            Call::Pick(a, b) => some(self.pick(session, a, b)),
+            Call::Automatic => some(self.automatic(session)),
             Call::Undo => some(self.undo(session)),
             Call::Row(a) => {
-                let outcome = self.partner_row(session, a);
+                let outcome = self.row(session, a);
                 Outcome {
                     session: outcome.session,
                     answer: outcome.answer.map(|()| None),
@@ -219,7 +217,7 @@ impl Buffers {
     }
 
     /// Calls, and checks that a refused call changes no buffer and hands the
-    /// session back. Gives the cause's number and the place.
+    /// session back. Returns the cause's number and the place.
     pub fn refused(&mut self, session: Session, call: Call) -> (u8, u64) {
         let before = self.clone();
         let outcome = self.call(session, call);
@@ -240,24 +238,24 @@ impl Buffers {
 /// A call of a session.
 #[derive(Clone, Copy, Debug, PartialEq, Eq)]
 pub enum Call {
-    Pair(u64, u64),
-    Lowest,
+    Pick(u64, u64),
+    Automatic,
     Undo,
     Row(u64),
 }
 
 /// One call of each kind, with harmless vertices.
-pub const EACH_CALL: [Call; 4] = [Call::Pair(0, 1), Call::Lowest, Call::Undo, Call::Row(0)];
+pub const EACH_CALL: [Call; 4] = [Call::Pick(0, 1), Call::Automatic, Call::Undo, Call::Row(0)];
 
 pub fn session(size: u64, pairs: u64) -> Session {
     Session { size, pairs }
 }
 
-pub fn edge(smaller: u64, larger: u64) -> Edge {
-    Edge { smaller, larger }
+pub fn pair(smaller: u64, larger: u64) -> Pair {
+    Pair { smaller, larger }
 }
 
-/// The records of a good graph: size, seed, edges, end.
+/// Makes the records of a good sheet: size, seed, edges, end.
 pub fn records(n: u8, seed: u32, edges: &[(u8, u8)]) -> Vec<u8> {
     let mut bytes = vec![1, n, 3];
     bytes.extend(seed.to_le_bytes());
@@ -268,15 +266,15 @@ pub fn records(n: u8, seed: u32, edges: &[(u8, u8)]) -> Vec<u8> {
     bytes
 }
 
-/// The order of matching of pairs made by hand.
-pub fn order_of(n: usize, pairs: &[(u8, u8)]) -> Vec<u8> {
-    let mut order: Vec<u8> = pairs.iter().flat_map(|&(i, j)| [i, j]).collect();
-    order.resize(n, UNUSED);
-    order
+/// Returns the sequence of pairs made by hand.
+pub fn sequence_of(n: usize, pairs: &[(u8, u8)]) -> Vec<u8> {
+    let mut sequence: Vec<u8> = pairs.iter().flat_map(|&(i, j)| [i, j]).collect();
+    sequence.resize(n, UNUSED);
+    sequence
 }
 
-/// One elimination of row a and column b from a table of the inverse (source
-/// document 001, theorem 3.1), with a difference that the caller chooses.
+/// Eliminates row a and column b from a table of the inverse (source document
+/// 001, theorem 3.1), with a difference that the caller chooses.
 pub fn eliminate(
     n: usize,
     table: &[u16],

@@ -1,12 +1,9 @@
-//! A call through the C entry, and what it must leave.
+//! A call of opening, and what it must write.
 
-use crate::entry::{open, Written};
 use crate::graphs::{Graph, P};
 use crate::random::Random;
 use reference::opening::{self, Opening};
 use reference::words::{bytes_from_words, words_from_bytes, write_words};
-
-const GUARD: usize = 24;
 
 /// A size and six buffers as bytes.
 #[derive(Clone, Debug, PartialEq, Eq)]
@@ -30,15 +27,15 @@ pub enum Outcome {
     Refused(u8, u64),
 }
 
-/// How many bytes each buffer needs for n vertices.
+/// Returns how many bytes each buffer needs for n vertices.
 pub fn needed(n: usize) -> [usize; 6] {
     let square = n * n;
     [square, square - n, 2 * square, n, 2 * n, 2 * square]
 }
 
 impl Call {
-    /// Opens a graph, with buffers that hold random bytes and are longer than
-    /// needed by 0 to the given number of bytes.
+    /// Makes a call that opens a graph, with buffers of random bytes, each up to
+    /// most_excess bytes longer than needed.
     pub fn new(random: &mut Random, graph: &Graph, most_excess: usize) -> Call {
         let mut call = Call {
             n: graph.n as u64,
@@ -56,7 +53,7 @@ impl Call {
         call
     }
 
-    /// The buffers in the order of their numbers, 1 to 6.
+    /// Lists the buffers in the order of their numbers, 1 to 6.
     pub fn buffers(&self) -> [&[u8]; 6] {
         [
             &self.adjacency,
@@ -68,7 +65,7 @@ impl Call {
         ]
     }
 
-    /// The same, to be changed.
+    /// buffers, to be changed.
     pub fn buffers_mut(&mut self) -> [&mut Vec<u8>; 6] {
         [
             &mut self.adjacency,
@@ -84,41 +81,14 @@ impl Call {
         self.weights[2 * index..2 * index + 2].copy_from_slice(&weight.to_le_bytes());
     }
 
-    /// Runs the call and compares the number and every byte with the plain
-    /// reading. The buffers lie between guard bytes.
-    pub fn check(&self, guards: &mut Random, name: &str) -> Outcome {
+    /// Returns the outcome by the reference, and checks its answer by the definition.
+    pub fn certified(&self, name: &str) -> Outcome {
         let (outcome, after) = self.expected();
-        let mut found = self.clone();
-        let mut wanted = after.clone();
-        for (buffer, target) in found.buffers_mut().into_iter().zip(wanted.buffers_mut()) {
-            let (before, behind) = (guards.bytes(GUARD), guards.bytes(GUARD));
-            *buffer = [&before, &buffer[..], &behind].concat();
-            *target = [&before, &target[..], &behind].concat();
-        }
-        let number = found.run_between_guards();
-        assert_eq!(number, outcome.number(), "number of {name}");
-        compare(&found, &wanted, name);
         self.certify(&after, outcome, name);
         outcome
     }
 
-    fn run_between_guards(&mut self) -> u64 {
-        let n = self.n;
-        let [adjacency, weights, inverse, sequence, witness, work] =
-            self.buffers_mut().map(|bytes| {
-                let end = bytes.len() - GUARD;
-                &mut bytes[GUARD..end]
-            });
-        let written = Written {
-            inverse,
-            sequence,
-            witness,
-            work,
-        };
-        open(n, adjacency, weights, written)
-    }
-
-    /// The outcome and the buffers after the call, by the plain reading.
+    /// Returns the outcome and the buffers after the call, by the reference.
     pub fn expected(&self) -> (Outcome, Call) {
         let mut after = self.clone();
         let mut inverse = words_from_bytes(&self.inverse);
@@ -150,8 +120,8 @@ impl Call {
         (outcome, after)
     }
 
-    /// The plain reading's answer by its definition: A times the inverse is the
-    /// identity; A times the witness is 0, with 1 at the column and 0 after it;
+    /// Checks the answer of the reference by its definition: A times the inverse is
+    /// the identity; A times the witness is 0, with 1 at the column and 0 after it;
     /// all else that is written is 0, or 255; nothing else is written.
     fn certify(&self, after: &Call, outcome: Outcome, name: &str) {
         match outcome {
@@ -217,7 +187,7 @@ impl Call {
     }
 }
 
-/// A row of a matrix times a vector, modulo 65521.
+/// Multiplies a row of a matrix by a vector, modulo 65521.
 fn row_times(row: &[u64], vector: impl Fn(usize) -> u16) -> u64 {
     let products = row
         .iter()
@@ -234,29 +204,9 @@ fn is_zero(bytes: &[u8]) -> bool {
     bytes.iter().all(|&byte| byte == 0)
 }
 
-/// Compares buffers that lie between guard bytes.
-fn compare(found: &Call, wanted: &Call, name: &str) {
-    for (place, (found, wanted)) in found
-        .buffers()
-        .into_iter()
-        .zip(wanted.buffers())
-        .enumerate()
-    {
-        if let Some(offset) = (0..found.len()).find(|&i| found[i] != wanted[i]) {
-            panic!(
-                "buffer {} of {name}: byte {} is {} instead of {}",
-                place + 1,
-                offset as isize - GUARD as isize,
-                found[offset],
-                wanted[offset]
-            );
-        }
-    }
-}
-
 impl Outcome {
-    /// The number by docs/HOST.md: the cause in bits 0 to 7, the kind of answer
-    /// in bits 8 to 15, the column from bit 16 on, or the place.
+    /// Returns the number by docs/HOST.md: the cause in bits 0 to 7, the answer-kind
+    /// in bits 8 to 15, the column or the place from bit 16 on.
     pub fn number(self) -> u64 {
         match self {
             Outcome::Opened => 1 << 8,

@@ -1,5 +1,4 @@
-//! The families of cases. Each hands out its cases one after the other, the
-//! same ones every time.
+//! The families of openings. Each yields the same cases every time.
 
 use crate::call::{Call, Outcome};
 use crate::damage::{any_large_size, damage, KINDS};
@@ -11,7 +10,7 @@ use crate::random::Random;
 pub struct Case {
     pub name: String,
     pub call: Call,
-    /// The outcome where the family settles it.
+    /// The outcome, if the family settles it.
     pub known: Option<Outcome>,
 }
 
@@ -32,7 +31,7 @@ impl Case {
     }
 }
 
-/// All families.
+/// Chains all families.
 pub fn all() -> impl Iterator<Item = Case> {
     small_graphs()
         .chain(middle_graphs())
@@ -63,7 +62,7 @@ pub fn large_graphs() -> impl Iterator<Item = Case> {
     any_graphs("large graphs", 3, 1000, 41, 96)
 }
 
-/// Graphs of random shapes, of sizes from the first to the last.
+/// Makes count graphs of random shapes, with first to last vertices.
 fn any_graphs(
     family: &'static str,
     seed: u64,
@@ -95,7 +94,7 @@ pub fn largest_graphs() -> impl Iterator<Item = Case> {
     })
 }
 
-/// Every size, all linked and without an edge.
+/// Makes a graph of every size, with all edges and with none.
 pub fn every_size() -> impl Iterator<Item = Case> {
     let mut random = Random::new(5);
     with_each(0..=96, [0, 100]).map(move |(n, percent)| {
@@ -105,8 +104,8 @@ pub fn every_size() -> impl Iterator<Item = Case> {
     })
 }
 
-/// Every shape with few weights: all 1, all 65520, and small ones of one sign or
-/// of both.
+/// Makes graphs of every shape with few weights: all 1, all 65520, and small ones
+/// of one sign or of both.
 pub fn few_weights() -> impl Iterator<Item = Case> {
     let choices: [&[u16]; 5] = [
         &[1],
@@ -126,8 +125,8 @@ pub fn few_weights() -> impl Iterator<Item = Case> {
     })
 }
 
-/// Matrices of low rank: all columns after the first few are dependent, or
-/// columns here and there.
+/// Makes matrices of low rank: all columns after the first few are dependent, or
+/// some columns here and there.
 pub fn low_ranks() -> impl Iterator<Item = Case> {
     let mut random = Random::new(14);
     with_each(0..400, [matrices::low_rank, matrices::repeating]).map(move |(round, matrix)| {
@@ -138,7 +137,7 @@ pub fn low_ranks() -> impl Iterator<Item = Case> {
     })
 }
 
-/// Chosen steps of elimination by pairs.
+/// Makes matrices from chosen steps of elimination by pairs.
 pub fn made_by_pairs() -> impl Iterator<Item = Case> {
     let mut random = Random::new(15);
     with_each(0..200, matrices::ROWS).map(move |(round, rows)| {
@@ -153,7 +152,7 @@ pub fn made_by_pairs() -> impl Iterator<Item = Case> {
     })
 }
 
-/// Mostly a small size, often a middle one and now and then one of the largest.
+/// Chooses mostly a small size, often a middle one, rarely one of the largest.
 fn any_size(random: &mut Random) -> usize {
     match random.below(40) {
         0 => random.between(94, 96),
@@ -162,7 +161,7 @@ fn any_size(random: &mut Random) -> usize {
     }
 }
 
-/// All graphs of four vertices with all weights from 1 and 65520.
+/// Makes all graphs of four vertices with all weights of 1 and 65520.
 pub fn all_graphs_of_four() -> impl Iterator<Item = Case> {
     let mut random = Random::new(6);
     (0..64 * 64).map(move |number| {
@@ -175,22 +174,22 @@ pub fn all_graphs_of_four() -> impl Iterator<Item = Case> {
     })
 }
 
-/// A bit for each two vertices: whether they are adjacent, and whether the
-/// weight is 65520.
+/// Makes a graph of four vertices from two bits for every two vertices: whether
+/// they are adjacent, and whether the weight is 65520.
 fn graph_of_four(edges: usize, signs: usize) -> Graph {
     let pairs = [(0, 1), (0, 2), (0, 3), (1, 2), (1, 3), (2, 3)];
     let mut graph = Graph::empty(4);
     for (bit, &(i, j)) in pairs.iter().enumerate() {
         if edges >> bit & 1 == 1 {
-            graph.link(i, j);
+            graph.add_edge(i, j);
         }
         graph.weights[bit] = if signs >> bit & 1 == 1 { 65520 } else { 1 };
     }
     graph
 }
 
-/// Every first dependent column: all below n but n - 1 for even n, where the
-/// columns before it cannot be independent.
+/// Makes graphs of every first dependent column: all below n but n - 1 for even n,
+/// since the columns before that cannot be independent.
 pub fn every_first_dependent_column() -> impl Iterator<Item = Case> {
     let mut random = Random::new(7);
     let columns = |n| (0..n).filter(move |f| f % 2 == 0 || f + 1 < n);
@@ -205,19 +204,19 @@ pub fn every_first_dependent_column() -> impl Iterator<Item = Case> {
         })
 }
 
-/// A graph in which vertex f has no edge. Those before it are matched among
-/// themselves; for odd f the last of them is linked to the vertex after f.
+/// Makes a graph in which vertex f has no edge. Those before it are matched among
+/// themselves; for odd f the last of them is adjacent to the vertex after f.
 fn with_first_isolated(random: &mut Random, n: usize, f: usize) -> Graph {
     let mut graph = Graph::empty(n);
     for i in 0..f {
         for j in i + 1..f {
             if i % 2 == 0 && j == i + 1 || random.percent(30) {
-                graph.link(i, j);
+                graph.add_edge(i, j);
             }
         }
     }
     if f % 2 == 1 {
-        graph.link(f - 1, f + 1);
+        graph.add_edge(f - 1, f + 1);
     }
     for weight in &mut graph.weights {
         *weight = random.between(1, 65520) as u16;
@@ -245,7 +244,7 @@ pub fn damaged_calls() -> impl Iterator<Item = Case> {
     })
 }
 
-/// Every single fault of a small graph, at every place.
+/// Makes every single fault of a small graph, at every place.
 pub fn every_single_fault() -> impl Iterator<Item = Case> {
     let mut random = Random::new(9);
     (1..=6).flat_map(move |n| {
@@ -272,8 +271,8 @@ fn every_weight(call: Call, n: usize) -> impl Iterator<Item = Case> {
     })
 }
 
-/// Every length of every buffer, from 0 to a few bytes more than needed. Known
-/// is the refusal of a short one.
+/// Makes every length of every buffer, from 0 to a few bytes more than needed. A
+/// short one is known to be refused.
 pub fn every_length() -> impl Iterator<Item = Case> {
     let mut random = Random::new(10);
     (0..=5).flat_map(move |n| {
@@ -284,7 +283,7 @@ pub fn every_length() -> impl Iterator<Item = Case> {
     })
 }
 
-/// All lengths of one buffer.
+/// Makes all lengths of one buffer.
 fn lengths_of(whole: &Call, buffer: usize, excess: &[u8]) -> Vec<Case> {
     let needed = whole.buffers()[buffer].len();
     let bytes = [whole.buffers()[buffer], excess].concat();
@@ -303,7 +302,7 @@ fn lengths_of(whole: &Call, buffer: usize, excess: &[u8]) -> Vec<Case> {
     (0..=bytes.len()).map(with_length).collect()
 }
 
-/// Sizes above 96 over buffers that would do for a small graph.
+/// Makes sizes above 96 over buffers that are long enough for a small graph.
 pub fn sizes_above_96() -> impl Iterator<Item = Case> {
     let mut random = Random::new(11);
     let fixed = [
@@ -333,7 +332,7 @@ pub fn sizes_above_96() -> impl Iterator<Item = Case> {
     })
 }
 
-/// Some calls over and over, in random order.
+/// Repeats some calls, in random order.
 pub fn repeated_calls() -> impl Iterator<Item = Case> {
     let mut random = Random::new(12);
     let mut any_call = || {
@@ -349,7 +348,7 @@ pub fn repeated_calls() -> impl Iterator<Item = Case> {
     })
 }
 
-/// Each of the first with each of the second.
+/// Combines each of the first with each of the second.
 fn with_each<A: Copy, B: Copy, const N: usize>(
     first: impl Iterator<Item = A>,
     second: [B; N],

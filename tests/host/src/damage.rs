@@ -1,4 +1,4 @@
-//! Faults for a call.
+//! Faults for an opening.
 
 use crate::call::{needed, Call};
 use crate::random::Random;
@@ -6,7 +6,7 @@ use crate::random::Random;
 /// How many kinds of damage there are.
 pub const KINDS: usize = 10;
 
-/// One fault, or several at once with the last kind.
+/// Makes one fault, or several at once with the last kind.
 pub fn damage(random: &mut Random, call: &mut Call, kind: usize) {
     let n = call.n as usize;
     let cells = n * n;
@@ -28,7 +28,8 @@ pub fn damage(random: &mut Random, call: &mut Call, kind: usize) {
     }
 }
 
-/// Several faults of adjacency and weights, and sometimes of lengths and size.
+/// Makes several faults of adjacency and weights, and sometimes of lengths and
+/// size.
 fn damage_often(random: &mut Random, call: &mut Call) {
     for _ in 0..random.between(2, 5) {
         let kind = random.between(0, 6);
@@ -57,7 +58,7 @@ fn shorten(random: &mut Random, call: &mut Call) {
     }
 }
 
-/// A size above 96; many are one that would do but for a high bit.
+/// Chooses a size above 96, often one that is at most 96 but for a high bit.
 pub fn any_large_size(random: &mut Random) -> u64 {
     let n = random.below(97) as u64;
     random.choose(&[

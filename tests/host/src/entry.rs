@@ -111,7 +111,7 @@ pub struct Written<'a> {
     pub work: &'a mut [u8],
 }
 
-/// Opens a graph through the C entry; words are two bytes, low first.
+/// Opens a graph. Words are two bytes, low first.
 pub fn open(n: u64, adjacency: &[u8], weights: &[u8], written: Written) -> u64 {
     let Written {
         inverse,
@@ -150,7 +150,7 @@ pub struct Lent<'a> {
     pub sequence: &'a mut [u8],
 }
 
-/// Matches two vertices.
+/// Picks two vertices.
 pub fn pick(lent: Lent, a: u64, b: u64) -> u64 {
     // SAFETY: as for opening.
     unsafe {
@@ -171,7 +171,7 @@ pub fn pick(lent: Lent, a: u64, b: u64) -> u64 {
     }
 }
 
-/// Matches the lowest unmatched vertex with its lowest possible partner.
+/// Picks the lowest unmatched vertex and its lowest partner.
 pub fn automatic(lent: Lent) -> u64 {
     // SAFETY: as for opening.
     unsafe {
@@ -190,7 +190,7 @@ pub fn automatic(lent: Lent) -> u64 {
     }
 }
 
-/// Removes the last pair.
+/// Undoes the last pair.
 pub fn undo(lent: Lent) -> u64 {
     // SAFETY: as for opening.
     unsafe {
@@ -209,7 +209,7 @@ pub fn undo(lent: Lent) -> u64 {
     }
 }
 
-/// Writes which vertices may be matched with a.
+/// Writes the row of a vertex: who may be matched with it.
 pub fn row(lent: Lent, a: u64, row: &mut [u8]) -> u64 {
     // SAFETY: as for opening.
     unsafe {
@@ -231,7 +231,7 @@ pub fn row(lent: Lent, a: u64, row: &mut [u8]) -> u64 {
     }
 }
 
-/// Makes a list of calls, three numbers a call, and writes their numbers.
+/// Replays a list of calls, three numbers a call, and writes their answers.
 pub fn replay(lent: Lent, calls: &[u64], answers: &mut [u64]) -> u64 {
     // SAFETY: as for opening; slices of numbers are aligned.
     unsafe {

@@ -8,8 +8,8 @@ mod sequence;
 use crate::random::Random;
 use crate::session::State;
 
-/// Spoils a session; false where there is no place for the fault, and then
-/// nothing is changed.
+/// Spoils a session. False if there is no place for the fault, and then nothing
+/// is changed.
 type Spoil = fn(&mut Random, &mut State) -> bool;
 
 /// A fault of a sound session. Cause 0: the session is still sound.
@@ -47,7 +47,7 @@ pub const FAULTS: [Fault; 43] = [
     fault("vertex of n or more", 5, sequence::vertex_too_large),
     fault("255 within the pairs", 5, sequence::unused_within_pairs),
     fault("pair not adjacent", 5, sequence::pair_not_adjacent),
-    fault("pair unlinked", 5, sequence::pair_unlinked),
+    fault("edge of a pair removed", 5, sequence::edge_of_pair_removed),
     fault("byte after the pairs", 5, sequence::byte_after_pairs),
     fault("last byte of the sequence", 5, sequence::last_byte),
     fault("word of 65521 or more", 6, inverse::word_too_large),

@@ -1,9 +1,6 @@
-//! A graph filled in through a C entry, and what it must leave: by a sheet, or
-//! its weights by a seed.
+//! A call that fills a graph from a sheet, or its weights from a seed, and what it
+//! must write.
 
-use crate::entry;
-use crate::guards::Guarded;
-use crate::random::Random;
 use reference::draws::fill_weights;
 use reference::listing::INPUT_LIMIT;
 use reference::numbers::{draws_number, read_number};
@@ -17,8 +14,7 @@ pub enum Source {
     Seed { n: u64, seed: u32 },
 }
 
-/// A source, and the buffers to be filled, the first of which a seed has no use
-/// for.
+/// A source, and the buffers to be filled. A seed fills only the weights.
 #[derive(Clone, Debug, PartialEq, Eq)]
 pub struct Filling {
     pub source: Source,
@@ -35,7 +31,7 @@ pub struct FillingCase {
 }
 
 impl Filling {
-    /// All buffers with their names.
+    /// Lists all buffers with their names.
     pub fn buffers(&self) -> [(&'static str, &[u8]); 3] {
         let sheet: &[u8] = match &self.source {
             Source::Sheet(sheet) => sheet,
@@ -80,24 +76,5 @@ impl FillingCase {
 
     pub fn place(&self) -> u64 {
         self.number >> 16 & 0xFFFF
-    }
-
-    /// Runs the call with its buffers between guards and compares the number
-    /// and every byte.
-    pub fn check(&self, random: &mut Random) {
-        let byte = |random: &mut Random| random.number() as u8;
-        let (before, after) = (self.call.buffers(), self.after.buffers());
-        let mut guarded = [0, 1, 2].map(|b| Guarded::new(random, before[b].1, after[b].1, byte));
-
-        let [sheet, adjacency, weights] = &mut guarded;
-        let number = match self.call.source {
-            Source::Sheet(_) => entry::read(sheet.values(), adjacency.values(), weights.values()),
-            Source::Seed { n, seed } => entry::draw(n, seed, weights.values()),
-        };
-
-        assert_eq!(number, self.number, "number of {}", self.name);
-        for (guarded, (buffer, _)) in guarded.iter().zip(before) {
-            guarded.compare(buffer, &self.name);
-        }
     }
 }

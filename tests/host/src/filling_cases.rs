@@ -1,5 +1,5 @@
-//! The families of sheets to read and of weights to draw. Each hands out its
-//! cases one after the other, the same ones every time.
+//! The families of sheets to read and of weights to draw. Each yields the same
+//! cases every time.
 
 use crate::damage::any_large_size;
 use crate::filling::{Filling, FillingCase, Source};
@@ -8,7 +8,7 @@ use crate::stream::LONGEST_BUFFER;
 use sheet_tests::families::{self, Case};
 use sheet_tests::sheet::Sheet;
 
-/// All families, but for the longest sheets.
+/// Chains all families, without the longest sheets.
 pub fn all() -> impl Iterator<Item = FillingCase> {
     sheets()
         .chain(long_sheets().filter(|case| case.call.buffers()[0].1.len() <= LONGEST_BUFFER))
@@ -19,12 +19,12 @@ pub fn all() -> impl Iterator<Item = FillingCase> {
         .chain(large_draws())
 }
 
-/// How many bytes the adjacency table and the weights of n vertices need.
+/// Returns how many bytes the adjacency and the weights of n vertices need.
 fn needed(n: usize) -> [usize; 2] {
     [n * n, n * n.saturating_sub(1)]
 }
 
-/// The size that a sheet names, or that of a small one.
+/// Returns the size that a sheet names, or a small one.
 fn size_named(sheet: &[u8]) -> usize {
     match sheet.get(1) {
         Some(&n) if n <= 96 => n.into(),
@@ -41,14 +41,14 @@ fn filling(random: &mut Random, source: Source, lengths: [usize; 2]) -> Filling 
     }
 }
 
-/// A sheet with buffers that are longer than needed by 0 to so many bytes.
+/// Reads a sheet into buffers, each up to most bytes longer than needed.
 fn with_excess(random: &mut Random, case: Case, most: usize) -> FillingCase {
     let lengths = needed(size_named(&case.bytes)).map(|length| length + random.between(0, most));
     let call = filling(random, Source::Sheet(case.bytes), lengths);
     FillingCase::new(case.name, call)
 }
 
-/// The sheets that the listing program is given too.
+/// Reads the sheets that the listing program is given too.
 pub fn sheets() -> impl Iterator<Item = FillingCase> {
     let mut random = Random::new(20);
     families::small_sheets()
@@ -72,7 +72,7 @@ pub fn long_sheets() -> impl Iterator<Item = FillingCase> {
     families::long_inputs().map(move |case| with_excess(&mut random, case, 3))
 }
 
-/// Good and damaged sheets with short buffers: the sheet's own fault comes
+/// Reads good and damaged sheets into short buffers: the sheet's own fault comes
 /// first.
 pub fn short_buffers() -> impl Iterator<Item = FillingCase> {
     let mut random = Random::new(22);
@@ -92,7 +92,7 @@ pub fn short_buffers() -> impl Iterator<Item = FillingCase> {
         })
 }
 
-/// Every length of both buffers, from 0 to a few bytes more than needed.
+/// Makes every length of both buffers, from 0 to a few bytes more than needed.
 pub fn every_length() -> impl Iterator<Item = FillingCase> {
     let mut random = Random::new(23);
     (0..=5).flat_map(move |n| {
@@ -107,7 +107,7 @@ pub fn every_length() -> impl Iterator<Item = FillingCase> {
     })
 }
 
-/// Every number of vertices, with several seeds and lengths.
+/// Draws for every number of vertices, with several seeds and lengths.
 pub fn every_draw() -> impl Iterator<Item = FillingCase> {
     let mut random = Random::new(24);
     (0..=96).flat_map(move |n: usize| {
@@ -121,7 +121,7 @@ pub fn every_draw() -> impl Iterator<Item = FillingCase> {
     })
 }
 
-/// Every length of the weights, from 0 to a few bytes more than needed.
+/// Makes every length of the weights, from 0 to a few bytes more than needed.
 pub fn draw_lengths() -> impl Iterator<Item = FillingCase> {
     let mut random = Random::new(25);
     let lengths = |n: usize| (0..needed(n)[1] + 5).map(move |length| (n, length));
@@ -131,7 +131,7 @@ pub fn draw_lengths() -> impl Iterator<Item = FillingCase> {
     })
 }
 
-/// Sizes above 96, and a high bit on sizes that are not.
+/// Draws for sizes above 96, among them small ones with a high bit.
 pub fn large_draws() -> impl Iterator<Item = FillingCase> {
     let mut random = Random::new(26);
     let bits = (7..64).map(|bit| 1u64 << bit);

@@ -15,7 +15,7 @@ pub struct Graph {
 }
 
 impl Graph {
-    /// No edges, and weights 1.
+    /// Makes a graph of n vertices with no edges and all weights 1.
     pub fn empty(n: usize) -> Graph {
         Graph {
             n,
@@ -24,14 +24,14 @@ impl Graph {
         }
     }
 
-    pub fn link(&mut self, i: usize, j: usize) {
+    pub fn add_edge(&mut self, i: usize, j: usize) {
         if i != j {
             self.adjacency[i * self.n + j] = 1;
             self.adjacency[j * self.n + i] = 1;
         }
     }
 
-    pub fn unlink(&mut self, i: usize, j: usize) {
+    pub fn remove_edge(&mut self, i: usize, j: usize) {
         self.adjacency[i * self.n + j] = 0;
         self.adjacency[j * self.n + i] = 0;
     }
@@ -40,7 +40,7 @@ impl Graph {
         self.adjacency[i * self.n + j] == 1
     }
 
-    /// The index of the weight of two different vertices: (0,1), (0,2) ..
+    /// Returns the index of the weight of i and j, which differ: (0,1), (0,2) ..
     pub fn weight_index(&self, i: usize, j: usize) -> usize {
         let (low, high) = (i.min(j), i.max(j));
         (0..low).map(|row| self.n - 1 - row).sum::<usize>() + (high - low - 1)
@@ -58,7 +58,7 @@ impl Graph {
         }
     }
 
-    /// The Tutte matrix modulo 65521, row by row.
+    /// Returns the Tutte matrix modulo 65521, row by row.
     pub fn tutte_matrix(&self) -> Vec<u64> {
         let n = self.n;
         let mut matrix = vec![0; n * n];
@@ -77,10 +77,10 @@ impl Graph {
     }
 }
 
-/// A random graph of n vertices, at least one.
+/// Makes a random graph of n vertices, at least one.
 pub type Shape = fn(&mut Random, usize) -> Graph;
 
-/// Shapes, with random weights.
+/// The shapes, with random weights.
 pub const SHAPES: [Shape; 13] = [
     dense,
     complete,
@@ -97,8 +97,8 @@ pub const SHAPES: [Shape; 13] = [
     odd_cliques,
 ];
 
-/// A graph of n vertices of a random shape with random weights, or of a chosen
-/// matrix.
+/// Makes a graph of n vertices of a random shape with random weights, or of a
+/// chosen matrix.
 pub fn any(random: &mut Random, n: usize) -> Graph {
     if n == 0 {
         return Graph::empty(0);
@@ -115,7 +115,7 @@ pub fn any(random: &mut Random, n: usize) -> Graph {
     }
 }
 
-/// Random weights: from all, at the ends of the range, or all the same.
+/// Sets random weights: any, at the ends of the range, or all the same.
 fn set_weights(random: &mut Random, graph: &mut Graph) {
     const ENDS: [u16; 8] = [1, 2, 3, 32760, 32761, 65518, 65519, 65520];
     match random.below(5) {
@@ -137,7 +137,7 @@ pub fn with_density(random: &mut Random, n: usize, percent: usize) -> Graph {
     for i in 0..n {
         for j in i + 1..n {
             if random.percent(percent) {
-                graph.link(i, j);
+                graph.add_edge(i, j);
             }
         }
     }
@@ -154,52 +154,53 @@ fn complete(random: &mut Random, n: usize) -> Graph {
     with_density(random, n, 100)
 }
 
-/// From none to four neighbours a vertex, about.
+/// Makes a graph of about zero to four neighbours a vertex.
 pub fn sparse(random: &mut Random, n: usize) -> Graph {
     let mut graph = Graph::empty(n);
     let edges = random.between(0, 2 * n);
     for _ in 0..edges {
         let (i, j) = (random.below(n), random.below(n));
-        graph.link(i, j);
+        graph.add_edge(i, j);
     }
     set_weights(random, &mut graph);
     graph
 }
 
-/// A perfect matching, but for one vertex where n is odd, and some edges more.
+/// Makes a perfect matching, without one vertex if n is odd, and some more edges.
 pub fn matched(random: &mut Random, n: usize) -> Graph {
     let mut graph = sparse(random, n);
     for pair in random.permutation(n).chunks_exact(2) {
-        graph.link(pair[0], pair[1]);
+        graph.add_edge(pair[0], pair[1]);
     }
     graph
 }
 
-/// A few vertices without an edge, or many.
+/// Makes a graph with a few vertices without an edge, or many.
 fn isolated(random: &mut Random, n: usize) -> Graph {
     let mut graph = dense(random, n);
     for _ in 0..random.choose(&[1, 2, 3, n / 2, n]).min(n) {
         let vertex = random.below(n);
         for other in 0..n {
-            graph.unlink(vertex, other);
+            graph.remove_edge(vertex, other);
         }
     }
     graph
 }
 
-/// Edges between two parts of the same size, but for one vertex where n is odd.
+/// Makes edges between two parts of the same size, or one vertex apart if n is
+/// odd.
 fn balanced(random: &mut Random, n: usize) -> Graph {
     let percent = random.between(20, 100);
     bipartite(random, n, n / 2, percent)
 }
 
-/// Edges between two parts only, of any sizes.
+/// Makes edges between two parts only, of any sizes.
 fn unbalanced(random: &mut Random, n: usize) -> Graph {
     let (part, percent) = (random.between(0, n / 2), random.between(20, 100));
     bipartite(random, n, part, percent)
 }
 
-/// All edges between two parts of any sizes.
+/// Makes all edges between two parts of any sizes.
 fn complete_bipartite(random: &mut Random, n: usize) -> Graph {
     let part = random.between(0, n / 2);
     bipartite(random, n, part, 100)
@@ -211,7 +212,7 @@ fn bipartite(random: &mut Random, n: usize, part: usize, percent: usize) -> Grap
     for &left in &order[..part] {
         for &right in &order[part..] {
             if random.percent(percent) {
-                graph.link(left, right);
+                graph.add_edge(left, right);
             }
         }
     }
@@ -219,30 +220,30 @@ fn bipartite(random: &mut Random, n: usize, part: usize, percent: usize) -> Grap
     graph
 }
 
-/// A path through all vertices in random order; sometimes closed to a ring.
+/// Makes a path through all vertices in random order, sometimes closed to a ring.
 fn path(random: &mut Random, n: usize) -> Graph {
     let order = random.permutation(n);
     let mut graph = Graph::empty(n);
     for pair in order.windows(2) {
-        graph.link(pair[0], pair[1]);
+        graph.add_edge(pair[0], pair[1]);
     }
     if n > 2 && random.percent(50) {
-        graph.link(order[0], order[n - 1]);
+        graph.add_edge(order[0], order[n - 1]);
     }
     set_weights(random, &mut graph);
     graph
 }
 
-/// Two paths beside each other, with rungs.
+/// Makes two paths beside each other, with rungs.
 fn ladder(random: &mut Random, n: usize) -> Graph {
     let order = random.permutation(n);
     let half = n / 2;
     let mut graph = Graph::empty(n);
     for i in 0..half {
-        graph.link(order[i], order[half + i]);
+        graph.add_edge(order[i], order[half + i]);
         if i + 1 < half {
-            graph.link(order[i], order[i + 1]);
-            graph.link(order[half + i], order[half + i + 1]);
+            graph.add_edge(order[i], order[i + 1]);
+            graph.add_edge(order[half + i], order[half + i + 1]);
         }
     }
     set_weights(random, &mut graph);
@@ -254,23 +255,24 @@ fn tree(random: &mut Random, n: usize) -> Graph {
     let mut graph = Graph::empty(n);
     for i in 1..n {
         let parent = random.below(i);
-        graph.link(order[i], order[parent]);
+        graph.add_edge(order[i], order[parent]);
     }
     set_weights(random, &mut graph);
     graph
 }
 
-/// Complete graphs beside each other, of odd and even sizes.
+/// Makes complete graphs beside each other, of odd and even sizes.
 fn cliques(random: &mut Random, n: usize) -> Graph {
     cliques_of(random, n, |size| size)
 }
 
-/// Complete graphs beside each other, all of odd sizes.
+/// Makes complete graphs beside each other, all of odd sizes.
 fn odd_cliques(random: &mut Random, n: usize) -> Graph {
     cliques_of(random, n, |size| (size - 1) | 1)
 }
 
-/// Complete graphs beside each other, of random sizes that are rounded down.
+/// Makes complete graphs beside each other, of sizes that rounded gives for random
+/// ones.
 fn cliques_of(random: &mut Random, n: usize, rounded: fn(usize) -> usize) -> Graph {
     let order = random.permutation(n);
     let mut graph = Graph::empty(n);
@@ -279,7 +281,7 @@ fn cliques_of(random: &mut Random, n: usize, rounded: fn(usize) -> usize) -> Gra
         let end = start + rounded(random.between(1, 9).min(n - start));
         for i in start..end {
             for j in i + 1..end {
-                graph.link(order[i], order[j]);
+                graph.add_edge(order[i], order[j]);
             }
         }
         start = end;

@@ -5,8 +5,8 @@ use std::fmt::Display;
 
 const GUARD: usize = 24;
 
-/// The guards before and behind a buffer are random, and the one before it has
-/// an odd or an even length.
+/// A buffer between random guards. The one before it has an odd or an even
+/// length.
 pub struct Guarded<T> {
     found: Vec<T>,
     wanted: Vec<T>,
@@ -15,7 +15,7 @@ pub struct Guarded<T> {
 }
 
 impl<T: Copy + PartialEq + Display> Guarded<T> {
-    /// A buffer as it is before a call, and as it must be after it.
+    /// Guards a buffer, given as it is before a call and as it must be after it.
     pub fn new(
         random: &mut Random,
         before: &[T],

@@ -1,7 +1,7 @@
-//! Seeded random and damaged calls of the C entries, and the comparison with
-//! the plain reading. The tests run them from Rust; the program `cases` writes
-//! them out for tests/c/replay.c; the program `long` runs as many session calls
-//! as it is told.
+//! Seeded random and damaged calls of the C entries, with what the reference
+//! expects of them. The program `cases` writes them out for tests/c/replay.c,
+//! which runs and compares them. The tests judge them by themselves, and the
+//! program `long` runs any number of session calls.
 
 pub mod call;
 pub mod cases;

@@ -1,13 +1,13 @@
-//! Lists of session calls, for the entry that makes them all. The same ones
-//! every time.
+//! Lists of session calls, to be replayed. The same ones every time.
 
-use crate::faults::FAULTS;
+use crate::faults::{Fault, FAULTS};
 use crate::graphs;
+use crate::random::Random;
 use crate::requests::{self, UNKNOWN_KINDS};
 use crate::session::{Request, SessionCase, State};
 use crate::states::{graph_to_open, seeded, sound_session};
 
-/// Lists of calls from opening, on graphs that open.
+/// Makes lists of calls from opening, on graphs that open.
 pub fn logs() -> impl Iterator<Item = SessionCase> {
     (0..3000).filter_map(|seed| {
         let mut random = seeded(19, seed);
@@ -20,7 +20,7 @@ pub fn logs() -> impl Iterator<Item = SessionCase> {
     })
 }
 
-/// Lists of calls on sound sessions and on spoiled ones.
+/// Makes lists of calls on sound sessions and on spoiled ones.
 pub fn lists() -> impl Iterator<Item = SessionCase> {
     (0..6000).map(|seed| {
         let mut random = seeded(14, seed);
@@ -35,7 +35,7 @@ pub fn lists() -> impl Iterator<Item = SessionCase> {
     })
 }
 
-/// Lists with one fault or several, on sound sessions and on spoiled ones.
+/// Makes lists with one fault or several, on sound sessions and on spoiled ones.
 pub fn faulty_lists() -> impl Iterator<Item = SessionCase> {
     (0..6000).map(|seed| {
         let mut random = seeded(15, seed);
@@ -51,7 +51,111 @@ pub fn faulty_lists() -> impl Iterator<Item = SessionCase> {
     })
 }
 
-/// Whole logs: all automatic picks of a graph, then one that is refused, all
+/// A list and its session, each with a fault or none, and the causes of these.
+pub struct FaultyList {
+    pub case: SessionCase,
+    /// The cause of the session's fault, or 0.
+    pub session: u64,
+    /// The lowest cause of the list's faults, or 0.
+    pub list: u64,
+}
+
+/// The faults that a list has besides its session's.
+#[derive(Clone, Copy, Debug)]
+enum ListFault {
+    ShortAnswers,
+    UnknownKind,
+    Cut,
+    UnknownKindAndCut,
+    All,
+    /// No fault.
+    Nothing,
+}
+
+const LIST_FAULTS: [ListFault; 6] = [
+    ListFault::ShortAnswers,
+    ListFault::UnknownKind,
+    ListFault::Cut,
+    ListFault::UnknownKindAndCut,
+    ListFault::All,
+    ListFault::Nothing,
+];
+
+impl ListFault {
+    fn cause(self) -> u64 {
+        match self {
+            ListFault::ShortAnswers | ListFault::All => 2,
+            ListFault::UnknownKind | ListFault::UnknownKindAndCut => 12,
+            ListFault::Cut => 13,
+            ListFault::Nothing => 0,
+        }
+    }
+
+    /// Makes a list of automatic picks with this fault.
+    fn request(self, random: &mut Random) -> Request {
+        let count = random.between(1, 4);
+        let mut calls = [2, 0, 0].repeat(count);
+        let mut room = count + random.below(2);
+        if matches!(self, ListFault::ShortAnswers | ListFault::All) {
+            room = random.below(count);
+        }
+        if matches!(
+            self,
+            ListFault::UnknownKind | ListFault::UnknownKindAndCut | ListFault::All
+        ) {
+            calls[3 * random.below(count)] = random.choose(&UNKNOWN_KINDS);
+        }
+        if matches!(
+            self,
+            ListFault::Cut | ListFault::UnknownKindAndCut | ListFault::All
+        ) {
+            calls.extend([2, 0].iter().take(random.between(1, 2)));
+        }
+        Request::Replay {
+            calls,
+            answers: (0..room).map(|_| random.number()).collect(),
+        }
+    }
+}
+
+/// Makes every fault of a session with every fault of a list.
+pub fn several_causes() -> impl Iterator<Item = FaultyList> {
+    (0..40).flat_map(|seed| {
+        let mut random = seeded(27, seed);
+        let n = random.between(2, 8);
+        let sound = sound_session(&mut random, n);
+        let mut cases = Vec::new();
+        for fault in &FAULTS {
+            for list in LIST_FAULTS {
+                cases.push(faulty_list(&mut random, &sound, fault, list, seed));
+            }
+        }
+        cases
+    })
+}
+
+/// Spoils a session and a list. Every other size above 96 is 97.
+fn faulty_list(
+    random: &mut Random,
+    sound: &State,
+    fault: &Fault,
+    list: ListFault,
+    seed: u64,
+) -> FaultyList {
+    let mut state = sound.clone();
+    let spoiled = (fault.spoil)(random, &mut state);
+    if fault.cause == 1 && seed % 2 == 0 {
+        state.n = 97;
+    }
+    let name = format!("several causes, seed {seed}, {}, {list:?}", fault.name);
+    FaultyList {
+        case: SessionCase::new(name, state.with(list.request(random))),
+        session: if spoiled { fault.cause } else { 0 },
+        list: list.cause(),
+    }
+}
+
+/// Makes whole logs: all automatic picks of a graph, then one that is refused, all
 /// undos, and one that is refused; up to 96 vertices.
 pub fn long_lists() -> impl Iterator<Item = SessionCase> {
     [0, 2, 8, 20, 40, 64, 96].into_iter().map(|n| {
@@ -67,7 +171,7 @@ pub fn long_lists() -> impl Iterator<Item = SessionCase> {
     })
 }
 
-/// Lists whose fault lies at 65534 and farther on: too long for the stream.
+/// Makes lists whose fault lies at 65534 and later calls: too long for the stream.
 pub fn longest_lists() -> impl Iterator<Item = SessionCase> {
     [65534, 65535, 65536, 65537, 65536 + 300]
         .into_iter()

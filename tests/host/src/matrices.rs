@@ -5,7 +5,7 @@ use crate::graphs::{dense, matched, Graph, P};
 use crate::random::Random;
 use reference::opening::{self, Opening};
 
-/// A skew matrix that is put together; only what is above the diagonal is kept.
+/// A skew matrix, of which only the part above the diagonal is stored.
 struct Skew {
     n: usize,
     entries: Vec<u64>,
@@ -39,14 +39,14 @@ impl Skew {
         }
     }
 
-    /// The graph whose Tutte matrix it is.
+    /// Makes the graph whose Tutte matrix this is.
     fn graph(&self) -> Graph {
         let mut graph = Graph::empty(self.n);
         for i in 0..self.n {
             for j in i + 1..self.n {
                 let entry = self.entries[i * self.n + j];
                 if entry != 0 {
-                    graph.link(i, j);
+                    graph.add_edge(i, j);
                     graph.set_weight(i, j, entry as u16);
                 }
             }
@@ -55,7 +55,7 @@ impl Skew {
     }
 }
 
-/// A matrix of rank 2k, as a sum of k forms x(i) y(j) - x(j) y(i).
+/// Makes a matrix of rank 2k, as a sum of k forms x(i) y(j) - x(j) y(i).
 pub fn low_rank(random: &mut Random, n: usize) -> Graph {
     let terms = random.between(1, (n / 2).max(1));
     let vertices: Vec<usize> = (0..n).collect();
@@ -68,8 +68,8 @@ pub fn low_rank(random: &mut Random, n: usize) -> Graph {
     matrix.graph()
 }
 
-/// A matrix that repeats a smaller one: each row and column is 0, one of the
-/// smaller matrix or its negative, or a sum of two such.
+/// Makes a matrix that repeats a smaller one: each row and column is 0, one of
+/// the smaller matrix or its negative, or a sum of two such.
 pub fn repeating(random: &mut Random, n: usize) -> Graph {
     let size = random.between(1, (n / 2).max(1));
     let small = dense(random, size).tutte_matrix();
@@ -88,7 +88,7 @@ pub fn repeating(random: &mut Random, n: usize) -> Graph {
     matrix.graph()
 }
 
-/// What may stand in the two rows of a step, and at its pivot.
+/// Which entries the two rows of a step may have, and its pivot.
 pub type Rows = [&'static [u64]; 3];
 
 /// Small entries, many zeros, entries at the ends of the range and others.
@@ -107,7 +107,7 @@ pub const ROWS: [Rows; 6] = [
     [&[182], &[181], &[363]],
 ];
 
-/// A graph made from the steps of elimination by pairs, and its first dependent
+/// Makes a graph from the steps of elimination by pairs, with its first dependent
 /// column. A step takes the lowest vertex c left and the lowest r whose entry in
 /// row c is not 0, and subtracts (x(i) y(j) - x(j) y(i)) / x(r) from what is left,
 /// where x and y are rows c and r. Here r and the rows are chosen, and that is
@@ -140,10 +140,10 @@ pub fn made_by_pairs(random: &mut Random, n: usize, rows: Rows) -> (Graph, Optio
     (matrix.graph(), column)
 }
 
-/// A graph with an inverse, and then one weight changed so that the weights
-/// cancel: the Pfaffian is linear in each weight, and adding 1 / B(i,j) to the
-/// weight of i < j makes it 0, where B is the inverse. Unchanged where there is
-/// no inverse or no weight that will do.
+/// Makes a graph with an inverse B, and then changes one weight so that the
+/// weights cancel: the Pfaffian is linear in each weight, and adding 1 / B(i,j)
+/// to the weight of i < j makes it 0. Changes nothing if there is no inverse or
+/// no such weight.
 pub fn cancelling(random: &mut Random, n: usize) -> Graph {
     let mut graph = matched(random, n);
     if random.percent(50) {

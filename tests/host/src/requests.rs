@@ -6,7 +6,7 @@ use crate::session::{Request, State};
 /// How many entries there are for session calls.
 pub const ENTRIES: usize = 5;
 
-/// Kinds of calls in a list that no call has.
+/// Call-kinds that no call has.
 pub const UNKNOWN_KINDS: [u64; 10] = [
     0,
     4,
@@ -20,7 +20,7 @@ pub const UNKNOWN_KINDS: [u64; 10] = [
     u64::MAX,
 ];
 
-/// A request to any entry; picks and automatic picks are the most frequent.
+/// Makes a request to any entry, most often a pick or an automatic pick.
 pub fn any(random: &mut Random, state: &State) -> Request {
     let entry = match random.below(20) {
         0..=8 => 0,
@@ -32,7 +32,7 @@ pub fn any(random: &mut Random, state: &State) -> Request {
     of_entry(random, state, entry)
 }
 
-/// A request to one entry: 0 pick, 1 automatic, 2 undo, 3 row, 4 replay.
+/// Makes a request to one entry: 0 pick, 1 automatic, 2 undo, 3 row, 4 replay.
 pub fn of_entry(random: &mut Random, state: &State, entry: usize) -> Request {
     match entry {
         0 => pick(random, state),
@@ -43,7 +43,7 @@ pub fn of_entry(random: &mut Random, state: &State, entry: usize) -> Request {
     }
 }
 
-/// Half of the picks are of two adjacent vertices that are unmatched.
+/// Makes a pick, half of the time of two adjacent unmatched vertices.
 fn pick(random: &mut Random, state: &State) -> Request {
     let (a, b) = any_two(random, state);
     Request::Pick(a, b)
@@ -64,7 +64,7 @@ fn any_two(random: &mut Random, state: &State) -> (u64, u64) {
     (a, b)
 }
 
-/// Two adjacent vertices that are unmatched, in either order.
+/// Chooses two adjacent unmatched vertices, in either order.
 fn likely_pair(random: &mut Random, state: &State) -> Option<(usize, usize)> {
     let n = state.n.min(97) as usize;
     let used = 2 * state.made.min(97) as usize;
@@ -84,8 +84,8 @@ fn likely_pair(random: &mut Random, state: &State) -> Option<(usize, usize)> {
     None
 }
 
-/// Mostly a vertex, now and then a number just above, or one that would do but
-/// for its high bits.
+/// Chooses mostly a vertex, sometimes a number just above, or a vertex with high
+/// bits.
 pub fn vertex(random: &mut Random, n: u64) -> u64 {
     let low = if n == 0 { 0 } else { random.number() % n };
     match random.below(16) {
@@ -112,7 +112,7 @@ fn row(random: &mut Random, state: &State) -> Request {
     }
 }
 
-/// A list of at most so many calls, with room for the answers.
+/// Makes a list of at most `most` calls, with room for the answers.
 pub fn replay(random: &mut Random, state: &State, most: usize) -> Request {
     let count = random.between(0, most);
     let calls = any_list(random, state, count);
@@ -123,7 +123,8 @@ pub fn replay(random: &mut Random, state: &State, most: usize) -> Request {
     }
 }
 
-/// A list of calls; the vertices of a call that is no pick are arbitrary.
+/// Makes a list of count calls. The vertices of a call that is not a pick are
+/// arbitrary.
 pub fn any_list(random: &mut Random, state: &State, count: usize) -> Vec<u64> {
     let mut any_call = || {
         let (a, b) = any_two(random, state);
@@ -136,8 +137,8 @@ pub fn any_list(random: &mut Random, state: &State, count: usize) -> Vec<u64> {
     (0..count).flat_map(|_| any_call()).collect()
 }
 
-/// One fault of a list, or several at once with the last kind: too little room
-/// for the answers, an unknown kind, numbers after the last call.
+/// Makes one fault of a list, or several at once with the last kind: too little
+/// room for the answers, an unknown call-kind, numbers after the last call.
 pub fn spoil_list(random: &mut Random, request: &mut Request, kind: usize) {
     let Request::Replay { calls, answers } = request else {
         return;

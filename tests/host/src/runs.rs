@@ -1,5 +1,5 @@
-//! Runs of session calls, each on the session that the one before it left by
-//! the plain reading. The same ones every time.
+//! Runs of session calls, each on the session that the reference leaves after the
+//! one before it. The same ones every time.
 
 use crate::graphs::{self, Graph};
 use crate::matrices;
@@ -8,7 +8,7 @@ use crate::requests::{self, ENTRIES};
 use crate::session::{Request, SessionCase, State};
 use crate::states::{disjoint, graph_to_open, seeded, sound_session};
 
-/// Runs of calls on graphs of sizes from the first to the last.
+/// Makes runs of calls on graphs of sizes from the first to the last.
 fn runs(
     family: &'static str,
     number: u64,
@@ -40,7 +40,7 @@ pub fn largest_runs() -> impl Iterator<Item = SessionCase> {
     runs("largest runs", 4, 24, (95, 96), 30)
 }
 
-/// A short run on graphs of every size.
+/// Makes a short run on graphs of every size.
 pub fn every_size() -> impl Iterator<Item = SessionCase> {
     (0..=96).flat_map(|n| {
         let mut random = seeded(18, n as u64);
@@ -58,7 +58,8 @@ pub fn every_size() -> impl Iterator<Item = SessionCase> {
     })
 }
 
-/// Runs on large sessions with pairs already made, through each entry in turn.
+/// Makes runs on large sessions with pairs already made, through each entry in
+/// turn.
 pub fn deep_runs() -> impl Iterator<Item = SessionCase> {
     (0..40).flat_map(|seed| {
         let mut random = seeded(20, seed);
@@ -71,8 +72,8 @@ pub fn deep_runs() -> impl Iterator<Item = SessionCase> {
     })
 }
 
-/// A run from opening on a graph that mostly opens. A session on one that does
-/// not open is not sound, and soon left.
+/// Makes a run from opening, on a graph that mostly opens. If it is singular the
+/// session is not sound, and the run is short.
 pub fn run(random: &mut Random, name: &str, n: usize, calls: usize) -> Vec<SessionCase> {
     let graph = graph_to_open(random, n);
     let most_excess = random.choose(&[0, 1, 2, 9]);
@@ -82,7 +83,8 @@ pub fn run(random: &mut Random, name: &str, n: usize, calls: usize) -> Vec<Sessi
     run_from(state, name, calls, |_, state| next(random, state))
 }
 
-/// A run from a session; each request is chosen by its index and the session.
+/// Makes a run from a session. Each request is chosen by its index and the
+/// session.
 fn run_from(
     mut state: State,
     name: &str,
@@ -101,8 +103,7 @@ fn run_from(
 
 type Habit = fn(&mut Random, &State) -> Request;
 
-/// Any requests; automatic picks and undos only; or picks to the end with few
-/// undos.
+/// Chooses any request; or an automatic pick or undo; or a pick, with few undos.
 fn any_habit(random: &mut Random) -> Habit {
     random.choose(&[
         requests::any as Habit,
@@ -118,8 +119,8 @@ fn any_habit(random: &mut Random) -> Habit {
     ])
 }
 
-/// Sessions put together by hand on graphs that do not open: an undo of their
-/// first pair is refused with 10.
+/// Makes sessions by hand on singular graphs: an undo of their first pair is
+/// refused with 10.
 pub fn singular_graphs() -> impl Iterator<Item = SessionCase> {
     (0..1500).flat_map(|seed| {
         let mut random = seeded(13, seed);
@@ -129,7 +130,7 @@ pub fn singular_graphs() -> impl Iterator<Item = SessionCase> {
     })
 }
 
-/// A few calls, half of them undos.
+/// Makes a few calls, half of them undos.
 pub fn singular_run(random: &mut Random, name: &str, n: usize) -> Vec<SessionCase> {
     let graph = matrices::cancelling(random, n);
     let most = random.between(1, n / 2);

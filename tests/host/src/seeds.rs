@@ -8,8 +8,8 @@ use crate::session::{SessionCase, State};
 use crate::session_cases::spoil_often;
 use crate::states::{random_state, seeded, sound_session};
 
-/// The cases of one seed: a run of calls, mostly of small size, or some other
-/// sessions.
+/// Makes the cases of one seed: a run of calls, mostly of small size, or some
+/// other sessions.
 pub fn of_seed(seed: u64) -> Vec<SessionCase> {
     let mut random = seeded(100, seed);
     let name = format!("seed {seed}");
@@ -52,7 +52,7 @@ fn spoiled_one_by_one(random: &mut Random, name: &str) -> Vec<SessionCase> {
         let mut state = sound.clone();
         let entry = random.below(ENTRIES);
         let mut request = requests::of_entry(random, &sound, entry);
-        if random.percent(10) {
+        if random.percent(40) {
             let kind = random.below(4);
             requests::spoil_list(random, &mut request, kind);
         }
@@ -62,7 +62,7 @@ fn spoiled_one_by_one(random: &mut Random, name: &str) -> Vec<SessionCase> {
     FAULTS.iter().map(spoiled).collect()
 }
 
-/// Some sessions with a request each.
+/// Makes some sessions with a request each.
 fn some(random: &mut Random, name: &str, state: impl Fn(&mut Random) -> State) -> Vec<SessionCase> {
     let mut one = |call| {
         let state = state(random);

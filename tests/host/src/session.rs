@@ -1,4 +1,4 @@
-//! A session call through its C entry, and what it must leave.
+//! A session call through its C entry, and what it must write.
 
 use crate::entry::{self, Lent};
 use crate::graphs::Graph;
@@ -7,7 +7,7 @@ use crate::matrices::inverse_of;
 use crate::random::Random;
 use reference::numbers::{pair_number, replay_number, row_number};
 use reference::replay::replay;
-use reference::session::{match_lowest, match_pair, partner_row, undo, Session};
+use reference::session::{automatic, pick, row, undo, Session};
 use reference::words::{bytes_from_words, words_from_bytes, write_words};
 
 /// A session: size, pairs made and four buffers as bytes.
@@ -47,9 +47,9 @@ pub struct SessionCase {
 }
 
 impl State {
-    /// The session with these pairs on a graph, in buffers that are longer than
-    /// needed by 0 to the given number of bytes; and whether it is sound. The
-    /// inverse is 0 where there is none.
+    /// Makes the session with these pairs on a graph, in buffers up to most_excess
+    /// bytes longer than needed, and says whether it is sound. The inverse is 0 if
+    /// there is none.
     pub fn new(
         random: &mut Random,
         graph: &Graph,
@@ -79,7 +79,7 @@ impl State {
         (state, sound)
     }
 
-    /// The buffers in the order of their numbers, 1 to 4.
+    /// Lists the buffers in the order of their numbers, 1 to 4.
     pub fn buffers_mut(&mut self) -> [&mut Vec<u8>; 4] {
         [
             &mut self.adjacency,
@@ -89,7 +89,7 @@ impl State {
         ]
     }
 
-    /// The graph; the buffers must be long enough.
+    /// Returns the graph. The buffers must be long enough.
     pub fn graph(&self) -> Graph {
         let n = self.n as usize;
         Graph {
@@ -99,7 +99,7 @@ impl State {
         }
     }
 
-    /// The pairs made; the sequence must be long enough.
+    /// Returns the pairs made. The sequence must be long enough.
     pub fn pairs(&self) -> Vec<(usize, usize)> {
         self.sequence[..2 * self.made as usize]
             .chunks(2)
@@ -107,7 +107,7 @@ impl State {
             .collect()
     }
 
-    /// The vertices of no pair, ascending.
+    /// Lists the unmatched vertices, ascending.
     pub fn unmatched(&self) -> Vec<usize> {
         unmatched(self.n as usize, &self.sequence[..2 * self.made as usize])
     }
@@ -136,15 +136,15 @@ fn unmatched(n: usize, matched: &[u8]) -> Vec<usize> {
         .collect()
 }
 
-/// The inverse for the vertices that a sequence leaves, 0 in the other rows and
-/// columns: that of the graph between them.
+/// Inverts the matrix of the vertices that a sequence leaves, as a table with 0 in
+/// the other rows and columns.
 pub fn inverse_without(graph: &Graph, sequence: &[u8]) -> Option<Vec<u16>> {
     let left = unmatched(graph.n, sequence);
     let mut small = Graph::empty(left.len());
     for (row, &i) in left.iter().enumerate() {
         for (column, &j) in left.iter().enumerate().skip(row + 1) {
             if graph.adjacent(i, j) {
-                small.link(row, column);
+                small.add_edge(row, column);
                 small.set_weight(row, column, graph.weights[graph.weight_index(i, j)]);
             }
         }
@@ -160,7 +160,7 @@ pub fn inverse_without(graph: &Graph, sequence: &[u8]) -> Option<Vec<u16>> {
 }
 
 impl Request {
-    /// The entry: 1 pick, 2 automatic, 3 undo, 4 row, 5 replay.
+    /// Numbers the entry: 1 pick, 2 automatic, 3 undo, 4 row, 5 replay.
     pub fn entry(&self) -> u64 {
         match self {
             Request::Pick(..) => 1,
@@ -183,7 +183,7 @@ impl Request {
 }
 
 impl SessionCall {
-    /// The number and all buffers after the call, by the plain reading. The
+    /// Returns the number and all buffers after the call, by the reference. The
     /// pairs made are those of the session handed back.
     pub fn expected(&self) -> (u64, SessionCall) {
         let mut after = self.clone();
@@ -200,27 +200,30 @@ impl SessionCall {
         let adjacency = &state.adjacency;
         let weights = words_from_bytes(&state.weights);
         let mut words = words_from_bytes(&state.inverse);
-        let (inverse, order) = (&mut words, &mut state.sequence);
+        let (inverse, sequence) = (&mut words, &mut state.sequence);
         let (number, back) = match &mut self.request {
             Request::Pick(a, b) => {
-                let outcome = match_pair(session, *a, *b, adjacency, &weights, inverse, order);
+                let outcome = pick(session, *a, *b, adjacency, &weights, inverse, sequence);
                 (pair_number(&outcome), outcome.session)
             }
             Request::Automatic => {
-                let outcome = match_lowest(session, adjacency, &weights, inverse, order);
+                let outcome = automatic(session, adjacency, &weights, inverse, sequence);
                 (pair_number(&outcome), outcome.session)
             }
             Request::Undo => {
-                let outcome = undo(session, adjacency, &weights, inverse, order);
+                let outcome = undo(session, adjacency, &weights, inverse, sequence);
                 (pair_number(&outcome), outcome.session)
             }
-            Request::Row { vertex, row } => {
-                let outcome =
-                    partner_row(session, *vertex, adjacency, &weights, inverse, order, row);
+            Request::Row { vertex, row: bytes } => {
+                let outcome = row(
+                    session, *vertex, adjacency, &weights, inverse, sequence, bytes,
+                );
                 (row_number(&outcome), outcome.session)
             }
             Request::Replay { calls, answers } => {
-                let outcome = replay(session, adjacency, &weights, inverse, order, calls, answers);
+                let outcome = replay(
+                    session, adjacency, &weights, inverse, sequence, calls, answers,
+                );
                 (replay_number(&outcome), outcome.session)
             }
         };
@@ -250,7 +253,7 @@ impl SessionCall {
         }
     }
 
-    /// The row lent to a call, or an empty one.
+    /// Returns the row lent to a call, or an empty one.
     fn row(&self) -> &[u8] {
         match &self.request {
             Request::Row { row, .. } => row,
@@ -258,7 +261,7 @@ impl SessionCall {
         }
     }
 
-    /// The list and the answers lent to a call, or empty ones.
+    /// Returns the list and the answers lent to a call, or empty ones.
     pub fn lists(&self) -> [&[u64]; 2] {
         match &self.request {
             Request::Replay { calls, answers } => [calls, answers],
@@ -266,7 +269,7 @@ impl SessionCall {
         }
     }
 
-    /// The byte buffers with their names: those of the session, and the row.
+    /// Lists the byte buffers with their names: those of the session, and the row.
     pub fn byte_buffers(&self) -> [(&'static str, &[u8]); 5] {
         [
             ("adjacency", &self.state.adjacency),
@@ -315,7 +318,7 @@ impl SessionCase {
         answers.compare("answers", &self.name);
     }
 
-    /// The byte buffers before and after the call.
+    /// Lists the byte buffers before and after the call.
     fn zipped_bytes(&self) -> [(&'static str, &[u8], &[u8]); 5] {
         let (before, after) = (self.call.byte_buffers(), self.after.byte_buffers());
         [0, 1, 2, 3, 4].map(|b| (before[b].0, before[b].1, after[b].1))

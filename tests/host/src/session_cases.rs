@@ -1,9 +1,9 @@
-//! The families of session cases. Each hands out its cases one after the other,
-//! the same ones every time. What is expected is by the plain reading.
+//! The families of session cases. Each yields the same cases every time. The
+//! reference says what is expected.
 
 use crate::faults::{Fault, FAULTS};
 use crate::graphs::Graph;
-use crate::lists::{faulty_lists, lists, logs, long_lists};
+use crate::lists::{faulty_lists, lists, logs, long_lists, several_causes};
 use crate::random::Random;
 use crate::requests::{self, ENTRIES};
 use crate::runs::{
@@ -12,7 +12,7 @@ use crate::runs::{
 use crate::session::{Request, SessionCase, State};
 use crate::states::{random_state, seeded, sound_session};
 
-/// All families.
+/// Chains all families.
 pub fn all() -> impl Iterator<Item = SessionCase> {
     small_runs()
         .chain(middle_runs())
@@ -32,12 +32,13 @@ pub fn all() -> impl Iterator<Item = SessionCase> {
         .chain(logs())
         .chain(lists())
         .chain(faulty_lists())
+        .chain(several_causes().map(|faulty| faulty.case))
         .chain(long_lists())
 }
 
-/// Every graph of four vertices, every list of its disjoint edges as a session,
-/// and every call with numbers up to four. The weights are 1, but for one in
-/// the second round.
+/// Makes every graph of four vertices, every list of its disjoint edges as a
+/// session, and every call with numbers up to four. The weights are 1, but for
+/// one in the second round.
 pub fn sessions_of_four() -> impl Iterator<Item = SessionCase> {
     (0..128).flat_map(|number| {
         let graph = graph_of_four(number);
@@ -53,13 +54,13 @@ pub fn sessions_of_four() -> impl Iterator<Item = SessionCase> {
     })
 }
 
-/// Six bits for the edges, and one for the weight 65520 of 1, 2.
+/// Makes a graph from six bits for the edges and one for the weight 65520 of 1, 2.
 fn graph_of_four(number: usize) -> Graph {
     let mut graph = Graph::empty(4);
     let pairs = [(0, 1), (0, 2), (0, 3), (1, 2), (1, 3), (2, 3)];
     for (bit, (i, j)) in pairs.into_iter().enumerate() {
         if number >> bit & 1 == 1 {
-            graph.link(i, j);
+            graph.add_edge(i, j);
         }
     }
     if number >= 64 {
@@ -68,7 +69,7 @@ fn graph_of_four(number: usize) -> Graph {
     graph
 }
 
-/// All lists of disjoint edges of a graph of four vertices, in any order.
+/// Lists all lists of disjoint edges of a graph of four vertices, in any order.
 fn disjoint_edges(graph: &Graph) -> Vec<Vec<(usize, usize)>> {
     let mut edges = Vec::new();
     for i in 0..4 {
@@ -101,7 +102,7 @@ fn every_call_of_four(name: &str, state: &State) -> Vec<SessionCase> {
         .collect()
 }
 
-/// A spoiled session with its one fault; none where there was no place for it.
+/// A spoiled session with its one fault, or none if there was no place for it.
 type Spoiled = (SessionCase, Option<&'static Fault>);
 
 pub fn spoiled_sessions() -> impl Iterator<Item = Spoiled> {
@@ -116,7 +117,7 @@ pub fn spoiled_large_sessions() -> impl Iterator<Item = Spoiled> {
     spoiled("spoiled large sessions", 8, 4, (95, 96))
 }
 
-/// Every fault on sound sessions, with a call through each entry in turn.
+/// Makes every fault on sound sessions, with a call through each entry in turn.
 fn spoiled(
     family: &'static str,
     number: u64,
@@ -139,7 +140,7 @@ fn spoiled(
     })
 }
 
-/// Two to four faults at once.
+/// Makes two to four faults at once.
 pub fn several_faults() -> impl Iterator<Item = SessionCase> {
     (0..12000).map(|seed| {
         let mut random = seeded(9, seed);
@@ -151,8 +152,8 @@ pub fn several_faults() -> impl Iterator<Item = SessionCase> {
     })
 }
 
-/// Faults of the inverse and changes that do no harm, and then any fault: after
-/// some of those there is no place for others.
+/// Makes faults of the inverse and changes that do no harm, and then any fault:
+/// after some of those there is no place for others.
 pub fn spoil_often(random: &mut Random, state: &mut State) {
     let first: Vec<&Fault> = FAULTS
         .iter()
@@ -165,8 +166,8 @@ pub fn spoil_often(random: &mut Random, state: &mut State) {
     (FAULTS[last].spoil)(random, state);
 }
 
-/// Sound sessions with one number changed in each of its bits from 7 on: the
-/// size, the pairs made, or a vertex.
+/// Changes one number of sound sessions in each of its bits from 7 on: the size,
+/// the pairs made, or a vertex.
 pub fn every_high_bit() -> impl Iterator<Item = SessionCase> {
     (0..120).flat_map(|seed| {
         let mut random = seeded(10, seed);
@@ -203,7 +204,7 @@ fn flip_vertex(request: &mut Request, bit: usize) {
     }
 }
 
-/// Every length of every buffer, from 0 to a few bytes or numbers more than
+/// Makes every length of every buffer, from 0 to a few bytes or numbers more than
 /// needed, for each entry.
 pub fn every_length() -> impl Iterator<Item = SessionCase> {
     (0..8 * ENTRIES).flat_map(|round| {
@@ -221,7 +222,7 @@ pub fn every_length() -> impl Iterator<Item = SessionCase> {
     })
 }
 
-/// Every length of one buffer of the session.
+/// Makes every length of one buffer of the session.
 fn every_length_in(state: &State, buffer: usize, request: &Request) -> Vec<SessionCase> {
     let whole = state.clone().buffers_mut()[buffer].len();
     let cut = |length| {
@@ -233,7 +234,7 @@ fn every_length_in(state: &State, buffer: usize, request: &Request) -> Vec<Sessi
     (0..=whole).map(cut).collect()
 }
 
-/// Every length of the row, of a list and of the room for its answers.
+/// Makes every length of the row, of a list and of the room for its answers.
 fn every_length_of(request: &Request) -> Vec<Request> {
     match request {
         Request::Row { vertex, row } => (0..=row.len())
@@ -257,8 +258,8 @@ fn every_length_of(request: &Request) -> Vec<Request> {
     }
 }
 
-/// Random bytes as whole sessions: all bytes, or few of them so that more is in
-/// order, with buffers of any lengths, or of those needed.
+/// Makes whole sessions of random bytes: any bytes, or few values so that more is
+/// in order, with buffers of any lengths, or of those needed.
 pub fn random_bytes() -> impl Iterator<Item = SessionCase> {
     (0..40000).map(|seed| {
         let mut random = seeded(12, seed);

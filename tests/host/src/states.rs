@@ -4,12 +4,12 @@ use crate::graphs::{self, Graph};
 use crate::random::Random;
 use crate::session::State;
 
-/// A generator for one seed of a family.
+/// Makes a generator for one seed of a family.
 pub fn seeded(family: u64, seed: u64) -> Random {
     Random::new(Random::new(family << 48 | seed).number())
 }
 
-/// Mostly of even size and with a perfect matching.
+/// Makes a graph, mostly of even size and with a perfect matching.
 pub fn graph_to_open(random: &mut Random, n: usize) -> Graph {
     let n = if random.percent(80) { n & !1 } else { n };
     if n > 0 && random.percent(50) {
@@ -19,7 +19,7 @@ pub fn graph_to_open(random: &mut Random, n: usize) -> Graph {
     }
 }
 
-/// A sound session with some pairs, on a graph that need not open.
+/// Makes a sound session with some pairs, on a graph that need not open.
 pub fn sound_session(random: &mut Random, n: usize) -> State {
     for _ in 0..20 {
         let graph = graph_to_open(random, n);
@@ -35,7 +35,7 @@ pub fn sound_session(random: &mut Random, n: usize) -> State {
     State::new(random, &graph, &[], 1).0
 }
 
-/// At most so many disjoint edges, in random order.
+/// Chooses disjoint edges in random order, at most `most` of them.
 pub fn disjoint(random: &mut Random, graph: &Graph, most: usize) -> Vec<(usize, usize)> {
     let order = random.permutation(graph.n);
     let mut taken = vec![false; graph.n];
@@ -92,7 +92,7 @@ pub fn random_state(random: &mut Random) -> State {
     }
 }
 
-/// Bytes of these values only; of all where there are none.
+/// Makes bytes of these values only, or of all if there are none.
 fn few_bytes(random: &mut Random, values: &[u8], length: usize) -> Vec<u8> {
     if values.is_empty() {
         return random.bytes(length);

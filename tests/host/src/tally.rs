@@ -6,7 +6,7 @@ use crate::session::SessionCase;
 #[derive(Default)]
 pub struct SessionTally {
     counts: [[usize; 14]; 6],
-    /// By the place of cause 2.
+    /// Counts of cause 2, by its place.
     pub short: [usize; 11],
 }
 
@@ -34,12 +34,12 @@ impl SessionTally {
         self.counts.iter().flatten().sum()
     }
 
-    /// How many calls of all entries had a cause, or were carried out for 0.
+    /// Counts the calls of all entries that had a cause, or were carried out for 0.
     pub fn of_cause(&self, cause: usize) -> usize {
         self.counts.iter().map(|counts| counts[cause]).sum()
     }
 
-    /// How many calls of an entry had a cause.
+    /// Counts the calls of an entry that had a cause.
     pub fn of(&self, entry: usize, cause: usize) -> usize {
         self.counts[entry][cause]
     }

@@ -1,20 +1,19 @@
-//! Opening through the C entry beside the plain reading, on all cases: the
-//! number and every byte of every buffer.
+//! The cases of opening, which tests/c/replay.c runs through the C entry, judged
+//! by themselves: the answers of the reference by their definition, and whether
+//! each outcome occurs often enough.
 
 use host_tests::call::Outcome;
 use host_tests::cases::{self, Case};
-use host_tests::random::Random;
 
-/// Checks every case of a family, and what is asked of its outcome besides.
+/// Checks every case of a family, and its outcome by the function given.
 fn check(
     name: &str,
     family: impl Iterator<Item = Case>,
     check_outcome: impl Fn(&Case, Outcome),
 ) -> Tally {
-    let mut guards = Random::new(1000);
     let mut tally = Tally::default();
     for case in family {
-        let outcome = case.call.check(&mut guards, &case.name);
+        let outcome = case.call.certified(&case.name);
         check_outcome(&case, outcome);
         tally.count(outcome);
     }
@@ -28,7 +27,7 @@ fn known_outcome(case: &Case, outcome: Outcome) {
     assert_eq!(Some(outcome), case.known, "{}", case.name);
 }
 
-/// Refused as known, and not refused where nothing is known.
+/// Checks that a case is refused as known, and not refused if nothing is known.
 fn known_refusal(case: &Case, outcome: Outcome) {
     let refused = matches!(outcome, Outcome::Refused(..)).then_some(outcome);
     assert_eq!(refused, case.known, "{}", case.name);
@@ -120,7 +119,7 @@ fn every_single_fault() {
     assert!(tally.refused[3] > 200 && tally.refused[4] > 100);
 }
 
-/// Refused exactly when the buffer is short.
+/// Every length: refused exactly if the buffer is short.
 #[test]
 fn every_length() {
     let tally = check("every length", cases::every_length(), known_refusal);
@@ -134,7 +133,7 @@ fn sizes_above_96() {
     assert_eq!(tally.total(), 400);
 }
 
-/// The same calls over and over: nothing is kept from one to the next.
+/// Repeated calls: nothing is kept from one to the next.
 #[test]
 fn calls_keep_no_state() {
     let tally = check("calls keep no state", cases::repeated_calls(), any_outcome);
@@ -146,9 +145,9 @@ fn calls_keep_no_state() {
 struct Tally {
     opened: usize,
     singular: usize,
-    /// By the cause's number.
+    /// Counts of refusals, by the cause's number.
     refused: [usize; 5],
-    /// By the place of cause 2.
+    /// Counts of cause 2, by its place.
     short: [usize; 7],
 }
 

@@ -1,10 +1,13 @@
-//! Session calls through the C entries beside the plain reading, on all cases:
-//! the number and every byte of every buffer.
+//! The session cases, which tests/c/replay.c runs through the C entries, judged
+//! by themselves: whether each outcome occurs often enough. And calls through the
+//! C entries that no stream of cases has: lists beside the plain model and beside
+//! single calls, and lists too long for a stream.
 
+use host_tests::lists::{self, FaultyList};
 use host_tests::random::Random;
 use host_tests::session::{Request, SessionCase, State};
 use host_tests::tally::SessionTally;
-use host_tests::{lists, runs, session_cases as cases};
+use host_tests::{runs, session_cases as cases};
 use reference::graph::Graph;
 use reference::model::Model;
 use reference::numbers::pair_number;
@@ -18,10 +21,8 @@ const ROW: usize = 4;
 const REPLAY: usize = 5;
 
 fn check(name: &str, family: impl Iterator<Item = SessionCase>) -> SessionTally {
-    let mut guards = Random::new(2000);
     let mut tally = SessionTally::default();
     for case in family {
-        case.check(&mut guards);
         tally.count(&case);
     }
     tally.print(name);
@@ -84,7 +85,8 @@ fn sessions_of_four() {
     }
 }
 
-/// Refused with the cause of the fault; where it has none the session is sound.
+/// Checks that a case is refused with the cause of its fault, and that the session
+/// is sound if the fault has none.
 fn check_fault(case: &SessionCase, cause: u64) {
     let found = case.cause();
     let list = matches!(case.call.request, Request::Replay { .. });
@@ -171,6 +173,44 @@ fn faulty_lists() {
     assert!(tally.of(REPLAY, 12) > 1000 && tally.of(REPLAY, 13) > 1000);
 }
 
+/// Checks that the lowest cause is returned, and that the answers are left as they
+/// were.
+fn check_several_causes(faulty: &FaultyList) {
+    let FaultyList {
+        case,
+        session,
+        list,
+    } = faulty;
+    let lowest = [*session, *list]
+        .into_iter()
+        .filter(|&cause| cause != 0)
+        .min();
+    assert_eq!(case.cause(), lowest.unwrap_or(0), "{}", case.name);
+    if lowest == Some(2) {
+        let buffer = case.number >> 16;
+        assert_eq!(buffer == 10, *session != 2, "{}", case.name);
+    }
+    if lowest.is_some() {
+        assert_eq!(case.call, case.after, "{}", case.name);
+    }
+}
+
+#[test]
+fn several_causes() {
+    let mut both = 0;
+    let checked = lists::several_causes().map(|faulty| {
+        check_several_causes(&faulty);
+        both += usize::from(faulty.session != 0 && faulty.list != 0);
+        faulty.case
+    });
+    let tally = check("several causes", checked);
+    assert!(both > 5000, "{both}");
+    for cause in [0, 1, 2, 3, 4, 5, 6, 12, 13] {
+        assert!(tally.of(REPLAY, cause) > 100, "{cause}");
+    }
+    assert!(tally.short[10] > 1000 && tally.short[1..=4].iter().all(|&count| count > 10));
+}
+
 #[test]
 fn long_lists() {
     let tally = check("long lists", lists::long_lists());
@@ -179,18 +219,21 @@ fn long_lists() {
 
 #[test]
 fn longest_lists() {
-    let tally = check("longest lists", lists::longest_lists());
+    let mut guards = Random::new(2000);
+    let family = lists::longest_lists().inspect(|case| case.check(&mut guards));
+    let tally = check("longest lists", family);
     assert_eq!((tally.of(REPLAY, 12), tally.of(REPLAY, 13)), (5, 5));
 }
 
-/// What the plain model, fed the list only, answers to each call; the model.
+/// Returns what the plain model, fed the list only, answers to each call, and the
+/// model after them.
 fn by_model(graph: &Graph, calls: &[u64]) -> (Vec<u64>, Model) {
     let mut model = Model::new();
     let mut numbers = Vec::new();
     for call in calls.chunks(3) {
         let answer = match call[0] {
-            1 => model.match_pair(graph, call[1], call[2]),
-            2 => model.match_lowest(graph),
+            1 => model.pick(graph, call[1], call[2]),
+            2 => model.automatic(graph),
             _ => model.undo(graph),
         };
         let session = model.session(graph);
@@ -199,7 +242,8 @@ fn by_model(graph: &Graph, calls: &[u64]) -> (Vec<u64>, Model) {
     (numbers, model)
 }
 
-/// Automatic picks through their entry until one is refused: how many.
+/// Makes automatic picks through their entry until one is refused, and counts
+/// them.
 fn picks_to_come(state: &State) -> u64 {
     let mut state = state.clone();
     for picks in 0.. {
@@ -234,11 +278,11 @@ fn logs_beside_the_plain_model() {
         let session = model.session(&graph);
         assert_eq!(number, 0x500 | session.pairs << 32, "{}", case.name);
         let n = graph.size();
-        assert_eq!(found.state.sequence[..n], model.order(&graph));
+        assert_eq!(found.state.sequence[..n], model.sequence(&graph));
         let inverse = words_from_bytes(&found.state.inverse[..2 * n * n]);
         assert_eq!(Some(inverse), model.inverse(&graph), "{}", case.name);
         found.state.made = session.pairs;
-        assert_eq!(picks_to_come(&found.state), model.steps_to_come(&graph));
+        assert_eq!(picks_to_come(&found.state), model.picks_to_come(&graph));
         made += numbers.len();
     }
     assert!(made > 15_000, "{made}");
@@ -250,8 +294,8 @@ fn logs() {
     assert_eq!(tally.of(REPLAY, 0), tally.total());
 }
 
-/// The numbers of the calls of a list, made one by one through their entries,
-/// and the session they leave.
+/// Makes the calls of a list one by one through their entries. Returns their
+/// numbers and the session they leave.
 fn one_by_one(case: &SessionCase, calls: &[u64]) -> (Vec<u64>, SessionCase) {
     let mut state = case.call.state.clone();
     let mut numbers = Vec::new();
@@ -274,7 +318,8 @@ fn one_by_one(case: &SessionCase, calls: &[u64]) -> (Vec<u64>, SessionCase) {
 }
 
 /// A list through its entry beside its calls through theirs: the answers, every
-/// byte left, and the pairs made.
+/// byte left, and the pairs made. A refused list writes no answer, and every
+/// single call is refused like it.
 #[test]
 fn lists_beside_single_calls() {
     let mut made = 0;
@@ -285,11 +330,12 @@ fn lists_beside_single_calls() {
             panic!("{} is no list", case.name);
         };
         let (singles, left) = one_by_one(&case, calls);
-        assert_eq!(answers[..singles.len()], singles, "{}", case.name);
         if number & 0xFF == 0 {
+            assert_eq!(answers[..singles.len()], singles, "{}", case.name);
             assert_eq!(number, 0x500 | left.call.state.made << 32, "{}", case.name);
             found.state.made = left.call.state.made;
         } else {
+            assert_eq!(found.request, case.call.request, "{}", case.name);
             assert!(singles.iter().all(|&single| single == number));
         }
         assert_eq!(found.state, left.call.state, "{}", case.name);

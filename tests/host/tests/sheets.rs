@@ -1,5 +1,6 @@
-//! Sheets and draws through the C entries beside the plain reading, on all
-//! cases: the number and every byte of every buffer.
+//! The cases of sheets and draws, which tests/c/replay.c runs through the C
+//! entries, judged by themselves: whether each outcome occurs often enough. And
+//! what the entries do together.
 
 use host_tests::call::Call;
 use host_tests::entry::{self, Written};
@@ -9,21 +10,19 @@ use host_tests::graphs::{self, Graph};
 use host_tests::random::Random;
 use std::collections::BTreeMap;
 
-/// How many calls had which cause, 0 for those carried out, at which place.
+/// Counts the calls by cause, 0 for those carried out, and place.
 type Tally = BTreeMap<(u64, u64), usize>;
 
 fn check(family: impl Iterator<Item = FillingCase>) -> Tally {
-    let mut guards = Random::new(3000);
     let mut tally = Tally::new();
     for case in family {
-        case.check(&mut guards);
         let place = if case.cause() == 0 { 0 } else { case.place() };
         *tally.entry((case.cause(), place)).or_default() += 1;
     }
     tally
 }
 
-/// How many calls had a cause, at any place.
+/// Counts the calls that had a cause, at any place.
 fn of_cause(tally: &Tally, cause: u64) -> usize {
     let counts = tally.iter().filter(|((found, _), _)| *found == cause);
     counts.map(|(_, count)| count).sum()
@@ -62,7 +61,7 @@ fn short_buffers() {
     }
 }
 
-/// Refused exactly when a buffer is short, the adjacency table first.
+/// Every length: refused exactly if a buffer is short, the adjacency first.
 #[test]
 fn every_length() {
     let checked = cases::every_length().inspect(|case| {
@@ -113,7 +112,7 @@ fn a_seed_gives_a_sheet_and_a_call_the_same_weights() {
     assert!(found > 1500, "{found}");
 }
 
-/// Whether the vertices of a set of bits can be matched with none left over.
+/// Whether the vertices of a set of bits have a perfect matching.
 fn has_perfect_matching(graph: &Graph, left: usize) -> bool {
     let first = left.trailing_zeros() as usize;
     let rest = left & left.wrapping_sub(1);
@@ -136,8 +135,8 @@ fn opens(random: &mut Random, graph: &Graph, weights: &[u8]) -> bool {
     entry::open(call.n, &call.adjacency, weights, written) == 0x100
 }
 
-/// Of the graphs that have a perfect matching all open with weights that are
-/// drawn, but for a few, and far fewer with weights that are all 1.
+/// Almost all graphs with a perfect matching open with drawn weights, and far
+/// fewer with weights that are all 1.
 #[test]
 fn weights_are_best_drawn() {
     let mut random = Random::new(27);

@@ -6,7 +6,7 @@ use crate::sheet::{Sheet, EDGE_LENGTH, FIRST_EDGE};
 /// How many kinds of damage there are.
 pub const KINDS: usize = 9;
 
-/// The bytes of a sheet with damage of one kind, or of several with the last.
+/// Damages the bytes of a sheet in one way, or in several with the last kind.
 pub fn damaged(random: &mut Random, sheet: &Sheet, kind: usize) -> Vec<u8> {
     let mut bytes = sheet.bytes();
     damage(random, sheet, &mut bytes, kind);
@@ -46,13 +46,13 @@ fn insert(bytes: &mut Vec<u8>, at: usize, value: u8) {
     bytes.insert(at.min(bytes.len()), value);
 }
 
-/// The offset of some edge record.
+/// Chooses the offset of an edge record.
 fn edge_offset(random: &mut Random, sheet: &Sheet) -> Option<usize> {
     let count = sheet.edges.len();
     (count > 0).then(|| FIRST_EDGE + EDGE_LENGTH * random.below(count))
 }
 
-/// A vertex of an edge record becomes the other one, n, or any number.
+/// Changes a vertex of an edge record to the other one, n, or any number.
 fn set_vertex(random: &mut Random, sheet: &Sheet, bytes: &mut [u8]) {
     let Some(offset) = edge_offset(random, sheet) else {
         return;
@@ -64,7 +64,7 @@ fn set_vertex(random: &mut Random, sheet: &Sheet, bytes: &mut [u8]) {
     set(bytes, this, value);
 }
 
-/// An edge record once more, in either order, somewhere behind it.
+/// Repeats an edge record, in either order, somewhere behind it.
 fn repeat_edge(random: &mut Random, sheet: &Sheet, bytes: &mut Vec<u8>) {
     let Some(offset) = edge_offset(random, sheet) else {
         return;

@@ -1,5 +1,4 @@
-//! The families of sheets. Each hands out its cases one after the other, the
-//! same ones every time.
+//! The families of sheets. Each yields the same cases every time.
 
 use crate::damage::{damaged, KINDS};
 use crate::random::Random;
@@ -20,7 +19,7 @@ impl Case {
     }
 }
 
-/// A sheet of n vertices in a random shape, with its records shuffled.
+/// Makes a sheet of n vertices in a random shape, with its records shuffled.
 fn of_shape(random: &mut Random, n: usize, shape: Shape) -> Sheet {
     let edges = if n == 0 { Vec::new() } else { shape(random, n) };
     let sheet = Sheet {
@@ -63,7 +62,7 @@ fn any_sheets(
     })
 }
 
-/// Sheets whose matrix has a low rank, and so a witness.
+/// Makes sheets whose matrix has a low rank, and so a witness.
 pub fn low_ranks() -> impl Iterator<Item = Case> {
     let mut random = Random::new(4);
     (0..200).map(move |round| {
@@ -73,7 +72,7 @@ pub fn low_ranks() -> impl Iterator<Item = Case> {
     })
 }
 
-/// Every size byte: a path through the vertices, for which a size above 96 is
+/// Makes every size byte, with a path through the vertices. A size above 96 is
 /// refused.
 pub fn every_size() -> impl Iterator<Item = Case> {
     (0..=255u8).map(|size| {
@@ -87,9 +86,9 @@ pub fn every_size() -> impl Iterator<Item = Case> {
     })
 }
 
-/// Seeds of every bit, at the ends, and such whose first draw comes from a high
-/// half above 65519. All vertices are adjacent, so the witness depends on every
-/// draw.
+/// Makes seeds of every bit, at the ends, and some whose first weight comes from a
+/// high half above 65519. All vertices are adjacent, so the witness depends on
+/// every weight.
 pub fn seeds() -> impl Iterator<Item = Case> {
     let mut random = Random::new(5);
     let mut seeds: Vec<u32> = (0..32).map(|bit| 1 << bit).collect();
@@ -105,8 +104,8 @@ pub fn seeds() -> impl Iterator<Item = Case> {
     })
 }
 
-/// Every byte in place of a kind: before each record of a good sheet and behind
-/// its end, with what follows there and without it.
+/// Makes every byte in place of a record-kind: before each record of a good sheet
+/// and behind its end, with what follows there and without it.
 pub fn every_kind() -> impl Iterator<Item = Case> {
     let sheet = Sheet::listed();
     sheet.offsets().into_iter().flat_map(move |offset| {
@@ -123,7 +122,7 @@ pub fn every_kind() -> impl Iterator<Item = Case> {
     })
 }
 
-/// Every prefix of good sheets, and some of the largest.
+/// Makes every prefix of good sheets, and some of the largest.
 pub fn every_prefix() -> impl Iterator<Item = Case> {
     let mut random = Random::new(6);
     let sheets = [
@@ -149,8 +148,8 @@ pub fn every_prefix() -> impl Iterator<Item = Case> {
         .map(|bytes| Case::new(format!("prefix of {} bytes", bytes.len()), bytes))
 }
 
-/// Every two vertices of a few as an edge record: as the first one, and behind
-/// two others.
+/// Makes an edge record of every two of a few vertices: as the first one, and
+/// behind two others.
 pub fn every_edge() -> impl Iterator<Item = Case> {
     let sizes: [(u8, &[u8]); 4] = [
         (0, &[0, 1, 255]),
@@ -190,7 +189,7 @@ pub fn damaged_sheets(count: usize) -> impl Iterator<Item = Case> {
     })
 }
 
-/// Any bytes, or small ones, or small ones behind a good beginning.
+/// Makes any bytes, or small ones, or small ones behind a good beginning.
 pub fn random_bytes(count: usize) -> impl Iterator<Item = Case> {
     let mut random = Random::new(9);
     (0..count).map(move |round| {
@@ -206,8 +205,8 @@ pub fn random_bytes(count: usize) -> impl Iterator<Item = Case> {
     })
 }
 
-/// The largest sheet; with a byte more, and a byte less; and inputs of about as
-/// many bytes as the program reads, and of more.
+/// Makes the largest sheet, with a byte more and a byte less, and inputs about as
+/// long as the program reads, and longer.
 pub fn long_inputs() -> impl Iterator<Item = Case> {
     let largest = Sheet::complete(96, 1).bytes();
     let [mut longer, mut unended] = [largest.clone(), largest.clone()];

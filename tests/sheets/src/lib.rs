@@ -1,5 +1,5 @@
-//! Seeded good and damaged sheets, and the comparison of the listing program
-//! with the plain reading. tests/host reads the same sheets through the C entry.
+//! Seeded good and damaged sheets, and the comparison of the listing program with
+//! the reference. tests/host reads the same sheets through the C entry.
 
 pub mod damage;
 pub mod families;

@@ -3,8 +3,8 @@
 use crate::sheet::{EDGE_LENGTH, FIRST_EDGE};
 use std::collections::BTreeMap;
 
-/// Every outcome that is told apart: the verdicts, and the refusals of the
-/// reader by cause and place. 2 is none of them: the program's buffers are long
+/// Every outcome that is told apart: the verdicts, and the refusals of the reader
+/// by cause and place. Cause 2 is not among them: the program's buffers are long
 /// enough.
 pub const OUTCOMES: [&str; 36] = [
     "F without a vertex",
@@ -45,7 +45,7 @@ pub const OUTCOMES: [&str; 36] = [
     "15, other order, later edge",
 ];
 
-/// The outcome of these bytes, whose listing is given.
+/// Names the outcome of these bytes, whose listing is given.
 pub fn outcome(bytes: &[u8], listing: &str) -> String {
     let words: Vec<&str> = listing.split_whitespace().collect();
     match words[..] {
@@ -117,7 +117,7 @@ fn bad_vertex(bytes: &[u8], place: usize) -> &'static str {
     }
 }
 
-/// Which earlier record names the same edge, the first one of them.
+/// Says which earlier record, the first of them, names the same edge.
 fn repeated(bytes: &[u8], place: usize) -> String {
     let edge = &bytes[place..place + EDGE_LENGTH];
     let is_same = |other: &[u8]| other == edge || other == [2, edge[2], edge[1]];
@@ -166,7 +166,7 @@ impl Tally {
         self.counts.values().sum()
     }
 
-    /// The outcomes that were met less often than this.
+    /// Lists the outcomes that were met less often than this.
     pub fn below(&self, count: usize) -> Vec<&'static str> {
         let rare = |outcome: &&str| self.of(outcome) < count;
         OUTCOMES.into_iter().filter(rare).collect()

@@ -11,7 +11,7 @@ use std::process::{Child, ChildStdin, Command, Output, Stdio};
 use std::thread;
 use std::time::Duration;
 
-/// The program that the environment variable SASZVIGOM_LIST names.
+/// The listing program, which the environment variable SASZVIGOM_LIST names.
 pub struct Program {
     path: PathBuf,
 }
@@ -22,14 +22,14 @@ impl Program {
         Program { path: path.into() }
     }
 
-    /// Runs it with these bytes, and compares what it prints with the plain
-    /// reading's listing, which is returned.
+    /// Runs it with these bytes, compares what it prints with the listing of the
+    /// reference, and returns that.
     pub fn check(&self, name: &str, bytes: &[u8]) -> String {
         self.check_pieces(name, &[bytes])
     }
 
-    /// The same with the bytes in pieces: each is written to the pipe once the
-    /// one before it has been read.
+    /// check, with the bytes in pieces: writes each to the pipe once the one before
+    /// it has been read.
     pub fn check_pieces(&self, name: &str, pieces: &[&[u8]]) -> String {
         let mut child = self.start(Stdio::piped());
         let mut input = child.stdin.take().expect("standard input");
@@ -44,8 +44,8 @@ impl Program {
         compare(name, child, &pieces.concat())
     }
 
-    /// The same with the bytes in a file. The program reads no more of it than
-    /// so many bytes.
+    /// check, with the bytes in a file, of which the program reads at most the
+    /// number given.
     pub fn check_file(&self, name: &str, bytes: &[u8], most: u64) -> String {
         let path = env::temp_dir().join(format!("saszvigom-{}-{name}", std::process::id()));
         std::fs::write(&path, bytes).expect("a file is written");
@@ -68,7 +68,7 @@ impl Program {
     }
 }
 
-/// Waits for the child to end; the listing expected.
+/// Waits for the child to end, and returns the listing expected.
 fn compare(name: &str, child: Child, bytes: &[u8]) -> String {
     let Output {
         status,

@@ -18,17 +18,17 @@ impl Random {
         mixed ^ (mixed >> 31)
     }
 
-    /// A number below a bound, which is not 0.
+    /// Returns a number below a bound, which is not 0.
     pub fn below(&mut self, bound: usize) -> usize {
         (self.number() % bound as u64) as usize
     }
 
-    /// A number from the first to the last.
+    /// Returns a number from the first to the last.
     pub fn between(&mut self, first: usize, last: usize) -> usize {
         first + self.below(last - first + 1)
     }
 
-    /// True so many times in a hundred.
+    /// Returns true with this chance in a hundred.
     pub fn percent(&mut self, chance: usize) -> bool {
         self.below(100) < chance
     }
@@ -41,7 +41,7 @@ impl Random {
         (0..count).map(|_| self.number() as u8).collect()
     }
 
-    /// The numbers below a count, shuffled.
+    /// Shuffles the numbers below a count.
     pub fn permutation(&mut self, count: usize) -> Vec<usize> {
         let mut numbers: Vec<usize> = (0..count).collect();
         for i in (1..count).rev() {

@@ -3,7 +3,7 @@
 use crate::random::Random;
 use std::collections::BTreeSet;
 
-/// The edges of a graph of so many vertices, smaller vertex first.
+/// Makes the edges of a graph of n vertices, smaller vertex first.
 pub type Edges = Vec<(u8, u8)>;
 pub type Shape = fn(&mut Random, usize) -> Edges;
 
@@ -18,7 +18,7 @@ pub const SHAPES: [Shape; 8] = [
     isolated,
 ];
 
-/// Shapes whose matrix has a low rank.
+/// The shapes whose matrix has a low rank.
 pub const LOW_RANKS: [Shape; 4] = [hubs, bipartite, odd_cliques, isolated];
 
 fn collect(edges: impl Iterator<Item = (usize, usize)>) -> Edges {
@@ -38,13 +38,13 @@ fn dense(random: &mut Random, n: usize) -> Edges {
     collect(pairs(n).filter(|_| random.percent(percent)))
 }
 
-/// From none to four neighbours a vertex, about.
+/// Makes about zero to four neighbours a vertex.
 fn sparse(random: &mut Random, n: usize) -> Edges {
     let count = random.between(0, 2 * n);
     collect((0..count).map(|_| (random.below(n), random.below(n))))
 }
 
-/// A perfect matching, but for one vertex where n is odd, and some edges more.
+/// Makes a perfect matching, without one vertex if n is odd, and some more edges.
 fn matched(random: &mut Random, n: usize) -> Edges {
     let order = random.permutation(n);
     let more = sparse(random, n);
@@ -57,7 +57,7 @@ fn matched(random: &mut Random, n: usize) -> Edges {
     )
 }
 
-/// A path through all vertices; sometimes closed to a ring.
+/// Makes a path through all vertices, sometimes closed to a ring.
 fn path(random: &mut Random, n: usize) -> Edges {
     let order = random.permutation(n);
     let closing = random.percent(50).then_some((order[0], order[n - 1]));
@@ -69,7 +69,7 @@ fn path(random: &mut Random, n: usize) -> Edges {
     )
 }
 
-/// Edges that all have an end among a few vertices: a star, or several.
+/// Makes edges that all have an end among a few vertices: a star, or several.
 fn hubs(random: &mut Random, n: usize) -> Edges {
     let order = random.permutation(n);
     let count = random.between(1, 1 + n / 8);
@@ -81,7 +81,7 @@ fn hubs(random: &mut Random, n: usize) -> Edges {
     collect(edges.filter(|_| random.percent(percent)))
 }
 
-/// Edges between two parts only, of any sizes.
+/// Makes edges between two parts only, of any sizes.
 fn bipartite(random: &mut Random, n: usize) -> Edges {
     let order = random.permutation(n);
     let (left, right) = order.split_at(random.between(0, n / 2));
@@ -92,7 +92,7 @@ fn bipartite(random: &mut Random, n: usize) -> Edges {
     collect(edges.filter(|_| random.percent(percent)))
 }
 
-/// Complete graphs beside each other, all of odd sizes.
+/// Makes complete graphs beside each other, all of odd sizes.
 fn odd_cliques(random: &mut Random, n: usize) -> Edges {
     let order = random.permutation(n);
     let mut rest = &order[..];
@@ -106,7 +106,7 @@ fn odd_cliques(random: &mut Random, n: usize) -> Edges {
     collect(edges.into_iter())
 }
 
-/// A few vertices without an edge, or many.
+/// Makes a few vertices without an edge, or many.
 fn isolated(random: &mut Random, n: usize) -> Edges {
     let most = random.choose(&[1, 3, n.div_ceil(2), n]);
     let left_out: Vec<usize> = (0..most).map(|_| random.below(n)).collect();

@@ -15,7 +15,7 @@ pub const FIRST_EDGE: usize = 7;
 pub const EDGE_LENGTH: usize = 3;
 
 impl Sheet {
-    /// The sheet that document 01 lists.
+    /// Makes the sheet that document 01 lists.
     pub fn listed() -> Sheet {
         Sheet {
             size: 4,
@@ -24,7 +24,7 @@ impl Sheet {
         }
     }
 
-    /// All vertices adjacent.
+    /// Makes a sheet of n vertices, all adjacent.
     pub fn complete(size: u8, seed: u32) -> Sheet {
         let edges = (0..size).flat_map(|i| (i + 1..size).map(move |j| (i, j)));
         Sheet {
@@ -34,7 +34,7 @@ impl Sheet {
         }
     }
 
-    /// The edges in random order, each with either vertex first.
+    /// Shuffles the edges, each with either vertex first.
     pub fn shuffled(&self, random: &mut Random) -> Sheet {
         let turned = |&(i, j): &(u8, u8), turn: bool| if turn { (j, i) } else { (i, j) };
         let order = random.permutation(self.edges.len());
@@ -57,7 +57,7 @@ impl Sheet {
         bytes
     }
 
-    /// The offset of every record, and the length.
+    /// Lists the offset of every record, and the length.
     pub fn offsets(&self) -> Vec<usize> {
         let edges = (0..=self.edges.len()).map(|index| FIRST_EDGE + EDGE_LENGTH * index);
         let mut offsets = vec![0, 2];

@@ -1,5 +1,5 @@
-//! The listing program beside the plain reading: what it prints for every
-//! sheet, byte for byte.
+//! The listing program beside the reference: what it prints for every sheet, byte
+//! for byte.
 
 use sheet_tests::families::{self, Case};
 use sheet_tests::outcomes::{outcome, Tally};

@@ -1,7 +1,6 @@
-//! Writes cases to standard output, for tests/c/replay.c to run them: `opening`
-//! those of opening, `sheets` those of reading sheets and drawing weights,
-//! `sessions N` every Nth of the session calls. What is expected is by the plain
-//! reading.
+//! Writes cases to standard output, for tests/c/replay.c to run them: every Nth
+//! of opening (`opening N`), of reading sheets and drawing weights (`sheets N`),
+//! or of the session calls (`sessions N`). The reference says what is expected.
 
 use host_tests::stream::Stream;
 use host_tests::{cases, filling_cases, session_cases};
@@ -11,14 +10,17 @@ use std::process::ExitCode;
 
 fn main() -> ExitCode {
     let arguments: Vec<String> = env::args().skip(1).collect();
-    let arguments: Vec<&str> = arguments.iter().map(String::as_str).collect();
-    let written = match arguments[..] {
-        ["opening"] => write_openings(),
-        ["sheets"] => write_fillings(),
-        ["sessions", stride] => match stride.parse() {
-            Ok(stride) if stride > 0 => write_sessions(stride),
-            _ => return usage(),
-        },
+    let [family, stride] = &arguments[..] else {
+        return usage();
+    };
+    let stride = match stride.parse() {
+        Ok(stride) if stride > 0 => stride,
+        _ => return usage(),
+    };
+    let written = match family.as_str() {
+        "opening" => write_openings(stride),
+        "sheets" => write_fillings(stride),
+        "sessions" => write_sessions(stride),
         _ => return usage(),
     };
     match written {
@@ -31,21 +33,21 @@ fn main() -> ExitCode {
 }
 
 fn usage() -> ExitCode {
-    eprintln!("usage: cases opening | cases sheets | cases sessions N");
+    eprintln!("usage: cases opening N | cases sheets N | cases sessions N");
     ExitCode::from(2)
 }
 
-fn write_openings() -> io::Result<()> {
+fn write_openings(stride: usize) -> io::Result<()> {
     let mut stream = Stream::new(BufWriter::new(io::stdout().lock()));
-    for case in cases::all() {
+    for case in cases::all().step_by(stride) {
         stream.opening(&case)?;
     }
     stream.end()
 }
 
-fn write_fillings() -> io::Result<()> {
+fn write_fillings(stride: usize) -> io::Result<()> {
     let mut stream = Stream::new(BufWriter::new(io::stdout().lock()));
-    for case in filling_cases::all() {
+    for case in filling_cases::all().step_by(stride) {
         stream.filling(&case)?;
     }
     stream.end()

@@ -1,6 +1,6 @@
-//! Runs session calls through the C entries beside the plain reading: `long
-//! COUNT FIRST` at least COUNT calls, with the seeds from FIRST on. Ends with a
-//! panic that names the seed at the first difference.
+//! Runs session calls through the C entries beside the reference: `long COUNT
+//! FIRST` at least COUNT calls, with the seeds from FIRST on. Panics at the first
+//! difference, and names its seed.
 
 use host_tests::random::Random;
 use host_tests::seeds::of_seed;
@@ -33,7 +33,7 @@ fn main() -> ExitCode {
     ExitCode::SUCCESS
 }
 
-/// Lets no further seed be taken once a thread has met a difference.
+/// Stops all threads once one has met a difference.
 struct StopOnPanic<'a>(&'a AtomicUsize);
 
 impl Drop for StopOnPanic<'_> {
@@ -44,7 +44,7 @@ impl Drop for StopOnPanic<'_> {
     }
 }
 
-/// Takes one seed after the other until there were so many calls in all.
+/// Takes one seed after the other until count calls were made in all.
 fn run(seeds: &AtomicU64, calls: &AtomicUsize, count: usize) -> SessionTally {
     let _stop = StopOnPanic(calls);
     let mut tally = SessionTally::default();

@@ -1,6 +1,6 @@
 //! Faults of the size, of lengths, and of the graph.
 
-use super::places::{adjacent, all_pairs, choice, set_cells, set_weight, size, unmatched_two};
+use super::places::{adjacent, choice, every_two, set_cells, set_weight, size, unmatched_two};
 use crate::damage::any_large_size;
 use crate::random::Random;
 use crate::session::State;
@@ -35,7 +35,7 @@ pub fn adjacency_above_one(random: &mut Random, state: &mut State) -> bool {
 }
 
 pub fn adjacency_unlike_mirror(random: &mut Random, state: &mut State) -> bool {
-    let Some((i, j)) = choice(random, &all_pairs(size(state), |_, _| true)) else {
+    let Some((i, j)) = choice(random, &every_two(size(state), |_, _| true)) else {
         return false;
     };
     let cell = random.choose(&[i * size(state) + j, j * size(state) + i]);
@@ -71,15 +71,15 @@ pub fn weight_too_large(random: &mut Random, state: &mut State) -> bool {
 }
 
 pub fn edge_changed(random: &mut Random, state: &mut State) -> bool {
-    let linked = random.percent(50);
-    let Some((i, j)) = unmatched_two(random, state, linked) else {
+    let edge = random.percent(50);
+    let Some((i, j)) = unmatched_two(random, state, edge) else {
         return false;
     };
-    set_cells(state, i, j, u8::from(!linked));
+    set_cells(state, i, j, u8::from(!edge));
     true
 }
 
-/// Another weight from 1 to 65520 for two vertices.
+/// Changes the weight of two vertices to another one from 1 to 65520.
 fn change_weight(random: &mut Random, state: &mut State, i: usize, j: usize) {
     let index = state.graph().weight_index(i, j);
     let weight = words_from_bytes(&state.weights)[index];
@@ -97,7 +97,7 @@ pub fn weight_of_edge_changed(random: &mut Random, state: &mut State) -> bool {
 }
 
 pub fn weight_without_edge(random: &mut Random, state: &mut State) -> bool {
-    let pairs = all_pairs(size(state), |i, j| !adjacent(state, i, j));
+    let pairs = every_two(size(state), |i, j| !adjacent(state, i, j));
     let Some((i, j)) = choice(random, &pairs) else {
         return false;
     };
@@ -105,10 +105,10 @@ pub fn weight_without_edge(random: &mut Random, state: &mut State) -> bool {
     true
 }
 
-/// An edge with a matched vertex is no part of the inverse.
+/// Adds an edge with a matched vertex, which makes no difference to the inverse.
 pub fn edge_of_matched_added(random: &mut Random, state: &mut State) -> bool {
     let left = state.unmatched();
-    let pairs = all_pairs(size(state), |i, j| {
+    let pairs = every_two(size(state), |i, j| {
         let matched = !left.contains(&i) || !left.contains(&j);
         matched && !adjacent(state, i, j)
     });

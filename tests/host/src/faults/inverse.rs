@@ -1,12 +1,12 @@
 //! Faults of the inverse.
 
-use super::places::{all_pairs, any_pair, choice, size, unmatched_two};
+use super::places::{any_pair, choice, every_two, size, unmatched_two};
 use crate::graphs::P;
 use crate::random::Random;
 use crate::session::{inverse_without, State};
 use reference::words::bytes_from_words;
 
-/// A random place in the table; none without vertices.
+/// Chooses a cell of the table. None if there are no vertices.
 fn any_place(random: &mut Random, state: &State) -> Option<(usize, usize)> {
     let n = size(state);
     (n > 0).then(|| (random.below(n), random.below(n)))
@@ -21,7 +21,7 @@ pub fn word_too_large(random: &mut Random, state: &mut State) -> bool {
     true
 }
 
-/// The same residue, stored as a word that is too large.
+/// Adds the modulus to a word, which then stores no residue.
 pub fn word_plus_modulus(random: &mut Random, state: &mut State) -> bool {
     let n = size(state);
     let places: Vec<(usize, usize)> = (0..n * n).map(|at| (at / n, at % n)).collect();
@@ -37,7 +37,7 @@ pub fn word_plus_modulus(random: &mut Random, state: &mut State) -> bool {
     true
 }
 
-/// Another residue in the place of a word.
+/// Changes a word to another residue.
 fn change_word(random: &mut Random, state: &mut State, i: usize, j: usize) -> u64 {
     let more = random.choose(&[1, 2, 255, 256, 32768, P - 1, 30103]);
     let word = (u64::from(state.word(i, j)) + more) % P;
@@ -54,7 +54,7 @@ pub fn word_on_diagonal(random: &mut Random, state: &mut State) -> bool {
 }
 
 pub fn word_above_diagonal(random: &mut Random, state: &mut State) -> bool {
-    let Some((i, j)) = choice(random, &all_pairs(size(state), |_, _| true)) else {
+    let Some((i, j)) = choice(random, &every_two(size(state), |_, _| true)) else {
         return false;
     };
     change_word(random, state, i, j);
@@ -62,16 +62,16 @@ pub fn word_above_diagonal(random: &mut Random, state: &mut State) -> bool {
 }
 
 pub fn word_below_diagonal(random: &mut Random, state: &mut State) -> bool {
-    let Some((i, j)) = choice(random, &all_pairs(size(state), |_, _| true)) else {
+    let Some((i, j)) = choice(random, &every_two(size(state), |_, _| true)) else {
         return false;
     };
     change_word(random, state, j, i);
     true
 }
 
-/// Skew as before, but another matrix.
+/// Changes a word and its mirror, so that the matrix is still skew.
 pub fn word_and_mirror(random: &mut Random, state: &mut State) -> bool {
-    let Some((i, j)) = choice(random, &all_pairs(size(state), |_, _| true)) else {
+    let Some((i, j)) = choice(random, &every_two(size(state), |_, _| true)) else {
         return false;
     };
     let more = change_word(random, state, i, j);
@@ -94,7 +94,7 @@ pub fn word_of_matched(random: &mut Random, state: &mut State) -> bool {
     true
 }
 
-/// Changes words by their place and their mirror; false where all are as before.
+/// Changes words by their cell and their mirror. False if all are as before.
 fn rewrite(state: &mut State, word: impl Fn(usize, usize, u16, u16) -> u16) -> bool {
     let before = state.clone();
     let n = size(state);
@@ -107,7 +107,7 @@ fn rewrite(state: &mut State, word: impl Fn(usize, usize, u16, u16) -> u16) -> b
     *state != before
 }
 
-/// Below the diagonal stands 0, the mirror itself, or a multiple of the word.
+/// Sets the words below the diagonal to 0, to their mirror, or to a multiple.
 pub fn right_above_only(random: &mut Random, state: &mut State) -> bool {
     let wrong = wrong_side(random);
     rewrite(
@@ -150,7 +150,7 @@ pub fn words_exchanged(random: &mut Random, state: &mut State) -> bool {
     first != second
 }
 
-/// Puts the inverse that belongs to another sequence.
+/// Writes the inverse that belongs to another sequence.
 fn put_inverse_of(state: &mut State, sequence: &[u8]) -> bool {
     let Some(words) = inverse_without(&state.graph(), sequence) else {
         return false;

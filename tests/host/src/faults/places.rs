@@ -7,7 +7,7 @@ pub fn size(state: &State) -> usize {
     state.n as usize
 }
 
-/// A choice from a list, if it is not empty.
+/// Chooses from a list. None if it is empty.
 pub fn choice<T: Copy>(random: &mut Random, choices: &[T]) -> Option<T> {
     if choices.is_empty() {
         None
@@ -16,8 +16,8 @@ pub fn choice<T: Copy>(random: &mut Random, choices: &[T]) -> Option<T> {
     }
 }
 
-/// All i < j that are so.
-pub fn all_pairs(n: usize, holds: impl Fn(usize, usize) -> bool) -> Vec<(usize, usize)> {
+/// Lists the i < j below n for which holds is true.
+pub fn every_two(n: usize, holds: impl Fn(usize, usize) -> bool) -> Vec<(usize, usize)> {
     let mut pairs = Vec::new();
     for i in 0..n {
         pairs.extend((i + 1..n).filter(|&j| holds(i, j)).map(|j| (i, j)));
@@ -29,12 +29,12 @@ pub fn adjacent(state: &State, i: usize, j: usize) -> bool {
     state.adjacency[i * size(state) + j] == 1
 }
 
-/// Two unmatched vertices i < j, adjacent or not.
-pub fn unmatched_two(random: &mut Random, state: &State, linked: bool) -> Option<(usize, usize)> {
+/// Chooses two unmatched vertices i < j, adjacent exactly if edge is true.
+pub fn unmatched_two(random: &mut Random, state: &State, edge: bool) -> Option<(usize, usize)> {
     let left = state.unmatched();
     let both = |i, j| left.contains(&i) && left.contains(&j);
-    let pairs = all_pairs(size(state), |i, j| {
-        both(i, j) && adjacent(state, i, j) == linked
+    let pairs = every_two(size(state), |i, j| {
+        both(i, j) && adjacent(state, i, j) == edge
     });
     choice(random, &pairs)
 }
@@ -54,7 +54,7 @@ pub fn set_pair(state: &mut State, index: usize, pair: (usize, usize)) {
     state.sequence[2 * index + 1] = pair.1 as u8;
 }
 
-/// The index of a random pair.
+/// Chooses the index of a pair.
 pub fn any_pair(random: &mut Random, state: &State) -> Option<usize> {
     (state.made > 0).then(|| random.below(state.made as usize))
 }

@@ -1,7 +1,7 @@
 //! Faults of the pairs made and of the sequence.
 
 use super::places::{
-    adjacent, all_pairs, any_pair, choice, set_cells, set_pair, size, unmatched_two,
+    adjacent, any_pair, choice, every_two, set_cells, set_pair, size, unmatched_two,
 };
 use crate::random::Random;
 use crate::session::State;
@@ -12,7 +12,7 @@ pub fn made_above_half(random: &mut Random, state: &mut State) -> bool {
     true
 }
 
-/// Multiples of 2^8, 2^16, 2^32 and 2^63 more.
+/// Adds a multiple of 2^8, 2^16, 2^32 or 2^63 to the pairs made.
 pub fn made_with_high_bit(random: &mut Random, state: &mut State) -> bool {
     let factor = random.between(1, 255) as u64;
     let more = random.choose(&[
@@ -76,7 +76,7 @@ pub fn pair_twice(random: &mut Random, state: &mut State) -> bool {
     true
 }
 
-/// A pair becomes an edge from a vertex of another pair to one of no other.
+/// Changes a pair to an edge from a vertex of another pair to one of no other.
 pub fn vertex_in_two_pairs(random: &mut Random, state: &mut State) -> bool {
     let Some(index) = any_pair(random, state) else {
         return false;
@@ -84,7 +84,7 @@ pub fn vertex_in_two_pairs(random: &mut Random, state: &mut State) -> bool {
     let mut others = state.pairs();
     others.remove(index);
     let in_other = |v| others.iter().any(|&(i, j)| i == v || j == v);
-    let pairs = all_pairs(size(state), |i, j| {
+    let pairs = every_two(size(state), |i, j| {
         adjacent(state, i, j) && in_other(i) != in_other(j)
     });
     match choice(random, &pairs) {
@@ -117,7 +117,7 @@ pub fn unused_within_pairs(random: &mut Random, state: &mut State) -> bool {
     true
 }
 
-/// A pair becomes two vertices of no pair that are not adjacent.
+/// Changes a pair to two vertices of no pair that are not adjacent.
 pub fn pair_not_adjacent(random: &mut Random, state: &mut State) -> bool {
     let (Some(index), Some(pair)) = (any_pair(random, state), unmatched_two(random, state, false))
     else {
@@ -127,7 +127,7 @@ pub fn pair_not_adjacent(random: &mut Random, state: &mut State) -> bool {
     true
 }
 
-pub fn pair_unlinked(random: &mut Random, state: &mut State) -> bool {
+pub fn edge_of_pair_removed(random: &mut Random, state: &mut State) -> bool {
     let Some(index) = any_pair(random, state) else {
         return false;
     };
@@ -155,7 +155,7 @@ pub fn last_byte(random: &mut Random, state: &mut State) -> bool {
     true
 }
 
-/// A pair becomes two other vertices that are adjacent.
+/// Changes a pair to two other vertices that are adjacent.
 pub fn another_pair(random: &mut Random, state: &mut State) -> bool {
     let (Some(index), Some(pair)) = (any_pair(random, state), unmatched_two(random, state, true))
     else {
