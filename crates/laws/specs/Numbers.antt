@@ -29,7 +29,7 @@ use Rattle.laws.specs.History.{Change, appended, removed, unchanged, cha
 use Rattle.laws.specs.Sequence.{length-pairs-on}
 use Rattle.laws.specs.Sound.{when-absent, opening-accepted, Sound, session-accepted, more-accepted}
 use Rattle.laws.specs.Carried.{handles-some, handles-unique, picked-exactly}
-use Rattle.laws.specs.Outcomes.{row-unique, replays-some, replays-unique}
+use Rattle.laws.specs.Outcomes.{row-unique, replay-accepted, replays-some, replays-unique}
 
 module _ (cause kind value made : ℕ) (c : cause < 2 ^ 8) (k : kind < 2 ^ 8) (v : value < 2 ^ 16) where
   pub cause-field : number cause kind value made % 2 ^ 8 ≡ cause
@@ -384,7 +384,7 @@ module _ {p : ℕ} (P : OddPrime p) (S : Subset) where
   unfolding row-ruling
   row-small {s} {a = a} {row = row} (shows e) =
       made-few s
-      (more-accepted p S s (lent-row (s .session .size) (length row) ∷ []) (needs 7 (decLt a (s .session .size)) ∷ needs 8 (in? (unmatched S (pairs-of s)) a) ∷ []) e .0)
+      (more-accepted p S s (lent-row (s .session .size) (length row) ∷ []) (needs 7 (decLt a (s .session .size)) ∷ needs 8 (in? (unmatched S (pairs-of s)) a) ∷ []) .0 e .0)
   row-small {s} {a = a} {row = row} (row-refused r e) =
       session-small s (lent-row (s .session .size) (length row) ∷ []) (needs 7 (decLt a (s .session .size)) ∷ needs 8 (in? (unmatched S (pairs-of s)) a) ∷ []) (omega arith, tt)
       (omega arith, omega arith, at-zero (not? (decLt a (s .session .size))), (omega arith, omega arith, at-zero (not? (in? (unmatched S (pairs-of s)) a)), tt)) e
@@ -413,7 +413,7 @@ module _ {p : ℕ} (P : OddPrime p) (S : Subset) where
   replays-small {s} {numbers = numbers} {answers = answers} (refuses-replay r e) =
       session-small s (lent-answers (call-count numbers) (length answers) ∷ []) (list-causes numbers) (omega arith, tt) (list-small numbers) e
   replays-small {s} {numbers = numbers} {answers = answers} (replays returned e runs) =
-      run-made runs (made-few s (more-accepted p S s (lent-answers (call-count numbers) (length answers) ∷ []) (list-causes numbers) e .0))
+      run-made runs (made-few s (replay-accepted P S s numbers answers .0 e .0))
 
   -- open row through the host has an outcome, and no other
   pub host-row-some : (s : State) (a : ℕ) (row : List ℕ) → (k : ℕ) × (t : State) × (after : List ℕ) × HostShowsRow P S s a row k t after

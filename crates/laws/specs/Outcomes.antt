@@ -1,6 +1,7 @@
 -- Open row, replay, the reader and the listing have exactly one outcome each. Assumes nothing.
 use mathlib.Core.Path.{_≡_, refl, sym, ap, _∙_}
-use mathlib.Core.List.{List, [], _++_}
+use mathlib.Core.Logic.{_↔_}
+use mathlib.Core.List.{List, [], _∷_, _++_}
 use Prim.Native.Nat.{ℕ}
 use native.Mathlib.Omega.{arith}
 use lib.ListN.{length, take, replicate}
@@ -9,17 +10,19 @@ use Rattle.residue.specs.Modulus.{modulus, modulus-prime}
 use Rattle.skew.specs.Subset.{Subset}
 use Rattle.skew.specs.Decide.{Outcome, inverse, column, outcome, witness-singular}
 use Rattle.skew.specs.Matching.{invertible-even}
-use Rattle.matching.specs.Decision.{Refusal, Ruling, accepted, refused}
+use Rattle.matching.specs.Decision.{Refusal, Ruling, accepted, refused, judge}
 use Rattle.matching.specs.Graph.{Graph, tutte}
 use Rattle.matching.specs.Pairs.{Pair, everything, unmatched}
 use Rattle.matching.specs.Session.{State, onto}
+use Rattle.matching.specs.Causes.{LongEnough, session-ruling}
 use Rattle.matching.specs.Opening.{Singular}
 use Rattle.matching.specs.Model.{skew, automatic, pairs-after, Nonsingular, PicksToCome}
 use Rattle.matching.specs.Calls.{state-after, row-ruling, ShowsRow, shows, row-refused}
-use Rattle.matching.specs.Replay.{calls-of, replay-ruling, numbers-of, Replays, refuses-replay, replays}
+use Rattle.matching.specs.Replay.{call-count, calls-of, lent-answers, list-causes, replay-ruling, numbers-of, Replays, refuses-replay, replays}
 use Rattle.matching.specs.Records.{Reading, sheet, unread, ReadsFrom, ReadsAs, graph, Read, not-read, graph-read, room, FillsFrom, refuses-records, lacks-room, fills}
 use Rattle.matching.specs.Computed.{read-from, read}
 use Rattle.matching.specs.Listing.{input-limit, first-line, pair-lines, witness-lines, line-full, line-none, refused-line, Lists, refuses-sheet, pairs-up, shows-witness}
+use Rattle.laws.specs.Sound.{more-accepted}
 use Rattle.laws.specs.Carried.{runs-some, runs-unique}
 use Rattle.laws.specs.Facts.{picks-to-come, picks-to-come-half}
 use Rattle.laws.specs.Determined.{singular-of, singular-unique}
@@ -44,6 +47,13 @@ module _ {p : ℕ} (P : OddPrime p) (S : Subset) where
   row-unique (row-refused r e) (row-refused r′ e′) = (cc, refl, refl)
 
 module _ {p : ℕ} (P : OddPrime p) (S : Subset) where
+  -- a replay is not refused exactly when the session is sound, there is room for the answers, and the list is in order
+  pub replay-accepted : (s : State) (numbers answers : List ℕ)
+      → (replay-ruling P S s numbers answers ≡ accepted)
+      ↔ ((session-ruling p S s ≡ accepted) × LongEnough (lent-answers (call-count numbers) (length answers) ∷ []) × (judge (list-causes numbers) ≡ accepted))
+  unfolding replay-ruling
+  replay-accepted s numbers answers = more-accepted p S s (lent-answers (call-count numbers) (length answers) ∷ []) (list-causes numbers)
+
   pub replays-some : (s : State) (numbers answers : List ℕ) → (v : Ruling) × (t : State) × (after : List ℕ) × Replays P S s numbers answers v t after
   replays-some s numbers answers = go (replay-ruling P S s numbers answers) refl
     where

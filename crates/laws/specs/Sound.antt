@@ -162,19 +162,29 @@ session-accepted p S s =
     (λ e. o .0 (r .0 e), λ h. r .1 (o .1 h))
 
 -- the causes of two lists, and the buffers of two
-none-both : (a b : List Cause) → NoneApplies (a ++ b) → NoneApplies a × NoneApplies b
-none-both [] b h = (tt, h)
-none-both (c ∷ a) b h = let k = none-both a b (h .1) in ((h .0, k .0), k .1)
+none-both : (a b : List Cause) → NoneApplies (a ++ b) ↔ (NoneApplies a × NoneApplies b)
+none-both [] b = (λ h. (tt, h), λ h. h .1)
+none-both (c ∷ a) b = let k = none-both a b in (λ h. ((h .0, k .0 (h .1) .0), k .0 (h .1) .1), λ h. (h .0 .0, k .1 (h .0 .1, h .1)))
 
-long-both : (a b : List Lent) → LongEnough (a ++ b) → LongEnough a × LongEnough b
-long-both [] b h = (tt, h)
-long-both (x ∷ a) b h = let k = long-both a b (h .1) in ((h .0, k .0), k .1)
+long-both : (a b : List Lent) → LongEnough (a ++ b) ↔ (LongEnough a × LongEnough b)
+long-both [] b = (λ h. (tt, h), λ h. h .1)
+long-both (x ∷ a) b = let k = long-both a b in (λ h. ((h .0, k .0 (h .1) .0), k .0 (h .1) .1), λ h. (h .0 .0, k .1 (h .0 .1, h .1)))
 
--- a session call that is lent `more` besides and looks at `later` after 1 to 6, where it is accepted
-pub more-accepted : (p : ℕ) (S : Subset) (s : State) (more : List Lent) (later : List Cause) → judge (session-causes p S s more ++ later) ≡ accepted
-    → (session-ruling p S s ≡ accepted) × LongEnough more × (judge later ≡ accepted)
-more-accepted p S s more later e =
-    let none = none-both (session-causes p S s more) later (judge-accepted (session-causes p S s more ++ later) .0 e) in
-    let ok = session-in-order p S s more .0 (none .0) in
-    let long = long-both (lent-to-session s []) more (ok .0) in
-    (session-accepted p S s .1 (long .0, ok .1), long .1, judge-accepted later .1 (none .1))
+-- a session call that is lent `more` besides and looks at `later` after 1 to 6 is accepted exactly when the session is sound, these are long
+-- enough, and none of the later causes applies
+pub more-accepted : (p : ℕ) (S : Subset) (s : State) (more : List Lent) (later : List Cause)
+    → (judge (session-causes p S s more ++ later) ≡ accepted) ↔ ((session-ruling p S s ≡ accepted) × LongEnough more × (judge later ≡ accepted))
+more-accepted p S s more later =
+    let r = judge-accepted (session-causes p S s more ++ later) in
+    let n = none-both (session-causes p S s more) later in
+    let o = session-in-order p S s more in
+    let l = long-both (lent-to-session s []) more in (
+      λ e.
+          let none = n .0 (r .0 e) in
+          let ok = o .0 (none .0) in
+          let long = l .0 (ok .0) in
+          (session-accepted p S s .1 (long .0, ok .1), long .1, judge-accepted later .1 (none .1)),
+      λ h.
+          let ok = session-accepted p S s .0 (h .0) in
+          r .1 (n .1 (o .1 (l .1 (ok .0, h .1), ok .1), judge-accepted later .0 (h .2))),
+    )

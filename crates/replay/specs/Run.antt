@@ -17,9 +17,10 @@ use Rattle.matching.specs.Calls.{Returned, state-after, Handles, Runs, none, mo
 use Rattle.matching.specs.Host.{answer-number}
 use Rattle.matching.specs.Replay.{call-of, call-count, first-calls, calls-of, lent-answers, list-causes, replay-ruling, numbers-of, Replays, replays, refuses-replay, DemandThreeOf}
 use Rattle.matching.specs.Demand.{FollowsModel}
-use Rattle.laws.specs.Sound.{judge-first, judge-second, more-accepted}
+use Rattle.laws.specs.Sound.{judge-first, judge-second}
 use Rattle.laws.specs.Carried.{refused-keeps, runs-unique, runs-more}
 use Rattle.laws.specs.Demand.{follows}
+use Rattle.laws.specs.Outcomes.{replay-accepted}
 
 -- whether a call was accepted, after one more answer
 abbrev pub changed-by : Bool → Answer → Bool
@@ -121,7 +122,7 @@ module _ (s : State) (numbers answers : List ℕ) where
   unfolding pairs-on
   replays-follow (refuses-replay r e) ok _ = absurd (let z : _≡_ {A = ℕ} 0 1 = cc in omega arith)
   replays-follow (replays returned _ runs) ok unpaired =
-      let sound = more-accepted modulus everything s (lent-answers (call-count numbers) (length answers) ∷ []) (list-causes numbers) (sym whole ∙ ok) .0 in
+      let sound = replay-accepted modulus-prime everything s numbers answers .0 ok .0 in
       record {
         returned = returned;
         runs = runs;

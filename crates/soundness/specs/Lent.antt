@@ -66,7 +66,7 @@ pub record ConfirmedLent (b : Lent) (n made : ℕ) (adjacency weights inverse se
 pub lent-room : {b : Lent} {n made : ℕ} {adjacency weights inverse sequence marks : List ℕ} {v : declared.Ruling} → ConfirmedLent b n made adjacency weights inverse sequence marks v
     → v ≡ Accepted → b .needed ≤ b .length
 lent-room {b} {n} {made} {adjacency} {weights} {inverse} {sequence} C e =
-    more-accepted modulus everything (state n made adjacency weights inverse sequence) (b ∷ []) [] (sym (C .ruled) ∙ ap ruling-of e) .1 .0
+    more-accepted modulus everything (state n made adjacency weights inverse sequence) (b ∷ []) [] .0 (sym (C .ruled) ∙ ap ruling-of e) .1 .0
 
 -- the answers of the confirmation
 module _ (b : Lent) (n made : ℕ) (adjacency weights inverse sequence marks : List ℕ) where
