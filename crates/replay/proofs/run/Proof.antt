@@ -1,6 +1,6 @@
 -- `replay::run` meets its contract. The invariant of its loop: the calls before i have led to the session at hand, which is known to be
 -- sound. The measure is what is left of the answers. Assumes nothing.
-use mathlib.Core.Path.{_≡_, refl, ap, _∙_}
+use mathlib.Core.Path.{_≡_, refl, _∙_}
 use Prim.Native.Nat.{_-_, _≤_}
 use native.Mathlib.Omega.{arith}
 use lib.ListN.{length, length-set}
