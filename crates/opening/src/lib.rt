@@ -17,9 +17,8 @@ pub enum Opening {
     Refused(Refusal),
 }
 
-// Opening over tables and buffers that are long enough. Of the inverse and the witness only the one that is found is written. For proved
-// callers, who have judged what the tables hold, and make the other 0 where it is asked for, and the work buffer's first words.
-pub fn begin_accepted(
+// Opens on a graph that is accepted. Of the inverse and the witness only the one that is found is written.
+fn begin_accepted(
     n: usize,
     adjacency: &[u8],
     weights: &[u16],

@@ -23,11 +23,16 @@ few at h = omega (arith, at .weights-needed .ensures, needed-all (start at .args
 most : (at : tie.After-weights-needed) → at .weights-needed .result ≤ 4560
 most at = rw (at .weights-needed .ensures) (needed-small _)
 
--- the first words of three arrays
+-- the first words of four arrays
 lends : (at : tie.After-weights-needed) (i j k : ℕ) → at .weights-needed .result ≤ i → start at .args .n * start at .args .n ≤ j → start at .args .n ≤ k
-    → (let n = start at .args .n in Lends n (take (at .weights-needed .result) (replicate i 0)) (take (n * n) (replicate j 0)) (take n (replicate k 0)))
-lends at i j k counted cells vertices =
-    record { counted = length-part _ i 0 counted ∙ at .weights-needed .ensures; cells = length-part _ j 0 cells; vertices = length-part _ k 0 vertices }
+    → (let n = start at .args .n in
+    Lends n (take (at .weights-needed .result) (replicate i 0)) (take (n * n) (replicate j 0)) (take n (replicate k 0)) (take (n * n) (replicate j 0)))
+lends at i j k counted cells vertices = record {
+  counted = length-part _ i 0 counted ∙ at .weights-needed .ensures;
+  cells = length-part _ j 0 cells;
+  vertices = length-part _ k 0 vertices;
+  spare-cells = length-part _ j 0 cells;
+}
 
 weights-needed-requires : tie.Need-weights-needed-requires
 weights-needed-requires c κs = search needs
@@ -53,10 +58,16 @@ array-borrow-prefix-vector c = search needs
 slice-aggregate-open-over-3 : tie.Need-slice-aggregate-open-over-3
 slice-aggregate-open-over-3 c = sym (length-part _ 32 0 (c .before .before .before .if1 .taken))
 
+array-borrow-prefix-spare : tie.Need-array-borrow-prefix-spare
+array-borrow-prefix-spare c = let h = c .before .before .before .if1 .taken in mul-le-mul h h
+
+slice-aggregate-open-over-4 : tie.Need-slice-aggregate-open-over-4
+slice-aggregate-open-over-4 c = let h = c .before .before .before .before .if1 .taken in sym (length-part _ 1024 0 (mul-le-mul h h))
+
 open-over-requires : tie.Need-open-over-requires
 open-over-requires c κs =
-    let at = c .before .before .before .before .before .before .before .before in
-    let h = c .before .before .before .before .before .before .before .if1 .taken in
+    let at = c .before .before .before .before .before .before .before .before .before in
+    let h = c .before .before .before .before .before .before .before .before .if1 .taken in
     (start at .pre, lends at 496 1024 32 (few at h) (mul-le-mul h h) h)
 
 same-length : tie.Need-same-length
@@ -77,24 +88,30 @@ returns c = search needs
 array-borrow-prefix-values-2 : tie.Need-array-borrow-prefix-values-2
 array-borrow-prefix-values-2 c = most (c .before)
 
-slice-aggregate-open-over-4 : tie.Need-slice-aggregate-open-over-4
-slice-aggregate-open-over-4 c = sym (length-part _ 4560 0 (most (c .before .before)))
+slice-aggregate-open-over-5 : tie.Need-slice-aggregate-open-over-5
+slice-aggregate-open-over-5 c = sym (length-part _ 4560 0 (most (c .before .before)))
 
 array-borrow-prefix-table-2 : tie.Need-array-borrow-prefix-table-2
 array-borrow-prefix-table-2 c = square-small _ (start (c .before .before) .pre .0)
 
-slice-aggregate-open-over-5 : tie.Need-slice-aggregate-open-over-5
-slice-aggregate-open-over-5 c = sym (length-part _ 9216 0 (square-small _ (start (c .before .before .before) .pre .0)))
+slice-aggregate-open-over-6 : tie.Need-slice-aggregate-open-over-6
+slice-aggregate-open-over-6 c = sym (length-part _ 9216 0 (square-small _ (start (c .before .before .before) .pre .0)))
 
 array-borrow-prefix-vector-2 : tie.Need-array-borrow-prefix-vector-2
 array-borrow-prefix-vector-2 c = search needs
 
-slice-aggregate-open-over-6 : tie.Need-slice-aggregate-open-over-6
-slice-aggregate-open-over-6 c = sym (length-part _ 96 0 (start (c .before .before .before .before) .pre .0))
+slice-aggregate-open-over-7 : tie.Need-slice-aggregate-open-over-7
+slice-aggregate-open-over-7 c = sym (length-part _ 96 0 (start (c .before .before .before .before) .pre .0))
+
+array-borrow-prefix-spare-2 : tie.Need-array-borrow-prefix-spare-2
+array-borrow-prefix-spare-2 c = square-small _ (start (c .before .before .before .before) .pre .0)
+
+slice-aggregate-open-over-8 : tie.Need-slice-aggregate-open-over-8
+slice-aggregate-open-over-8 c = sym (length-part _ 9216 0 (square-small _ (start (c .before .before .before .before .before) .pre .0)))
 
 open-over-requires-2 : tie.Need-open-over-requires-2
 open-over-requires-2 c κs =
-    let at = c .before .before .before .before .before .before .before .before in
+    let at = c .before .before .before .before .before .before .before .before .before in
     let h = start at .pre .0 in
     (start at .pre, lends at 4560 9216 96 (most at) (square-small _ h) h)
 
@@ -125,6 +142,8 @@ open-words-spec =
     slice-aggregate-open-over-2
     array-borrow-prefix-vector
     slice-aggregate-open-over-3
+    array-borrow-prefix-spare
+    slice-aggregate-open-over-4
     open-over-requires
     same-length
     same-length-2
@@ -132,11 +151,13 @@ open-words-spec =
     same-length-4
     returns
     array-borrow-prefix-values-2
-    slice-aggregate-open-over-4
-    array-borrow-prefix-table-2
     slice-aggregate-open-over-5
-    array-borrow-prefix-vector-2
+    array-borrow-prefix-table-2
     slice-aggregate-open-over-6
+    array-borrow-prefix-vector-2
+    slice-aggregate-open-over-7
+    array-borrow-prefix-spare-2
+    slice-aggregate-open-over-8
     open-over-requires-2
     same-length-5
     same-length-6
