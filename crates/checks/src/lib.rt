@@ -234,8 +234,8 @@ fn first_outside(n: usize, weights: &[u16]) -> Finding
     find_outside(n, weights)
 }
 
-// Causes 3 and 4, for tables that are long enough. For proved callers.
-pub fn judge_graph(n: usize, adjacency: &[u8], weights: &[u16]) -> Ruling
+// Causes 3 and 4, for tables that are long enough.
+fn judge_graph(n: usize, adjacency: &[u8], weights: &[u16]) -> Ruling
     requires { ⌜ (n ≤ largest) × (n * n ≤ length (now adjacency)) × (pair-count n ≤ length (now weights)) ⌝ }
     ensures { λ r. ⌜ ruling-of r ≡ judge (bad-cell (over n (now (adjacency .entry)) (now (weights .entry))) ∷ bad-weight modulus (over n (now (adjacency .entry)) (now (weights .entry))) ∷ []) ⌝ }
 {
