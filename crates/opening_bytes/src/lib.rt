@@ -124,6 +124,26 @@ fn open_words(
             work,
         );
     }
+    if n <= 64 {
+        // 64 * 63 / 2, 64 * 64 and 64.
+        let mut values = [0u16; 2016];
+        let mut table = [0u16; 4096];
+        let mut vector = [0u16; 64];
+        let mut spare = [0u16; 4096];
+        return open_over(
+            n,
+            adjacency,
+            weights,
+            &mut values[..count],
+            &mut table[..size],
+            &mut vector[..n],
+            &mut spare[..size],
+            inverse,
+            sequence,
+            witness,
+            work,
+        );
+    }
     // The words of the largest graph: 96 * 95 / 2, 96 * 96 and 96.
     let mut values = [0u16; 4560];
     let mut table = [0u16; 9216];
