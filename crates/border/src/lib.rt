@@ -22,7 +22,7 @@ pub fn dot(u: &[u16], v: &[u16]) -> u16
         total += u[k] as u64 * v[k] as u64;
         k += 1;
     }
-    (total % Residue::MODULUS) as u16
+    Residue::make(total).value
 }
 
 // x is T v, reduced.
@@ -45,5 +45,5 @@ pub fn border(t: &[u16], n: usize, v: &[u16], a: usize, x: &mut [u16])
     ensures { λ _. ⌜ Bordered n (now (t .entry)) (now (v .entry)) a (now (x .exit)) ⌝ }
 {
     image(t, n, v, x);
-    x[a] = (Residue::MODULUS - 1) as u16;
+    x[a] = Residue::MINUS_ONE.value;
 }

@@ -1,12 +1,15 @@
-// A list of calls as numbers, three a call: whether it is in order.
-use checks::Finding;
-use checks::Refusal;
-use checks::Ruling;
+// A list of calls as numbers, three a call: whether it is in order, and the call that three numbers are.
+use calls::Call;
+use refusals::Finding;
+use refusals::Refusal;
+use refusals::Ruling;
 ghost use mathlib.Core.Path.{_≡_};
 ghost use Prim.Native.Nat.{_*_, _≤_};
 ghost use lib.ListN.{length};
-ghost use Rattle.matching.specs.Replay.{place-of, list-ruling};
-ghost use Rattle.checks.specs.Answers.{ruling-of, Finds};
+ghost use Rattle.matching.specs.Decision.{judge};
+ghost use Rattle.matching.specs.Replay.{call-of, place-of, list-causes};
+ghost use Rattle.refusals.specs.Answers.{ruling-of, Finds};
+ghost use Rattle.calls.specs.Answers.{call-is};
 ghost use Rattle.call_list.specs.List.{Unknown};
 
 // The index of the first call that is of no kind.
@@ -35,30 +38,31 @@ fn place(i: usize) -> usize
     if i < 65535 { i } else { 65535 }
 }
 
-// Whether there is room for the answers, every call is of a kind, and the list ends with a whole call.
-pub fn judge(list: &[u64], room: usize) -> Ruling
-    ensures { λ r. ⌜ ruling-of r ≡ list-ruling (now (list .entry)) room ⌝ }
+// Judges whether every call is of a kind, and the list ends with a whole call.
+pub fn judge(list: &[u64]) -> Ruling
+    ensures { λ r. ⌜ ruling-of r ≡ judge (list-causes (now (list .entry))) ⌝ }
 {
     let count = list.len() / 3;
-    if room < count {
-        return Ruling::Refused(Refusal {
-            cause: 2,
-            place: 10,
-        });
-    }
     if let Finding::At(i) = first_unknown(list, count) {
         let at = place(i);
-        return Ruling::Refused(Refusal {
-            cause: 12,
-            place: at,
-        });
+        return refusals::refuse(12, at);
     }
     if list.len() % 3 != 0 {
         let at = place(count);
-        return Ruling::Refused(Refusal {
-            cause: 13,
-            place: at,
-        });
+        return refusals::refuse(13, at);
     }
     Ruling::Accepted
+}
+
+// Returns the call of a kind, with the two vertices that a hand pick looks at.
+pub fn call(kind: u64, a: usize, b: usize) -> Call
+    ensures { λ r. ⌜ call-is r ≡ call-of kind a b ⌝ }
+{
+    if kind == 1 {
+        return Call::Pick(a, b);
+    }
+    if kind == 2 {
+        return Call::Automatic;
+    }
+    Call::Undo
 }

@@ -1,16 +1,22 @@
--- The answers of this crate in the terms of the definitions. Assumes nothing.
+-- The calls and the answers of this crate in the terms of the definitions. Assumes nothing.
 use Prim.Native.Nat.{ℕ, _^_, _<_}
 use Rattle.residue.specs.Modulus.{modulus-prime}
 use Rattle.matching.specs.Decision.{because}
-use Rattle.matching.specs.Pairs.{everything}
 use Rattle.matching.specs.Session.{State}
 use Rattle.matching.specs.Model as model
-use Rattle.matching.specs.Model.{Call, done, denied}
+use Rattle.matching.specs.Model.{done, denied}
 use Rattle.matching.specs.Calls.{Handles}
 use Rattle.laws.specs.Numbers.{handles-small, made-small}
 use Rattle.pairing.specs.Appended.{pair-is}
+use Rattle.calls.specs.declared.Call.{Call}
+use Rattle.calls.specs.declared.Call.the-variants.{Pick, Automatic, Undo}
 use Rattle.calls.specs.declared.Answer.{Answer}
 use Rattle.calls.specs.declared.Answer.the-variants.{Done, Denied}
+
+abbrev pub call-is : Call → model.Call
+call-is (Pick a b) = model.pick a b
+call-is Automatic = model.automatic
+call-is Undo = model.undo
 
 abbrev pub answer-of : Answer → model.Answer
 answer-of (Done e) = done (pair-is e)
@@ -22,6 +28,6 @@ Fits (Done e) made = (e .smaller < 2 ^ 8) × (e .larger < 2 ^ 8) × (made < 2 ^ 
 Fits (Denied r) made = r .place < 2 ^ 16
 
 -- those of a call do
-pub handles-fit : {s t : State} {c : Call} (a : Answer) → Handles modulus-prime everything s c (answer-of a) t → Fits a (t .session .made)
-handles-fit (Done e) H = let h = handles-small modulus-prime everything H in (h .0, h .1, made-small modulus-prime everything H)
-handles-fit (Denied r) H = handles-small modulus-prime everything H .place-below
+pub handles-fit : {s t : State} {c : model.Call} (a : Answer) → Handles modulus-prime s c (answer-of a) t → Fits a (t .session .made)
+handles-fit (Done e) H = let h = handles-small modulus-prime H in (h .0, h .1, made-small modulus-prime H)
+handles-fit (Denied r) H = handles-small modulus-prime H .place-below

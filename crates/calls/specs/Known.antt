@@ -10,24 +10,25 @@ use Rattle.skew.specs.Subset.{_∈_, Without, marked-in, marked-nonzero}
 use Rattle.skew.specs.Remove.{invertible-without}
 use Rattle.matching.specs.Decision.{Refusal, because, accepted, refused, Every, Lowest}
 use Rattle.matching.specs.Graph.{Graph, over, tutte}
-use Rattle.matching.specs.Pairs.{Pair, Pairs, pair-of, everything, unmatched, pairs-on}
+use Rattle.matching.specs.Pairs.{Pair, Pairs, pair-of, unmatched, pairs-on}
 use Rattle.matching.specs.Pairs as spelling
-use Rattle.matching.specs.Session.{State, with-pairs, InverseTable}
-use Rattle.matching.specs.Causes.{session-ruling, LongEnough, lent-to-session}
+use Rattle.matching.specs.Session.{State, in-play, with-pairs, InverseTable, state}
+use Rattle.matching.specs.Causes.{Lent, session-ruling}
 use Rattle.matching.specs.Model.{Call, pick, automatic, done, denied, skew, pick-ruling, Allowed, OpenPartner, step, picks, pick-refused, picks-lowest, none-left}
 use Rattle.matching.specs.Calls.{Handles, unsound, refuses, carries}
 use Rattle.laws.specs.Facts.{allowed-of-accepted, unmatched-without, open-partner}
 use Rattle.laws.specs.Rules.{rule-step}
 use Rattle.laws.specs.History.{Valid, cons, fits}
-use Rattle.laws.specs.Sound.{Sound, session-accepted}
+use Rattle.laws.specs.Sound.{SessionFits, Sound, session-accepted}
 use Rattle.laws.specs.Sequence.{length-pairs-on, length-sequence, sequence-on, pairs-on-sequence, well-formed-sequence, valid-on}
 use Rattle.laws.specs.Determined.{table-over}
 use Rattle.laws.specs.Demand.{handles-sound}
-use Rattle.checks.specs.Answers.{ruling-of}
-use Rattle.checks.specs.declared.Ruling.{Ruling}
-use Rattle.checks.specs.declared.Ruling.the-variants.{Accepted, Refused}
+use Rattle.refusals.specs.declared.Ruling.{Ruling}
+use Rattle.refusals.specs.declared.Ruling.the-variants.{Accepted, Refused}
+use Rattle.refusals.specs.Answers.{ruling-of}
 use Rattle.sequence.specs.Formed.{Left, unmarked}
-use Rattle.soundness.specs.Sound.{state, Confirmed}
+use Rattle.soundness.specs.Sound.{Confirmed}
+use Rattle.soundness.specs.Lent.{ConfirmedLent}
 use Rattle.tutte.specs.Table.{Complete}
 use Rattle.partners.specs.Standing.{Tables, Standing, Marked}
 use Rattle.pairing.specs.Appended.{pair-below, shrunk-inverse, Room, Appended}
@@ -37,12 +38,12 @@ use Rattle.calls.specs.declared.Reply.{Reply}
 
 -- the session is sound, and the marks are those of the vertices left
 pub record Known (n made : ℕ) (adjacency weights inverse sequence marks : List ℕ) : Type 0 where
-  pub sound : session-ruling modulus everything (state n made adjacency weights inverse sequence) ≡ accepted
+  pub sound : session-ruling modulus (state n made adjacency weights inverse sequence) ≡ accepted
   pub left : Left n sequence made marks
 
 -- what the call leaves is what the definition says, and it is known again
 pub record Called (c : Call) (n made : ℕ) (adjacency weights inverse sequence : List ℕ) (r : Reply) (inverse′ sequence′ marks′ : List ℕ) : Type 0 where
-  pub handled : Handles modulus-prime everything (state n made adjacency weights inverse sequence) c (answer-of (r .answer))
+  pub handled : Handles modulus-prime (state n made adjacency weights inverse sequence) c (answer-of (r .answer))
       (state n (r .made) adjacency weights inverse′ sequence′)
   pub left : Left n sequence′ (r .made) marks′
 
@@ -66,8 +67,12 @@ module _ {n made : ℕ} {adjacency weights inverse sequence marks : List ℕ} {v
   known e = let ok : ruling-of v ≡ accepted = ap ruling-of e in record { sound = sym (C .ruled) ∙ ok; left = C .left ok }
 
   pub not-sound : (c : Call) {r : _} → v ≡ Refused r
-      → Handles modulus-prime everything (state n made adjacency weights inverse sequence) c (denied (because (r .cause) (r .place))) (state n made adjacency weights inverse sequence)
+      → Handles modulus-prime (state n made adjacency weights inverse sequence) c (denied (because (r .cause) (r .place))) (state n made adjacency weights inverse sequence)
   not-sound c e = unsound _ (sym (C .ruled) ∙ ap ruling-of e)
+
+pub known-lent : {l : Lent} {n made : ℕ} {adjacency weights inverse sequence marks : List ℕ} {v : Ruling} → ConfirmedLent l n made adjacency weights inverse sequence marks v
+    → v ≡ Accepted → Known n made adjacency weights inverse sequence marks
+known-lent C e = known (C .confirmed (ap ruling-of e)) e
 
 module _ {n made : ℕ} {adjacency weights inverse sequence marks : List ℕ} (K : Known n made adjacency weights inverse sequence marks) where
   abbrev g : Graph
@@ -79,35 +84,35 @@ module _ {n made : ℕ} {adjacency weights inverse sequence marks : List ℕ} (K
   abbrev pairs : Pairs
   pairs = pairs-on sequence made
 
-  ok : LongEnough (lent-to-session s []) × Sound modulus everything s
-  ok = session-accepted modulus everything s .0 (K .sound)
+  ok : SessionFits s × Sound modulus s
+  ok = session-accepted modulus s .0 (K .sound)
 
   pub few : made + made ≤ n
   few = ok .1 .well-formed .few
 
   pub tables : Tables n adjacency inverse marks
-  tables = record { size = ok .1 .in-order .size; cells = ok .0 .0; entries = ok .0 .1 .1 .0; marks-length = K .left .size }
+  tables = record { size = ok .1 .in-order .size; cells = ok .0 .graph .cells; entries = ok .0 .inverse-fits; marks-length = K .left .size }
 
   pub complete : Complete n adjacency weights
-  complete = record { size = ok .1 .in-order .size; cells = ok .0 .0; weights-enough = ok .0 .1 .0 }
+  complete = record { size = ok .1 .in-order .size; cells = ok .0 .graph .cells; weights-enough = ok .0 .graph .weights }
 
   pub sequence-fits : n ≤ length sequence
-  sequence-fits = ok .0 .1 .1 .1 .0
+  sequence-fits = ok .0 .sequence-fits
 
-  pub standing : Standing g pairs inverse marks
+  pub standing : Standing g (in-play s) pairs inverse marks
   standing = record { in-order = ok .1 .in-order; left = K .left .same; held = ok .1 .as-defined }
 
   -- a refused call
-  pub denies : (c : Call) {r : Refusal} → step modulus-prime g everything pairs c ≡ record { answer = denied r; pairs = pairs }
-      → Handles modulus-prime everything s c (denied r) s
+  pub denies : (c : Call) {r : Refusal} → step modulus-prime g (in-play s) pairs c ≡ record { answer = denied r; pairs = pairs }
+      → Handles modulus-prime s c (denied r) s
   denies c {r} q = refuses r (K .sound) (ap (λ t. t .answer) q)
 
   -- the words of the inverse alone
-  pub words : InverseTable modulus g (unmatched everything pairs) (take (n * n) inverse)
+  pub words : InverseTable modulus g (unmatched (in-play s) pairs) (take (n * n) inverse)
   words = table-over inverse _ (λ x h. getD-take (n * n) inverse x 0 h) (ok .1 .as-defined)
 
-  pub valid : Valid modulus-prime g everything pairs
-  valid = valid-on modulus-prime g everything made sequence (ok .1 .well-formed) (λ x l. refl)
+  pub valid : Valid modulus-prime g (in-play s) pairs
+  valid = valid-on modulus-prime g (in-play s) made sequence (ok .1 .well-formed) (λ x l. refl)
 
   -- the sequence is that of its pairs
   pub spelled : sequence ≡ spelling.sequence n pairs ++ drop n sequence
@@ -116,18 +121,18 @@ module _ {n made : ℕ} {adjacency weights inverse sequence marks : List ℕ} (K
       ∙ ap (λ l. l ++ drop n sequence) (sym (sequence-on g made sequence sequence-fits (ok .1 .well-formed)))
 
   -- a pair that may be matched
-  module _ (a b : ℕ) (A : Allowed modulus-prime g everything pairs a b) where
+  module _ (a b : ℕ) (A : Allowed modulus-prime g (in-play s) pairs a b) where
     abbrev e : Pair
     e = pair-of a b
 
-    with-pair : Valid modulus-prime g everything (e ∷ pairs)
-    with-pair = cons (fits modulus-prime g everything pairs a b A) valid
+    with-pair : Valid modulus-prime g (in-play s) (e ∷ pairs)
+    with-pair = cons (fits modulus-prime g (in-play s) pairs a b A) valid
 
     counted : length (e ∷ pairs) ≡ made + 1
     counted = omega (arith, length-pairs-on sequence made)
 
     two-left : suc (length pairs) + suc (length pairs) ≤ n
-    two-left = well-formed-sequence modulus-prime g everything (e ∷ pairs) [] with-pair .few
+    two-left = well-formed-sequence modulus-prime g (in-play s) (e ∷ pairs) [] with-pair .few
 
     pub append-room : Room n made inverse sequence marks a b
     append-room = record {
@@ -140,8 +145,8 @@ module _ {n made : ℕ} {adjacency weights inverse sequence marks : List ℕ} (K
       b-below = A .named .1;
     }
 
-    removed : Without (unmatched everything pairs) a b (unmatched everything (e ∷ pairs))
-    removed = unmatched-without modulus-prime g everything pairs a b (A .named .2) (A .a-left) (A .b-left)
+    removed : Without (unmatched (in-play s) pairs) a b (unmatched (in-play s) (e ∷ pairs))
+    removed = unmatched-without modulus-prime g (in-play s) pairs a b (A .named .2) (A .a-left) (A .b-left)
 
     -- appended
     module _ {x : Pair} {inverse′ sequence′ marks′ : List ℕ} (W : Appended n made a b inverse sequence marks x inverse′ sequence′ marks′) where
@@ -153,19 +158,19 @@ module _ {n made : ℕ} {adjacency weights inverse sequence marks : List ℕ} (K
           ∙ ap (λ k. set (set (spelling.sequence n pairs ++ drop n sequence) (k + k) (e .smaller)) (k + k + 1) (e .larger)) (sym (length-pairs-on sequence made))
           ∙ bytes-appended n pairs e (drop n sequence) two-left)
 
-      held′ : InverseTable modulus g (unmatched everything (e ∷ pairs)) (W .words)
+      held′ : InverseTable modulus g (unmatched (in-play s) (e ∷ pairs)) (W .words)
       held′ =
           shrunk-inverse g removed (A .named .0) (A .named .1) words
-          (invertible-without modulus-prime n (tutte g modulus) (skew modulus-prime g everything) removed (A .named .0) (A .named .1) (words .is-inverse) .0 (A .nonsingular))
+          (invertible-without modulus-prime n (tutte g modulus) (skew modulus-prime g) removed (A .named .0) (A .named .1) (words .is-inverse) .0 (A .nonsingular))
           (W .shrinks)
 
       after : with-pairs g (e ∷ pairs) (W .words) s ≡ state n (made + 1) adjacency weights inverse′ sequence′
       after =
           same-state n adjacency weights counted (sym (W .inverse-is))
-          (ap (λ k. spelling.sequence n (e ∷ pairs) ++ drop k sequence) (length-sequence modulus-prime g everything (e ∷ pairs) with-pair) ∙ sym spelled′)
+          (ap (λ k. spelling.sequence n (e ∷ pairs) ++ drop k sequence) (length-sequence modulus-prime g (in-play s) (e ∷ pairs) with-pair) ∙ sym spelled′)
 
-      pub appends : (c : Call) → step modulus-prime g everything pairs c ≡ record { answer = done e; pairs = e ∷ pairs }
-          → Handles modulus-prime everything s c (done x) (state n (made + 1) adjacency weights inverse′ sequence′)
+      pub appends : (c : Call) → step modulus-prime g (in-play s) pairs c ≡ record { answer = done e; pairs = e ∷ pairs }
+          → Handles modulus-prime s c (done x) (state n (made + 1) adjacency weights inverse′ sequence′)
       appends c q =
           rw (W .pair, ← after)
           (carries e (e ∷ pairs) (W .words) (K .sound) q (W .shrinks .size ∙ length-take-le (n * n) inverse (tables .entries)) held′)
@@ -175,57 +180,57 @@ module _ {n made : ℕ} {adjacency weights inverse sequence marks : List ℕ} (K
       appends-left = record {
         size = rw (W .marks-is) (simp length-set (K .left .size));
         same = λ v h.
-            rw (W .marks-is, W .pair, spelled′, ← counted, pairs-on-sequence modulus-prime g everything (e ∷ pairs) (drop n sequence))
-            (unmarked marks (unmatched everything pairs) (K .left .size) (below .0) (below .1) (K .left .same) v h);
+            rw (W .marks-is, W .pair, spelled′, ← counted, pairs-on-sequence modulus-prime g (in-play s) (e ∷ pairs) (drop n sequence))
+            (unmarked marks (unmatched (in-play s) pairs) (K .left .size) (below .0) (below .1) (K .left .same) v h);
       }
         where
           below : (e .smaller < n) × (e .larger < n)
           below = pair-below n a b (A .named .0) (A .named .1) e refl
 
   -- a hand pick by its ruling
-  pub pick-denied : {a b : ℕ} {r : Refusal} → refused r ≡ pick-ruling modulus-prime g everything pairs a b → Handles modulus-prime everything s (pick a b) (denied r) s
-  pick-denied {a} {b} q = denies (pick a b) (rule-step modulus-prime g everything (pick-refused (sym q)))
+  pub pick-denied : {a b : ℕ} {r : Refusal} → refused r ≡ pick-ruling modulus-prime g (in-play s) pairs a b → Handles modulus-prime s (pick a b) (denied r) s
+  pick-denied {a} {b} q = denies (pick a b) (rule-step modulus-prime g (in-play s) (pick-refused (sym q)))
 
-  pub pick-allowed : {a b : ℕ} → accepted ≡ pick-ruling modulus-prime g everything pairs a b → Allowed modulus-prime g everything pairs a b
-  pick-allowed {a} {b} q = allowed-of-accepted modulus-prime g everything pairs a b (rw (← q) tt)
+  pub pick-allowed : {a b : ℕ} → accepted ≡ pick-ruling modulus-prime g (in-play s) pairs a b → Allowed modulus-prime g (in-play s) pairs a b
+  pick-allowed {a} {b} q = allowed-of-accepted modulus-prime g (in-play s) pairs a b (rw (← q) tt)
 
-  pub pick-step : (a b : ℕ) → accepted ≡ pick-ruling modulus-prime g everything pairs a b
-      → step modulus-prime g everything pairs (pick a b) ≡ record { answer = done (pair-of a b); pairs = pair-of a b ∷ pairs }
-  pick-step a b q = rule-step modulus-prime g everything (picks (sym q))
+  pub pick-step : (a b : ℕ) → accepted ≡ pick-ruling modulus-prime g (in-play s) pairs a b
+      → step modulus-prime g (in-play s) pairs (pick a b) ≡ record { answer = done (pair-of a b); pairs = pair-of a b ∷ pairs }
+  pick-step a b q = rule-step modulus-prime g (in-play s) (picks (sym q))
 
   -- an automatic pick by what is found
-  in-set : (v : ℕ) → v < n → Marked marks v → v ∈ unmatched everything pairs
+  in-set : (v : ℕ) → v < n → Marked marks v → v ∈ unmatched (in-play s) pairs
   in-set v l d = sym (K .left .same v l) ∙ marked-in marks v d
 
-  marked-left : (v : ℕ) → v < n → v ∈ unmatched everything pairs → Marked marks v
+  marked-left : (v : ℕ) → v < n → v ∈ unmatched (in-play s) pairs → Marked marks v
   marked-left v l m = marked-nonzero marks v (K .left .same v l ∙ m)
 
-  lowest-left : {c : ℕ} → Lowest (length marks) (Marked marks) c → Lowest n (λ k. k ∈ unmatched everything pairs) c
+  lowest-left : {c : ℕ} → Lowest (length marks) (Marked marks) c → Lowest n (λ k. k ∈ unmatched (in-play s) pairs) c
   lowest-left {c} C = let below : c < n = omega (arith, C .below, K .left .size) in record {
     below = below;
     holds = in-set c below (C .holds);
     none-before = λ k l m. C .none-before k l (marked-left k (omega arith) m);
   }
 
-  pub automatic-denied : Every (length marks) (λ v. ¬ Marked marks v) → Handles modulus-prime everything s automatic (denied (because 11 0)) s
+  pub automatic-denied : Every (length marks) (λ v. ¬ Marked marks v) → Handles modulus-prime s automatic (denied (because 11 0)) s
   automatic-denied none =
       denies automatic
-      (rule-step modulus-prime g everything (none-left (λ v l m. none v (omega (arith, K .left .size)) (marked-left v l m))))
+      (rule-step modulus-prime g (in-play s) (none-left (λ v l m. none v (omega (arith, K .left .size)) (marked-left v l m))))
 
-  pub automatic-partner : {c : ℕ} → Lowest (length marks) (Marked marks) c → ¬ Every n (λ r. ¬ OpenPartner modulus-prime g everything pairs c r)
+  pub automatic-partner : {c : ℕ} → Lowest (length marks) (Marked marks) c → ¬ Every n (λ r. ¬ OpenPartner modulus-prime g (in-play s) pairs c r)
   automatic-partner {c} C none =
       let L = lowest-left C in
-      let q = open-partner modulus-prime g everything pairs (_, words .is-inverse) c (L .below) (L .holds) in
+      let q = open-partner modulus-prime g (in-play s) pairs (_, words .is-inverse) c (L .below) (L .holds) in
       none (q .0) (q .1) (q .2)
 
-  pub automatic-allowed : {c r : ℕ} → Lowest n (OpenPartner modulus-prime g everything pairs c) r → Allowed modulus-prime g everything pairs c r
-  automatic-allowed R = allowed-of-accepted modulus-prime g everything pairs _ _ (R .holds)
+  pub automatic-allowed : {c r : ℕ} → Lowest n (OpenPartner modulus-prime g (in-play s) pairs c) r → Allowed modulus-prime g (in-play s) pairs c r
+  automatic-allowed R = allowed-of-accepted modulus-prime g (in-play s) pairs _ _ (R .holds)
 
-  pub automatic-step : {c r : ℕ} → Lowest (length marks) (Marked marks) c → Lowest n (OpenPartner modulus-prime g everything pairs c) r
-      → step modulus-prime g everything pairs automatic ≡ record { answer = done (pair-of c r); pairs = pair-of c r ∷ pairs }
-  automatic-step C R = rule-step modulus-prime g everything (picks-lowest (lowest-left C) R)
+  pub automatic-step : {c r : ℕ} → Lowest (length marks) (Marked marks) c → Lowest n (OpenPartner modulus-prime g (in-play s) pairs c) r
+      → step modulus-prime g (in-play s) pairs automatic ≡ record { answer = done (pair-of c r); pairs = pair-of c r ∷ pairs }
+  automatic-step C R = rule-step modulus-prime g (in-play s) (picks-lowest (lowest-left C) R)
 
   -- what a call leaves is known again
   pub called-known : {c : Call} {r : Reply} {inverse′ sequence′ marks′ : List ℕ} → Called c n made adjacency weights inverse sequence r inverse′ sequence′ marks′
       → Known n (r .made) adjacency weights inverse′ sequence′ marks′
-  called-known C = record { sound = handles-sound modulus-prime everything s (K .sound) (λ x l. refl) (C .handled); left = C .left }
+  called-known C = record { sound = handles-sound modulus-prime s (K .sound) (λ x l. refl) (C .handled); left = C .left }

@@ -7,21 +7,20 @@ use Prim.Native.Nat.{ℕ, suc, _+_, _*_, _-_}
 use native.Mathlib.Omega.{arith}
 use lib.ListN.{length, getD, take, drop, set, length-set}
 use lib.Seq.{length-take-le}
+use Rattle.lists.specs.Onto.{onto, onto-front-same}
 use Rattle.residue.specs.Modulus.{modulus-prime}
-use Rattle.skew.specs.Subset.{Without}
+use Rattle.skew.specs.Subset.{Subset, Without}
 use Rattle.matching.specs.Decision.{because}
 use Rattle.matching.specs.Graph.{Graph, over}
-use Rattle.matching.specs.Pairs.{Pair, Pairs, everything, unmatched, pairs-on, unused}
+use Rattle.matching.specs.Pairs.{Pair, Pairs, unmatched, pairs-on, unused}
 use Rattle.matching.specs.Pairs as spelling
-use Rattle.matching.specs.Session.{State, with-pairs, onto}
+use Rattle.matching.specs.Session.{State, in-play, with-pairs, state}
 use Rattle.matching.specs.Model.{undo, done, denied, no-pair, undo-refused, undoes}
 use Rattle.matching.specs.Calls.{Handles, carries}
 use Rattle.laws.specs.Rules.{rule-step}
 use Rattle.laws.specs.History.{Fits, Valid, cons}
 use Rattle.laws.specs.Sequence.{length-pairs-on, length-sequence, pairs-on-sequence, fits-without, well-formed-sequence}
-use Rattle.laws.specs.Onto.{onto-front-same}
 use Rattle.sequence.specs.Formed.{Left, remarked}
-use Rattle.soundness.specs.Sound.{state}
 use Rattle.pairing.specs.Appended.{Room}
 use Rattle.pairing.specs.Removed.{GrownTo, Removed}
 use Rattle.calls.specs.Bytes.{bytes-removed}
@@ -29,15 +28,15 @@ use Rattle.calls.specs.Known.{Known, few, tables, sequence-fits, denies,
 
 -- no pair
 pub undo-none : {n made : ℕ} {adjacency weights inverse sequence marks : List ℕ} (K : Known n made adjacency weights inverse sequence marks) → made ≡ 0
-    → Handles modulus-prime everything (state n made adjacency weights inverse sequence) undo (denied (because 11 0)) (state n made adjacency weights inverse sequence)
+    → Handles modulus-prime (state n made adjacency weights inverse sequence) undo (denied (because 11 0)) (state n made adjacency weights inverse sequence)
 unfolding pairs-on
 undo-none {n} {made} {adjacency} {weights} {sequence = sequence} K e =
-    denies K undo (rule-step modulus-prime (over n adjacency weights) everything (no-pair (ap (pairs-on sequence) e)))
+    denies K undo (rule-step modulus-prime (over n adjacency weights) _ (no-pair (ap (pairs-on sequence) e)))
 
-newest-fits : {g : Graph} {e : Pair} {earlier : Pairs} → Valid modulus-prime g everything (e ∷ earlier) → Fits modulus-prime g everything e earlier
+newest-fits : {g : Graph} {S : Subset} {e : Pair} {earlier : Pairs} → Valid modulus-prime g S (e ∷ earlier) → Fits modulus-prime g S e earlier
 newest-fits (cons f _) = f
 
-earlier-valid : {g : Graph} {e : Pair} {earlier : Pairs} → Valid modulus-prime g everything (e ∷ earlier) → Valid modulus-prime g everything earlier
+earlier-valid : {g : Graph} {S : Subset} {e : Pair} {earlier : Pairs} → Valid modulus-prime g S (e ∷ earlier) → Valid modulus-prime g S earlier
 earlier-valid (cons _ v) = v
 
 module _ {n k : ℕ} {adjacency weights inverse sequence marks : List ℕ} (K : Known n (suc k) adjacency weights inverse sequence marks) where
@@ -57,13 +56,13 @@ module _ {n k : ℕ} {adjacency weights inverse sequence marks : List ℕ} (K : 
   unfolding pairs-on
   split = refl
 
-  valid-pair : Valid modulus-prime g everything (e ∷ earlier)
+  valid-pair : Valid modulus-prime g (in-play s) (e ∷ earlier)
   valid-pair = rw split at (valid K)
 
-  fitting : Fits modulus-prime g everything e earlier
+  fitting : Fits modulus-prime g (in-play s) e earlier
   fitting = newest-fits valid-pair
 
-  before : Valid modulus-prime g everything earlier
+  before : Valid modulus-prime g (in-play s) earlier
   before = earlier-valid valid-pair
 
   counted : length earlier ≡ k
@@ -80,22 +79,22 @@ module _ {n k : ℕ} {adjacency weights inverse sequence marks : List ℕ} (K : 
     b-below = fitting .below;
   }
 
-  removed : Without (unmatched everything earlier) (e .smaller) (e .larger) (unmatched everything (e ∷ earlier))
-  removed = fits-without modulus-prime g everything e earlier fitting
+  removed : Without (unmatched (in-play s) earlier) (e .smaller) (e .larger) (unmatched (in-play s) (e ∷ earlier))
+  removed = fits-without modulus-prime g (in-play s) e earlier fitting
 
   module _ {r : Bool} {inverse′ sequence′ marks′ : List ℕ} (R : Removed g k (e .smaller) (e .larger) inverse sequence marks r inverse′ sequence′ marks′) where
-    grown : GrownTo g (unmatched everything earlier) (take (n * n) inverse) r (R .words)
-    grown = R .grows .grown (unmatched everything earlier) (unmatched everything (e ∷ earlier)) removed (rw split at (words K))
+    grown : GrownTo g (unmatched (in-play s) earlier) (take (n * n) inverse) r (R .words)
+    grown = R .grows .grown (unmatched (in-play s) earlier) (unmatched (in-play s) (e ∷ earlier)) removed (rw split at (words K))
 
     -- no inverse for the vertices then left
     module _ (q : r ≡ false) where
       inverse-same : inverse′ ≡ inverse
       inverse-same = R .inverse-is ∙ ap (λ w. onto w inverse) (R .grows .same q) ∙ onto-front-same (n * n) inverse (tables K .entries)
 
-      pub undo-denied : Handles modulus-prime everything s undo (denied (because 10 0)) (state n (suc k) adjacency weights inverse′ sequence′)
+      pub undo-denied : Handles modulus-prime s undo (denied (because 10 0)) (state n (suc k) adjacency weights inverse′ sequence′)
       undo-denied =
           rw (inverse-same, R .sequence-same q)
-          (denies K undo (rule-step modulus-prime g everything (undo-refused split (grown .none q))))
+          (denies K undo (rule-step modulus-prime g (in-play s) (undo-refused split (grown .none q))))
 
       pub denied-left : Left n sequence′ (suc k) marks′
       denied-left = rw (R .sequence-same q, R .marks-same q) (K .left)
@@ -107,24 +106,24 @@ module _ {n k : ℕ} {adjacency weights inverse sequence marks : List ℕ} (K : 
           R .sequence-is q
           ∙ ap (λ l. set (set l (k + k) unused) (k + k + 1) unused) (spelled K ∙ ap (λ ps. spelling.sequence n ps ++ drop n sequence) split)
           ∙ ap (λ m. set (set (spelling.sequence n (e ∷ earlier) ++ drop n sequence) (m + m) unused) (m + m + 1) unused) (sym counted)
-          ∙ bytes-removed n earlier e (drop n sequence) (well-formed-sequence modulus-prime g everything (e ∷ earlier) [] valid-pair .few)
+          ∙ bytes-removed n earlier e (drop n sequence) (well-formed-sequence modulus-prime g (in-play s) (e ∷ earlier) [] valid-pair .few)
 
       after : with-pairs g earlier (R .words) s ≡ state n k adjacency weights inverse′ sequence′
       after =
           same-state n adjacency weights counted (sym (R .inverse-is))
-          (ap (λ m. spelling.sequence n earlier ++ drop m sequence) (length-sequence modulus-prime g everything earlier before) ∙ sym spelled′)
+          (ap (λ m. spelling.sequence n earlier ++ drop m sequence) (length-sequence modulus-prime g (in-play s) earlier before) ∙ sym spelled′)
 
-      pub undo-done : Handles modulus-prime everything s undo (done e) (state n k adjacency weights inverse′ sequence′)
+      pub undo-done : Handles modulus-prime s undo (done e) (state n k adjacency weights inverse′ sequence′)
       undo-done =
           rw (← after)
-          (carries e earlier (R .words) (K .sound) (rule-step modulus-prime g everything (undoes split (_, grown .held q .is-inverse)))
+          (carries e earlier (R .words) (K .sound) (rule-step modulus-prime g (in-play s) (undoes split (_, grown .held q .is-inverse)))
           (R .grows .size ∙ length-take-le (n * n) inverse (tables K .entries)) (grown .held q))
 
       read-off : pairs-on sequence′ k ≡ earlier
       read-off =
           ap (λ m. pairs-on sequence′ m) (sym counted)
           ∙ ap (λ l. pairs-on l (length earlier)) spelled′
-          ∙ pairs-on-sequence modulus-prime g everything earlier (drop n sequence)
+          ∙ pairs-on-sequence modulus-prime g (in-play s) earlier (drop n sequence)
 
       pub done-left : Left n sequence′ k marks′
       unfolding unmatched
@@ -132,7 +131,7 @@ module _ {n k : ℕ} {adjacency weights inverse sequence marks : List ℕ} (K : 
         size = rw (R .marks-is q) (simp length-set (tables K .marks-length));
         same = λ v h.
             rw (R .marks-is q, read-off)
-            (remarked marks (unmatched everything earlier) (tables K .marks-length) (remove-room .a-below) (remove-room .b-below)
+            (remarked marks (unmatched (in-play s) earlier) (tables K .marks-length) (remove-room .a-below) (remove-room .b-below)
             (fitting .smaller-left) (fitting .larger-left) (λ u l. rw split at (K .left .same u l)) v h);
       }
 
@@ -155,19 +154,19 @@ module _ {n made : ℕ} {adjacency weights inverse sequence marks : List ℕ} (K
 
   module _ {r : Bool} {inverse′ sequence′ marks′ : List ℕ} (R : Removed (over n adjacency weights) less (newest .smaller) (newest .larger) inverse sequence marks r inverse′ sequence′ marks′) where
     pub denies-undo : r ≡ false
-        → Handles modulus-prime everything (state n made adjacency weights inverse sequence) undo (denied (because 10 0)) (state n made adjacency weights inverse′ sequence′)
+        → Handles modulus-prime (state n made adjacency weights inverse sequence) undo (denied (because 10 0)) (state n made adjacency weights inverse′ sequence′)
         × Left n sequence′ made marks′
     denies-undo q = (
-      subst (λ m. Handles modulus-prime everything (state n m adjacency weights inverse sequence) undo (denied (because 10 0)) (state n m adjacency weights inverse′ sequence′)) one-more
+      subst (λ m. Handles modulus-prime (state n m adjacency weights inverse sequence) undo (denied (because 10 0)) (state n m adjacency weights inverse′ sequence′)) one-more
           (undo-denied known-pair R q),
       subst (λ m. Left n sequence′ m marks′) one-more (denied-left known-pair R q),
     )
 
     pub does-undo : r ≡ true
-        → Handles modulus-prime everything (state n made adjacency weights inverse sequence) undo (done newest) (state n less adjacency weights inverse′ sequence′)
+        → Handles modulus-prime (state n made adjacency weights inverse sequence) undo (done newest) (state n less adjacency weights inverse′ sequence′)
         × Left n sequence′ less marks′
     does-undo q = (
-      subst (λ m. Handles modulus-prime everything (state n m adjacency weights inverse sequence) undo (done newest) (state n less adjacency weights inverse′ sequence′)) one-more
+      subst (λ m. Handles modulus-prime (state n m adjacency weights inverse sequence) undo (done newest) (state n less adjacency weights inverse′ sequence′)) one-more
           (undo-done known-pair R q),
       done-left known-pair R q,
     )

@@ -1,14 +1,21 @@
 // The session calls on a session that is known to be sound: what the plain model answers, and what it writes. The vertices left are marked.
-use checks::Finding;
-use checks::Refusal;
-use checks::Ruling;
 use pairing::Pair;
+use refusals::Finding;
+use refusals::Refusal;
+use refusals::Ruling;
 ghost use mathlib.Core.Path.{_≡_};
 ghost use Prim.Native.Nat.{ℕ};
 ghost use Rattle.matching.specs.Model.{pick, automatic, undo};
 ghost use Rattle.matching.specs.Host.{answer-number};
-ghost use Rattle.calls.specs.Answers.{answer-of, Fits};
+ghost use Rattle.calls.specs.Answers.{call-is, answer-of, Fits};
 ghost use Rattle.calls.specs.Known.{Known, Called, KnownFor, CalledFor};
+
+// A session call that changes the pairs: hand pick of two vertices, automatic pick, take-back.
+pub enum Call {
+    Pick(usize, usize),
+    Automatic,
+    Undo,
+}
 
 // What a call answers: the pair appended or removed, or a refusal.
 pub enum Answer {
@@ -144,5 +151,26 @@ pub fn undo(
     Reply {
         made: less,
         answer: Answer::Done(e),
+    }
+}
+
+// Makes a call.
+pub fn make(
+    call: Call,
+    n: usize,
+    made: usize,
+    adjacency: &[u8],
+    weights: &[u16],
+    inverse: &mut [u16],
+    sequence: &mut [u8],
+    marks: &mut [u8],
+) -> Reply
+    requires { ⌜ Known n made (now adjacency) (now weights) (now inverse) (now sequence) (now marks) ⌝ }
+    ensures { λ r. ⌜ Called (call-is call) n made (now (adjacency .entry)) (now (weights .entry)) (now (inverse .entry)) (now (sequence .entry)) r (now (inverse .exit)) (now (sequence .exit)) (now (marks .exit)) ⌝ }
+{
+    match call {
+        Call::Pick(a, b) => pick(n, made, adjacency, inverse, sequence, marks, a, b),
+        Call::Automatic => automatic(n, made, adjacency, inverse, sequence, marks),
+        Call::Undo => undo(n, made, adjacency, weights, inverse, sequence, marks),
     }
 }

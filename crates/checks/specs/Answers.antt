@@ -3,29 +3,12 @@ use mathlib.Core.Path.{_≡_}
 use mathlib.Core.Logic.{_≢_}
 use Prim.Native.Nat.{ℕ, _+_, _*_, _≤_, _<_}
 use Rattle.matching.specs.Decision as decision
-use Rattle.matching.specs.Decision.{Every, Lowest, absent, at, because, accepted, refused}
+use Rattle.matching.specs.Decision.{absent, at, accepted, refused}
 use Rattle.matching.specs.Graph.{Graph, fault}
 use Rattle.matching.specs.Causes.{bad-cell}
-use Rattle.checks.specs.declared.Finding.{Finding}
-use Rattle.checks.specs.declared.Finding.the-variants.{Absent, At}
-use Rattle.checks.specs.declared.Ruling.{Ruling}
-use Rattle.checks.specs.declared.Ruling.the-variants.{Accepted, Refused}
 use Rattle.checks.specs.declared.Fault.{Fault}
 use Rattle.checks.specs.declared.Cells.{Cells}
 use Rattle.checks.specs.declared.Cells.the-variants.{Faultless, Faulty}
-
-abbrev pub finding-of : Finding → decision.Finding
-finding-of Absent = absent
-finding-of (At x) = at x
-
--- the lowest number below n with a property, or that there is none
-abbrev pub Finds : ℕ → (ℕ → Type 0) → Finding → Type 0
-Finds n P Absent = Every n (λ k. ¬ P k)
-Finds n P (At x) = Lowest n P x
-
-abbrev pub ruling-of : Ruling → decision.Ruling
-ruling-of Accepted = accepted
-ruling-of (Refused r) = refused (because (r .cause) (r .place))
 
 -- the first of two rulings that is a refusal
 abbrev pub then : decision.Ruling → decision.Ruling → decision.Ruling

@@ -12,7 +12,7 @@ use Rattle.matching.specs.Decision.{Every, absent, at}
 use Rattle.matching.specs.Graph.{Graph, over, cell, kind-of, fault, Faulty}
 use Rattle.matching.specs.Causes.{first-faulty, bad-cell}
 use Rattle.laws.specs.Faults.{fault-kind, kind-mirror}
-use Rattle.laws.specs.Sound.{found-at, found-absent}
+use Rattle.laws.specs.Judge.{found-at, found-absent}
 use Rattle.checks.specs.Answers.{FaultInRow, FirstFault, Located}
 use Rattle.checks.specs.declared.Fault.{Fault}
 use Rattle.checks.specs.declared.Cells.{Cells}

@@ -4,11 +4,12 @@ use mathlib.Core.List.{List, [], _∷_, _++_}
 use Prim.Native.Nat.{ℕ, _*_, _≤_, _<_}
 use native.Mathlib.Omega.{arith}
 use native.Mathlib.Decide.{decLt}
-use Rattle.skew.specs.Choose.{choose, choose-yes, choose-no}
+use Rattle.lists.specs.Choose.{choose, choose-yes, choose-no}
 use Rattle.matching.specs.Decision.{Finding, absent, at, when, because, Refusal, Ruling, accepted, refused, Cause, judge, unless}
 use Rattle.matching.specs.Graph.{largest, pair-count}
 use Rattle.matching.specs.Causes.{Lent, lent-always, lent-besides, first-short, too-large, too-short, LongEnough}
-use Rattle.laws.specs.Sound.{when-at, when-absent, judge-accepted, short-absent}
+use Rattle.laws.specs.Sound.{short-absent}
+use Rattle.laws.specs.Judge.{when-at, when-absent, judge-accepted}
 use Rattle.checks.specs.Answers.{then}
 
 -- the first of two findings

@@ -6,7 +6,7 @@ use lib.ListN.{length}
 use Rattle.matching.specs.Decision.{absent, at, Refusal, because, Ruling, accepted, refused, Cause, judge}
 use Rattle.matching.specs.Graph.{Graph, largest, pair-count}
 use Rattle.matching.specs.Causes.{Lent, lent-always, lent-besides, too-large, too-short, bad-cell, bad-weight, opening-causes, opening-ruling}
-use Rattle.laws.specs.Sound.{judge-refused, judge-next}
+use Rattle.laws.specs.Judge.{judge-refused, judge-next}
 use Rattle.checks.specs.Answers.{then}
 use Rattle.checks.specs.Lengths.{short-then, lengths-refused, lengths-accepted}
 

@@ -4,11 +4,11 @@ use Prim.Native.Nat.{ℕ, _*_, _-_, _≤_, _<_}
 use native.Mathlib.Nat.{mul-le-mul}
 use native.Mathlib.Omega.{arith}
 use native.Mathlib.Decide.{decLt}
-use Rattle.skew.specs.Choose.{choose, choose-yes, choose-no}
+use Rattle.lists.specs.Choose.{choose, choose-yes, choose-no}
 use Rattle.matching.specs.Decision.{Every, absent, at}
 use Rattle.matching.specs.Graph.{Graph, largest, pair-count, InRange}
 use Rattle.matching.specs.Causes.{first-outside, bad-weight}
-use Rattle.laws.specs.Sound.{found-at, found-absent}
+use Rattle.laws.specs.Judge.{found-at, found-absent}
 
 module _ (p : ℕ) (g : Graph) where
   pub weight-found : (x : ℕ) → x < pair-count (g .n) → ¬ InRange g p x → Every x (InRange g p) → bad-weight p g .finding ≡ at x

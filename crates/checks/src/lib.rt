@@ -9,29 +9,15 @@ ghost use Rattle.matching.specs.Decision.{judge, Every};
 ghost use Rattle.matching.specs.Graph.{largest, pair-count, over, kind-of};
 ghost use Rattle.matching.specs.Causes.{lent-always, lent-besides, first-short, too-large, too-short, bad-cell, bad-weight, opening-causes, opening-ruling};
 ghost use Rattle.checks.specs.Weights.{needed};
-ghost use Rattle.checks.specs.Answers.{finding-of, ruling-of, then, InRow, Located};
+ghost use Rattle.refusals.specs.Answers.{finding-of, ruling-of};
+ghost use Rattle.checks.specs.Answers.{then, InRow, Located};
+use refusals::Finding;
+use refusals::Refusal;
+use refusals::Ruling;
 use residue::Residue;
 
 // The most vertices that a graph may have.
 pub const LARGEST: usize = 96;
-
-// Why a call is refused: the number of the cause, and the place returned with it.
-pub struct Refusal {
-    pub cause: u8,
-    pub place: usize,
-}
-
-// A call is refused, or no cause applies.
-pub enum Ruling {
-    Accepted,
-    Refused(Refusal),
-}
-
-// Whether a cause applies, and its place.
-pub enum Finding {
-    Absent,
-    At(usize),
-}
 
 // A cell of the adjacency table with a fault: 1 not 0 or 1, 2 on the diagonal and not 0, 3 unequal to its mirror.
 pub struct Fault {
@@ -106,11 +92,11 @@ pub fn judge_lengths(
     ensures { λ r. ⌜ ruling-of r ≡ judge (too-large n ∷ too-short (lent-always n adjacency weights inverse sequence) ∷ []) ⌝ }
 {
     if LARGEST < n {
-        return Ruling::Refused(Refusal { cause: 1, place: 0 });
+        return refusals::refuse(1, 0);
     }
     match first_short(n, adjacency, weights, inverse, sequence) {
         Finding::Absent => Ruling::Accepted,
-        Finding::At(place) => Ruling::Refused(Refusal { cause: 2, place }),
+        Finding::At(place) => refusals::refuse(2, place),
     }
 }
 
@@ -234,17 +220,17 @@ fn first_outside(n: usize, weights: &[u16]) -> Finding
     find_outside(n, weights)
 }
 
-// Causes 3 and 4, for tables that are long enough. For proved callers.
-pub fn judge_graph(n: usize, adjacency: &[u8], weights: &[u16]) -> Ruling
+// Causes 3 and 4, for tables that are long enough.
+fn judge_graph(n: usize, adjacency: &[u8], weights: &[u16]) -> Ruling
     requires { ⌜ (n ≤ largest) × (n * n ≤ length (now adjacency)) × (pair-count n ≤ length (now weights)) ⌝ }
     ensures { λ r. ⌜ ruling-of r ≡ judge (bad-cell (over n (now (adjacency .entry)) (now (weights .entry))) ∷ bad-weight modulus (over n (now (adjacency .entry)) (now (weights .entry))) ∷ []) ⌝ }
 {
     if let Cells::Faulty(fault) = first_fault(n, adjacency) {
         let place = fault.row * n + fault.column;
-        return Ruling::Refused(Refusal { cause: 3, place });
+        return refusals::refuse(3, place);
     }
     if let Finding::At(place) = first_outside(n, weights) {
-        return Ruling::Refused(Refusal { cause: 4, place });
+        return refusals::refuse(4, place);
     }
     Ruling::Accepted
 }
@@ -255,10 +241,10 @@ fn judge_besides(n: usize, witness: usize, work: usize) -> Ruling
     ensures { λ r. ⌜ ruling-of r ≡ judge (too-short (lent-besides n witness work) ∷ []) ⌝ }
 {
     if witness < n {
-        return Ruling::Refused(Refusal { cause: 2, place: 5 });
+        return refusals::refuse(2, 5);
     }
     if work < n * n {
-        return Ruling::Refused(Refusal { cause: 2, place: 6 });
+        return refusals::refuse(2, 6);
     }
     Ruling::Accepted
 }

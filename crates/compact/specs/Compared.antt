@@ -229,7 +229,7 @@ module _ (g : Graph) {marks vertices : List ℕ} (N : Numbered (g .n) marks vert
   A = tutte g modulus
 
   listed-skew : Skew modulus k (along v A)
-  listed-skew = rw (N .size) (skew-along modulus n A (N .elements) (skew modulus-prime g (marked marks)))
+  listed-skew = rw (N .size) (skew-along modulus n A (N .elements) (skew modulus-prime g))
 
   module _ {t t' : List ℕ} (F : Filled k (listed g vertices) k t t') where
     pub listed-holds : (S : Subset) → ((i : ℕ) → i < k → i ∈ S) → Holds k (along v A) S t'

@@ -39,7 +39,7 @@ fn pair_equal(inverse: &[u16], n: usize, a: usize, b: usize, right: u16) -> bool
     if inverse[a * n + b] != right {
         return false;
     }
-    if inverse[b * n + a] != pivot::negative(right as u32) as u16 {
+    if inverse[b * n + a] != residue::negative(right as u32) as u16 {
         return false;
     }
     true

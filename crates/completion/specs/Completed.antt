@@ -14,7 +14,7 @@ use Rattle.laws.specs.Facts.{Automatic, nobody, lowest, automatic-cases, unlike
 use Rattle.laws.specs.Sequence.{length-pairs-on}
 use Rattle.laws.specs.Carried.{refused-keeps}
 use Rattle.laws.specs.Demand.{handles-model}
-use Rattle.soundness.specs.Sound.{state}
+use Rattle.matching.specs.Session.{state}
 use Rattle.calls.specs.Answers.{answer-of}
 use Rattle.calls.specs.Known.{Known, Called, few, words}
 use Rattle.calls.specs.declared.Reply.{Reply}
@@ -54,7 +54,7 @@ module _ {n made : ℕ} {adjacency weights inverse sequence marks : List ℕ} (K
 
   model : (answer-of (r .answer) ≡ step modulus-prime g everything pairs automatic .answer)
       × (pairs-on sequence′ (r .made) ≡ step modulus-prime g everything pairs automatic .pairs)
-  model = handles-model modulus-prime everything (state n made adjacency weights inverse sequence) (K .sound) (λ x l. refl) (C .handled)
+  model = handles-model modulus-prime (state n made adjacency weights inverse sequence) (K .sound) (λ x l. refl) (C .handled)
 
   -- where it is accepted there is one pair more
   one-more : {e : Pair} → step modulus-prime g everything pairs automatic .answer ≡ done e → r .made ≡ made + 1
@@ -83,7 +83,7 @@ module _ {n made : ℕ} {adjacency weights inverse sequence marks : List ℕ} (K
   -- where it is refused nothing has changed
   pub completes : {why : Refusal} → answer-of (r .answer) ≡ denied why → Picked g made pairs → Completed g made sequence′
   completes {why} q p =
-      let same : sequence′ ≡ sequence = ap (λ t. t .sequence) (refused-keeps modulus-prime everything (C .handled) {r = why} q) in
+      let same : sequence′ ≡ sequence = ap (λ t. t .sequence) (refused-keeps modulus-prime (C .handled) {r = why} q) in
       let last : PicksToCome modulus-prime g everything [] (made + 0) = p .to-come 0 (stopped (sym (model .0) ∙ q)) in
       let e : made + 0 ≡ made = omega arith in
       record { few = few K; come = rw e at last; pairs-are = ap (λ l. pairs-on l made) same ∙ p .pairs-are }

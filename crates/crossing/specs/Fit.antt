@@ -1,27 +1,36 @@
 -- A session call's byte slices, judged by their lengths, and the words lent in their place: all that the graph needs. Assumes nothing.
-use mathlib.Core.Path.{_≡_, sym, _∙_}
-use mathlib.Core.List.{List, [], _∷_}
+use mathlib.Core.Path.{_≡_, sym, ap, _∙_}
+use mathlib.Core.List.{List, [], _∷_, _++_}
 use Prim.Native.Nat.{ℕ, _*_, _/_, _≤_}
 use native.Mathlib.Omega.{arith}
+use native.Mathlib.Decide.{decLt}
 use lib.ListN.{length, take}
 use lib.Seq.{length-take-le, getD-take}
-use Rattle.skew.specs.Subset.{Subset}
-use Rattle.matching.specs.Decision.{Refusal, Ruling, accepted, refused, judge}
+use Rattle.matching.specs.Decision.{Refusal, Ruling, accepted, refused, Cause, judge}
 use Rattle.matching.specs.Graph.{largest}
-use Rattle.matching.specs.Pairs.{unmatched, pairs-on}
-use Rattle.matching.specs.Session.{State, graph-of}
-use Rattle.matching.specs.Causes.{LongEnough, lent-always, lent-to-session, too-large, too-short, bad-cell, bad-weight, ill-formed, not-inverse, session-ruling}
+use Rattle.matching.specs.Session.{State, state}
+use Rattle.matching.specs.Causes.{Lent, lent-always, lent-to-session, too-large, too-short, session-causes, session-ruling}
 use Rattle.matching.specs.Host.{words, unpacked-state}
-use Rattle.checks.specs.Weights.{needed}
-use Rattle.checks.specs.Lengths.{lengths-refused, lengths-accepted}
-use Rattle.soundness.specs.Sound.{state}
+use Rattle.laws.specs.Sound.{short-absent, SessionFits, session-fits}
 use Rattle.laws.specs.Words.{words-length, words-half}
+use Rattle.laws.specs.Judge.{judge-accepted, when-absent}
+use Rattle.checks.specs.Answers.{then}
+use Rattle.checks.specs.Weights.{needed}
+use Rattle.checks.specs.Lengths.{lengths-accepted}
+use Rattle.soundness.specs.Lent.{lengths-first, more-parts}
 use Rattle.crossing.specs.Needed.{needed-weights, needed-agree, needed-counted, needed-fits}
 use Rattle.crossing.specs.Steps.{session-same}
 
 -- the size and the lengths are in order
-abbrev pub Fits : State → Type 0
-Fits s = (s .session .size ≤ largest) × LongEnough (lent-to-session s [])
+pub record HostFits (s : State) : Type 0 where
+  pub size : s .session .size ≤ largest
+  pub fits : SessionFits s
+
+in-order : (s : State) → HostFits s → accepted ≡ judge (too-large (s .session .size) ∷ too-short (lent-to-session s []) ∷ [])
+in-order s F =
+    sym
+    (judge-accepted (too-large (s .session .size) ∷ too-short (lent-to-session s []) ∷ [])
+    .1 (when-absent (decLt largest (s .session .size)) 0 .1 (λ l. omega (arith, F .size)), (short-absent (lent-to-session s []) .1 (session-fits s [] .1 (F .fits, tt)), tt)))
 
 -- the words of the inverse that n vertices need
 abbrev pub needed-inverse : ℕ → List ℕ → List ℕ
@@ -54,34 +63,44 @@ module _ (n made : ℕ) (adjacency weights inverse sequence : List ℕ) where
   pub in-words : judge (too-large n ∷ too-short (lent-to-session s []) ∷ []) ≡ room
   in-words = rw (words-half weights, words-half inverse)
 
-  pub room-refused : (p : ℕ) (S : Subset) {r : Refusal} → refused r ≡ room → session-ruling p S s ≡ refused r
+  -- they are looked at first, whatever a call is lent besides and looks at afterwards
+  pub room-first : (p : ℕ) (more : List Lent) (later : List Cause) {r : Refusal} → refused r ≡ room → judge (session-causes p s more ++ later) ≡ refused r
+  room-first p more later e = lengths-first p s more later (e ∙ sym in-words)
+
+  pub room-refused : (p : ℕ) {r : Refusal} → refused r ≡ room → session-ruling p s ≡ refused r
   unfolding session-ruling
-  room-refused p S {r} e =
-      lengths-refused n (lent-to-session s []) []
-      (bad-cell (graph-of s)
-      ∷ bad-weight p (graph-of s)
-      ∷ ill-formed (graph-of s) made sequence
-      ∷ not-inverse p (graph-of s) (unmatched S (pairs-on sequence made)) (words inverse)
-      ∷ []) r (in-words ∙ sym e)
+  room-refused p e = room-first p [] [] e
 
-  pub room-accepted : accepted ≡ room → Fits s
-  room-accepted e = let k = lengths-accepted n (lent-to-session s []) [] [] (in-words ∙ sym e) in (k .0, k .1)
+  pub room-accepted : accepted ≡ room → HostFits s
+  room-accepted e = let k = lengths-accepted n (lent-to-session s []) [] [] (in-words ∙ sym e) in record { size = k .0; fits = session-fits s [] .0 (k .1) .0 }
 
-  module _ (F : Fits s) where
+  module _ (F : HostFits s) where
     pub table-length : length (needed-inverse n inverse) ≡ n * n
-    table-length = length-take-le (n * n) (words inverse) (F .1 .1 .1 .0)
+    table-length = length-take-le (n * n) (words inverse) (F .fits .inverse-fits)
 
     pub table-stores : 2 * (n * n) ≤ length inverse
-    table-stores = omega (arith, F .1 .1 .1 .0, words-length inverse .0)
+    table-stores = omega (arith, F .fits .inverse-fits, words-length inverse .0)
 
     pub needed-words : Needed n weights inverse
-    needed-words = record { size = F .0; weights-fit = needed-fits n weights (F .0) (F .1 .1 .0); inverse-fits = table-stores }
+    needed-words = record { size = F .size; weights-fit = needed-fits n weights (F .size) (F .fits .graph .weights); inverse-fits = table-stores }
 
-    pub needed-long : LongEnough (lent-to-session (needed-state (state n made adjacency weights inverse sequence)) [])
-    needed-long = (F .1 .0, (omega (arith, needed-counted n weights (F .0) (F .1 .1 .0)), (omega (arith, table-length), (F .1 .1 .1 .1 .0, tt))))
+    pub needed-long : SessionFits (needed-state (state n made adjacency weights inverse sequence))
+    needed-long = record {
+      graph = record { cells = F .fits .graph .cells; weights = omega (arith, needed-counted n weights (F .size) (F .fits .graph .weights)) };
+      inverse-fits = omega (arith, table-length);
+      sequence-fits = F .fits .sequence-fits;
+    }
 
     -- a call over them is refused for the same cause
-    pub ruling-same : (p : ℕ) (S : Subset) → session-ruling p S (needed-state (state n made adjacency weights inverse sequence)) ≡ session-ruling p S s
-    ruling-same p S =
-        session-same p S n made adjacency sequence (needed-weights n weights) (words weights) (needed-inverse n inverse) (words inverse) (needed-agree n weights (F .0))
-        (λ x l. getD-take (n * n) (words inverse) x 0 l) needed-long (F .1)
+    pub ruling-same : (p : ℕ) → session-ruling p (needed-state (state n made adjacency weights inverse sequence)) ≡ session-ruling p s
+    ruling-same p =
+        session-same p n made adjacency sequence (needed-weights n weights) (words weights) (needed-inverse n inverse) (words inverse) (needed-agree n weights (F .size))
+        (λ x l. getD-take (n * n) (words inverse) x 0 l) needed-long (F .fits)
+
+    -- nor does it matter where it is lent buffers besides and looks at causes afterwards
+    pub more-same : (p : ℕ) (more : List Lent) (later : List Cause)
+        → judge (session-causes p (needed-state (state n made adjacency weights inverse sequence)) more ++ later) ≡ judge (session-causes p s more ++ later)
+    more-same p more later =
+        more-parts p (needed-state (state n made adjacency weights inverse sequence)) more later (in-order (needed-state (state n made adjacency weights inverse sequence)) (record { size = F .size; fits = needed-long }))
+        ∙ ap (λ v. then (judge (too-short more ∷ [])) (then v (judge later))) (ruling-same p)
+        ∙ sym (more-parts p s more later (in-order s F))

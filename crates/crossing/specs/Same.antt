@@ -5,9 +5,9 @@ use Prim.Native.Nat.{ℕ, _<_}
 use native.Mathlib.Omega.{arith}
 use native.Mathlib.Decide.{ℕ-discrete, decLt}
 use lib.ListN.{getD}
+use Rattle.lists.specs.Choose.{choose}
 use Rattle.modular.specs.Operations.{negative}
 use Rattle.modular.specs.Congruence.{equals}
-use Rattle.skew.specs.Choose.{choose}
 use Rattle.skew.specs.Subset.{Subset}
 use Rattle.skew.specs.Same.{inverse-same, witness-same, first-same}
 use Rattle.matching.specs.Decision.{Every, First, nowhere, first-at, found}
@@ -15,8 +15,8 @@ use Rattle.matching.specs.Graph.{pair-count, cell, weight-index, weight, upper,
 use Rattle.matching.specs.Session.{InverseTable}
 use Rattle.matching.specs.Opening.{Singular}
 use Rattle.matching.specs.Causes.{bad-cell, first-outside, bad-weight}
-use Rattle.laws.specs.Sound.{found-absent, found-at}
 use Rattle.laws.specs.Weights.{index-fits}
+use Rattle.laws.specs.Judge.{found-absent, found-at}
 
 -- the first number with a property is that with any other that holds of the same numbers
 found-same : {n : ℕ} {P Q : ℕ → Type 0} (f : First n P) (h : First n Q) → Every n (λ k. P k → Q k) → Every n (λ k. Q k → P k) → found f ≡ found h

@@ -10,14 +10,13 @@ use Rattle.skew.specs.Same.{inverse-same}
 use Rattle.matching.specs.Decision.{Every, both?, not?, when, judge}
 use Rattle.matching.specs.Graph.{pair-count, over}
 use Rattle.matching.specs.Pairs.{Pairs, pair-of, unmatched, in?, pairs-on}
-use Rattle.matching.specs.Session.{InverseTable, WellFormed}
+use Rattle.matching.specs.Session.{in-play, InverseTable, WellFormed, state}
 use Rattle.matching.specs.Decided.{well-formed?, inverse-table?}
-use Rattle.matching.specs.Causes.{LongEnough, lent-to-session, ill-formed, not-inverse, session-ruling}
+use Rattle.matching.specs.Causes.{lent-to-session, ill-formed, not-inverse, session-ruling}
 use Rattle.matching.specs.Model.{Call, Answer, named?, needs, adjacent?, Nonsingular, nonsingular?, pick-ruling, Rule, picks, pick-refused, picks-lowest, none-left, no-pair, undo-refused, undoes, step}
-use Rattle.laws.specs.Sound.{short-absent}
+use Rattle.laws.specs.Sound.{SessionFits, session-fits, short-absent}
 use Rattle.laws.specs.Determined.{table-over}
 use Rattle.laws.specs.Rules.{step-rule, rule-step}
-use Rattle.soundness.specs.Sound.{state}
 use Rattle.crossing.specs.Same.{cells-same, weights-same, tutte-same, table-same}
 
 -- a cause that rests on a condition applies where it does for an equivalent one
@@ -81,19 +80,21 @@ formed-same : (n made : ℕ) (adjacency u v sequence : List ℕ) → WellFormed 
 formed-same n made adjacency u v sequence W =
     record { few = W .few; ordered = W .ordered; below = W .below; adjacent = W .adjacent; different = W .different; rest = W .rest }
 
-module _ (p : ℕ) (S : Subset) (n made : ℕ) (adjacency sequence : List ℕ) where
+module _ (p : ℕ) (n made : ℕ) (adjacency sequence : List ℕ) where
   inverse-both : (u v i j : List ℕ) → Agree (pair-count n) u v → Agree (n * n) i j → {L : Subset} → InverseTable p (over n adjacency u) L i → InverseTable p (over n adjacency v) L j
   inverse-both u v i j agree words I = table-same n adjacency u v agree (table-over i j (λ x l. sym (words x l)) I)
 
   module _ (u v i j : List ℕ) (agree : Agree (pair-count n) u v) (words : Agree (n * n) i j)
-      (fits : LongEnough (lent-to-session (state n made adjacency u i sequence) [])) (all-fits : LongEnough (lent-to-session (state n made adjacency v j sequence) [])) where
-    pub session-same : session-ruling p S (state n made adjacency u i sequence) ≡ session-ruling p S (state n made adjacency v j sequence)
+      (fits : SessionFits (state n made adjacency u i sequence)) (all-fits : SessionFits (state n made adjacency v j sequence)) where
+    pub session-same : session-ruling p (state n made adjacency u i sequence) ≡ session-ruling p (state n made adjacency v j sequence)
     unfolding session-ruling ill-formed not-inverse
     session-same =
-        let L = unmatched S (pairs-on sequence made) in
+        let s = state n made adjacency u i sequence in
+        let t = state n made adjacency v j sequence in
+        let L = unmatched (in-play s) (pairs-on sequence made) in
         rw (
-          short-absent (lent-to-session (state n made adjacency u i sequence) []) .1 fits,
-          short-absent (lent-to-session (state n made adjacency v j sequence) []) .1 all-fits,
+          short-absent (lent-to-session s []) .1 (session-fits s [] .1 (fits, tt)),
+          short-absent (lent-to-session t []) .1 (session-fits t [] .1 (all-fits, tt)),
           cells-same n adjacency u v,
           weights-same n adjacency u v agree p,
           when-same (well-formed? (over n adjacency u) made sequence) (well-formed? (over n adjacency v) made sequence) (formed-same n made adjacency u v sequence) (formed-same n made adjacency v u sequence),

@@ -3,32 +3,23 @@ use mathlib.Core.Path.{_≡_, refl, sym, ap, _∙_}
 use mathlib.Core.List.{List}
 use Prim.Native.Nat.{ℕ, _*_}
 use lib.ListN.{length, take}
+use Rattle.lists.specs.Onto.{onto}
 use Rattle.residue.specs.Modulus.{modulus, modulus-prime}
 use Rattle.matching.specs.Decision.{Refusal, accepted, refused}
 use Rattle.matching.specs.Graph.{over}
-use Rattle.matching.specs.Pairs.{everything, pairs-on}
-use Rattle.matching.specs.Session.{State, with-pairs, onto}
+use Rattle.matching.specs.Pairs.{pairs-on}
+use Rattle.matching.specs.Session.{in-play, State, with-pairs, state}
 use Rattle.matching.specs.Causes.{session-ruling}
-use Rattle.matching.specs.Model as model
 use Rattle.matching.specs.Model.{Call, Answer, done, denied, step}
 use Rattle.matching.specs.Calls.{Handles, unsound, refuses, carries}
-use Rattle.matching.specs.Host.{words, Bytes, bytes-of, answer-number, session-back, unpacked-state, HostHandles}
+use Rattle.matching.specs.Host.{words, Bytes, bytes-of, answer-number, unpacked-state, HostHandles, handed-back}
 use Rattle.laws.specs.Sound.{session-accepted}
 use Rattle.laws.specs.Numbers.{host-session}
-use Rattle.soundness.specs.Sound.{state}
 use Rattle.laws.specs.Words.{stored-front}
 use Rattle.crossing.specs.Same.{table-same}
 use Rattle.crossing.specs.Needed.{needed-weights, needed-agree}
 use Rattle.crossing.specs.Steps.{step-same}
-use Rattle.crossing.specs.Fit.{Fits, needed-inverse, needed-state, table-length, ruling-same}
-use Rattle.crossing.specs.declared.Request.{Request}
-use Rattle.crossing.specs.declared.Request.the-variants.{Pick, Automatic, Undo}
-
--- the call that is asked for
-abbrev pub call-of : Request → Call
-call-of (Pick a b) = model.pick a b
-call-of Automatic = model.automatic
-call-of Undo = model.undo
+use Rattle.crossing.specs.Fit.{HostFits, needed-inverse, needed-state, table-length, ruling-same}
 
 -- the first words of a table, so many of them, stored over bytes where a pair is answered
 abbrev pub stored : Answer → ℕ → (table bytes : List ℕ) → List ℕ
@@ -39,21 +30,16 @@ stored (denied r) size table bytes = bytes
 pub record HandlesOver (s : State) (c : Call) (bytes : List ℕ) (answer : ℕ) (bytes′ sequence′ : List ℕ) : Type 0 where
   pub given : Answer
   pub left : State
-  pub outcome : Handles modulus-prime everything s c given left
+  pub outcome : Handles modulus-prime s c given left
   pub numbered : answer ≡ answer-number given (left .session)
   pub stored : bytes′ ≡ stored given (length (s .inverse)) (left .inverse) bytes
   pub sequence : sequence′ ≡ left .sequence
 
 -- what is left to show of a call over lent words
-module _ {s left : State} {c : Call} {a : Answer} (h : Handles modulus-prime everything s c a left) where
+module _ {s left : State} {c : Call} {a : Answer} (h : Handles modulus-prime s c a left) where
   pub answers : {given : Answer} {answer : ℕ} {bytes bytes′ : List ℕ} → a ≡ given → answer ≡ answer-number given (left .session)
       → bytes′ ≡ stored given (length (s .inverse)) (left .inverse) bytes → HandlesOver s c bytes answer bytes′ (left .sequence)
   answers {given} q n w = record { given = given; left = left; outcome = rw q at h; numbered = n; stored = w; sequence = refl }
-
--- what the host has after a call: the session that the number hands back, the tables as they were, and what was written
-abbrev pub handed-back : State → ℕ → (inverse sequence : List ℕ) → State
-handed-back s answer inverse sequence =
-    record { session = session-back answer (s .session); adjacency = s .adjacency; weights = s .weights; inverse = inverse; sequence = sequence }
 
 -- a call over the words that the graph needs is one over all of the host's
 module _ (n made : ℕ) (adjacency weights inverse sequence : List ℕ) where
@@ -69,30 +55,30 @@ module _ (n made : ℕ) (adjacency weights inverse sequence : List ℕ) where
     sequence = left .sequence;
   }
 
-  refused-through : (c : Call) {r : Refusal} → Handles modulus-prime everything (unpacked-state host) c (denied r) (unpacked-state host)
-      → HostHandles modulus-prime everything host c (answer-number (denied r) (host .session)) host
+  refused-through : (c : Call) {r : Refusal} → Handles modulus-prime (unpacked-state host) c (denied r) (unpacked-state host)
+      → HostHandles modulus-prime host c (answer-number (denied r) (host .session)) host
   refused-through c {r} h = record { given = denied r; left = unpacked-state host; outcome = h; numbered = refl; stored = refl }
 
-  module _ (B : Bytes inverse) (F : Fits (unpacked-state host)) where
-    same : session-ruling modulus everything (unpacked-state host) ≡ session-ruling modulus everything (needed-state host)
-    same = sym (ruling-same n made adjacency weights inverse sequence F modulus everything)
+  module _ (B : Bytes inverse) (F : HostFits (unpacked-state host)) where
+    same : session-ruling modulus (unpacked-state host) ≡ session-ruling modulus (needed-state host)
+    same = sym (ruling-same n made adjacency weights inverse sequence F modulus)
 
-    steps : (c : Call) → session-ruling modulus everything (needed-state host) ≡ accepted
-        → step modulus-prime (over n adjacency (words weights)) everything (pairs-on sequence made) c
-        ≡ step modulus-prime (over n adjacency (needed-weights n weights)) everything (pairs-on sequence made) c
+    steps : (c : Call) → session-ruling modulus (needed-state host) ≡ accepted
+        → step modulus-prime (over n adjacency (words weights)) (in-play host) (pairs-on sequence made) c
+        ≡ step modulus-prime (over n adjacency (needed-weights n weights)) (in-play host) (pairs-on sequence made) c
     steps c e =
-        let I = session-accepted modulus everything (needed-state host) .0 e .1 .as-defined .is-inverse in
-        sym (step-same modulus-prime everything n adjacency (needed-weights n weights) (words weights) (needed-agree n weights (F .0)) (pairs-on sequence made) c (_, I))
+        let I = session-accepted modulus (needed-state host) .0 e .1 .as-defined .is-inverse in
+        sym (step-same modulus-prime (in-play host) n adjacency (needed-weights n weights) (words weights) (needed-agree n weights (F .size)) (pairs-on sequence made) c (_, I))
 
-    through : {c : Call} {a : Answer} {left : State} → Handles modulus-prime everything (needed-state host) c a left
-        → HostHandles modulus-prime everything host c (answer-number a (left .session)) (handed-state a left)
+    through : {c : Call} {a : Answer} {left : State} → Handles modulus-prime (needed-state host) c a left
+        → HostHandles modulus-prime host c (answer-number a (left .session)) (handed-state a left)
     through {c} (unsound r e) = refused-through c (unsound r (same ∙ e))
     through {c} (refuses r e k) = refused-through c (refuses r (same ∙ e) (ap (λ t. t .answer) (steps c e) ∙ k))
     through {c} (carries x pairs table e k l I) = record {
       given = done x;
       left = with-pairs (over n adjacency (words weights)) pairs table (unpacked-state host);
       outcome =
-          carries x pairs table (same ∙ e) (steps c e ∙ k) l (table-same n adjacency (needed-weights n weights) (words weights) (needed-agree n weights (F .0)) I);
+          carries x pairs table (same ∙ e) (steps c e ∙ k) l (table-same n adjacency (needed-weights n weights) (words weights) (needed-agree n weights (F .size)) I);
       numbered = refl;
       stored =
           ap (λ i. record {
@@ -102,20 +88,20 @@ module _ (n made : ℕ) (adjacency weights inverse sequence : List ℕ) where
             inverse = i;
             sequence = with-pairs (over n adjacency (words weights)) pairs table (unpacked-state host) .sequence;
           })
-          (stored-front table (needed-inverse n inverse) inverse (n * n) B l (F .1 .1 .1 .0));
+          (stored-front table (needed-inverse n inverse) inverse (n * n) B l (F .fits .inverse-fits));
     }
 
-  handed : {c : Call} {k : ℕ} (a : Answer) (left : State) → HostHandles modulus-prime everything host c k (handed-state a left)
-      → HostHandles modulus-prime everything host c k (handed-back host k (stored a (n * n) (left .inverse) inverse) (left .sequence))
-  handed a left H = rw (← host-session modulus-prime everything H) H
+  handed : {c : Call} {k : ℕ} (a : Answer) (left : State) → HostHandles modulus-prime host c k (handed-state a left)
+      → HostHandles modulus-prime host c k (handed-back host k (stored a (n * n) (left .inverse) inverse) (left .sequence))
+  handed a left H = rw (← host-session modulus-prime H) H
 
-  pub host-handles : Bytes inverse → Fits (unpacked-state host) → {c : Call} {k : ℕ} {inverse′ sequence′ : List ℕ}
-      → HandlesOver (needed-state host) c inverse k inverse′ sequence′ → HostHandles modulus-prime everything host c k (handed-back host k inverse′ sequence′)
+  pub host-handles : Bytes inverse → HostFits (unpacked-state host) → {c : Call} {k : ℕ} {inverse′ sequence′ : List ℕ}
+      → HandlesOver (needed-state host) c inverse k inverse′ sequence′ → HostHandles modulus-prime host c k (handed-back host k inverse′ sequence′)
   host-handles B F O =
       rw (O .numbered, O .stored, O .sequence, table-length n made adjacency weights inverse sequence F)
       (handed (O .given) (O .left) (through B F (O .outcome)))
 
   -- a refusal for the size or the lengths is the host's
-  pub host-refuses : (c : Call) {r : Refusal} → session-ruling modulus everything (unpacked-state host) ≡ refused r
-      → HostHandles modulus-prime everything host c (answer-number (denied r) (host .session)) (handed-back host (answer-number (denied r) (host .session)) inverse sequence)
+  pub host-refuses : (c : Call) {r : Refusal} → session-ruling modulus (unpacked-state host) ≡ refused r
+      → HostHandles modulus-prime host c (answer-number (denied r) (host .session)) (handed-back host (answer-number (denied r) (host .session)) inverse sequence)
   host-refuses c {r} e = handed (denied r) host (refused-through c (unsound r e))

@@ -1,53 +1,25 @@
 // The session calls with numbers and byte slices: what the host's entries call. Words cross as two bytes, low first (docs/HOST.md).
 use calls::Answer;
-use checks::Ruling;
-use session::Returned;
+use calls::Call;
+use refusals::Ruling;
 use session::Session;
 ghost use mathlib.Core.Path.{_≡_};
 ghost use Prim.Native.Nat.{_*_, _≤_};
 ghost use lib.ListN.{length, take};
 ghost use Rattle.residue.specs.Modulus.{modulus-prime};
-ghost use Rattle.matching.specs.Pairs.{everything};
 ghost use Rattle.matching.specs.Model as model;
-ghost use Rattle.matching.specs.Calls.{Handles};
-ghost use Rattle.matching.specs.Host.{unpacked-state, HostHandles, HostPickedExactly};
-ghost use Rattle.soundness.specs.Sound.{state};
-ghost use Rattle.calls.specs.Answers.{answer-of};
+ghost use Rattle.matching.specs.Host.{unpacked-state, HostHandles, HostPickedExactly, handed-back};
+ghost use Rattle.matching.specs.Session.{state};
+ghost use Rattle.calls.specs.Answers.{call-is};
 ghost use Rattle.checks.specs.Weights.{needed};
 ghost use Rattle.crossing.specs.Needed.{needed-weights};
-ghost use Rattle.crossing.specs.Fit.{Needed, needed-inverse, Fits};
-ghost use Rattle.crossing.specs.Through.{call-of, HandlesOver, handed-back};
+ghost use Rattle.crossing.specs.Fit.{Needed, needed-inverse, HostFits};
+ghost use Rattle.crossing.specs.Through.{HandlesOver};
 
-// A session call that the host asks for.
-enum Request {
-    Pick(usize, usize),
-    Automatic,
-    Undo,
-}
-
-// The call on words.
-fn call(
-    request: Request,
-    session: Session,
-    adjacency: &[u8],
-    weights: &[u16],
-    inverse: &mut [u16],
-    sequence: &mut [u8],
-) -> Returned
-    ensures { λ r.
-        let before = state (session .size) (session .made) (now (adjacency .entry)) (now (weights .entry)) (now (inverse .entry)) (now (sequence .entry)) in
-        ⌜ Handles modulus-prime everything before (call-of request) (answer-of (r .answer)) (state (r .session .size) (r .session .made) (now (adjacency .entry)) (now (weights .entry)) (now (inverse .exit)) (now (sequence .exit))) ⌝ }
-{
-    match request {
-        Request::Pick(a, b) => session.pick(adjacency, weights, inverse, sequence, a, b),
-        Request::Automatic => session.automatic(adjacency, weights, inverse, sequence),
-        Request::Undo => session.undo(adjacency, weights, inverse, sequence),
-    }
-}
-
-// The same with the session as numbers and answered by one. Where a pair is answered, the words of the table are stored as the inverse's bytes.
+// Makes a call over lent words, with the session as numbers, and answers one. Where a pair is answered, the words of the table are stored as
+// the inverse's bytes.
 fn call_over(
-    request: Request,
+    call: Call,
     n: usize,
     made: usize,
     adjacency: &[u8],
@@ -59,11 +31,11 @@ fn call_over(
     requires { ⌜ 2 * length (now table) ≤ length (now inverse) ⌝ }
     ensures { λ r.
         let before = state n made (now (adjacency .entry)) (now (weights .entry)) (now (table .entry)) (now (sequence .entry)) in
-        ⌜ HandlesOver before (call-of request) (now (inverse .entry)) r (now (inverse .exit)) (now (sequence .exit)) ⌝ }
+        ⌜ HandlesOver before (call-is call) (now (inverse .entry)) r (now (inverse .exit)) (now (sequence .exit)) ⌝ }
 {
     let size = table.len();
     let session = Session { size: n, made };
-    let returned = call(request, session, adjacency, weights, table, sequence);
+    let returned = session.call(call, adjacency, weights, table, sequence);
     let after = returned.session;
     let answer = returned.answer;
     let number = calls::number(answer, after.made);
@@ -88,9 +60,9 @@ pub fn unpack(n: usize, weights: &[u8], inverse: &[u8], values: &mut [u16], tabl
     packing::unpack(inverse, &mut table[..size]);
 }
 
-// The same over bytes, of which as many words are read as the graph needs.
+// Makes a call over bytes, of which as many words are read as the graph needs.
 fn call_words(
-    request: Request,
+    call: Call,
     n: usize,
     made: usize,
     adjacency: &[u8],
@@ -98,10 +70,10 @@ fn call_words(
     inverse: &mut [u8],
     sequence: &mut [u8],
 ) -> u64
-    requires { ⌜ Fits (unpacked-state (state n made (now adjacency) (now weights) (now inverse) (now sequence))) ⌝ }
+    requires { ⌜ HostFits (unpacked-state (state n made (now adjacency) (now weights) (now inverse) (now sequence))) ⌝ }
     ensures { λ r.
         let before = state n made (now (adjacency .entry)) (now (weights .entry)) (now (inverse .entry)) (now (sequence .entry)) in
-        ⌜ HostHandles modulus-prime everything before (call-of request) r (handed-back before r (now (inverse .exit)) (now (sequence .exit))) ⌝ }
+        ⌜ HostHandles modulus-prime before (call-is call) r (handed-back before r (now (inverse .exit)) (now (sequence .exit))) ⌝ }
 {
     let mut values = [0u16; 4560];
     let mut table = [0u16; 9216];
@@ -109,7 +81,7 @@ fn call_words(
     let count = checks::weights_needed(n);
     let size = n * n;
     call_over(
-        request,
+        call,
         n,
         made,
         adjacency,
@@ -122,7 +94,7 @@ fn call_words(
 
 // A call through the host. Words are taken only where the size and the lengths are in order.
 fn handle(
-    request: Request,
+    call: Call,
     n: usize,
     made: usize,
     adjacency: &[u8],
@@ -132,7 +104,7 @@ fn handle(
 ) -> u64
     ensures { λ r.
         let before = state n made (now (adjacency .entry)) (now (weights .entry)) (now (inverse .entry)) (now (sequence .entry)) in
-        ⌜ HostHandles modulus-prime everything before (call-of request) r (handed-back before r (now (inverse .exit)) (now (sequence .exit))) ⌝ }
+        ⌜ HostHandles modulus-prime before (call-is call) r (handed-back before r (now (inverse .exit)) (now (sequence .exit))) ⌝ }
 {
     let ruling = checks::judge_lengths(
         n,
@@ -144,7 +116,7 @@ fn handle(
     if let Ruling::Refused(refusal) = ruling {
         return numbers::refused(refusal);
     }
-    call_words(request, n, made, adjacency, weights, inverse, sequence)
+    call_words(call, n, made, adjacency, weights, inverse, sequence)
 }
 
 // Hand pick of a and b through the host.
@@ -160,11 +132,11 @@ pub fn pick(
 ) -> u64
     ensures handled { λ r.
         let before = state n made (now (adjacency .entry)) (now (weights .entry)) (now (inverse .entry)) (now (sequence .entry)) in
-        ⌜ HostHandles modulus-prime everything before (model.pick a b) r (handed-back before r (now (inverse .exit)) (now (sequence .exit))) ⌝ }
-    ensures exactly { λ r. ⌜ HostPickedExactly modulus-prime everything (state n made (now (adjacency .entry)) (now (weights .entry)) (now (inverse .entry)) (now (sequence .entry))) a b r ⌝ }
+        ⌜ HostHandles modulus-prime before (model.pick a b) r (handed-back before r (now (inverse .exit)) (now (sequence .exit))) ⌝ }
+    ensures exactly { λ r. ⌜ HostPickedExactly modulus-prime (state n made (now (adjacency .entry)) (now (weights .entry)) (now (inverse .entry)) (now (sequence .entry))) a b r ⌝ }
 {
     handle(
-        Request::Pick(a, b),
+        Call::Pick(a, b),
         n,
         made,
         adjacency,
@@ -185,10 +157,10 @@ pub fn automatic(
 ) -> u64
     ensures { λ r.
         let before = state n made (now (adjacency .entry)) (now (weights .entry)) (now (inverse .entry)) (now (sequence .entry)) in
-        ⌜ HostHandles modulus-prime everything before model.automatic r (handed-back before r (now (inverse .exit)) (now (sequence .exit))) ⌝ }
+        ⌜ HostHandles modulus-prime before model.automatic r (handed-back before r (now (inverse .exit)) (now (sequence .exit))) ⌝ }
 {
     handle(
-        Request::Automatic,
+        Call::Automatic,
         n,
         made,
         adjacency,
@@ -209,15 +181,7 @@ pub fn undo(
 ) -> u64
     ensures { λ r.
         let before = state n made (now (adjacency .entry)) (now (weights .entry)) (now (inverse .entry)) (now (sequence .entry)) in
-        ⌜ HostHandles modulus-prime everything before model.undo r (handed-back before r (now (inverse .exit)) (now (sequence .exit))) ⌝ }
+        ⌜ HostHandles modulus-prime before model.undo r (handed-back before r (now (inverse .exit)) (now (sequence .exit))) ⌝ }
 {
-    handle(
-        Request::Undo,
-        n,
-        made,
-        adjacency,
-        weights,
-        inverse,
-        sequence,
-    )
+    handle(Call::Undo, n, made, adjacency, weights, inverse, sequence)
 }

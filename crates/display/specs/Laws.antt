@@ -7,11 +7,11 @@ use native.Mathlib.Omega.{arith}
 use native.Mathlib.Decide.{ℕ-discrete, decLt}
 use lib.ListN.{length, getD, take}
 use lib.Seq.{getD-take, length-take-le}
-use Rattle.skew.specs.Choose.{choose-yes, choose-no}
+use Rattle.lists.specs.Choose.{choose-yes, choose-no}
 use Rattle.matching.specs.Decision.{Every, not?, First, nowhere, first-at, first?, found}
 use Rattle.matching.specs.Graph.{largest}
 use Rattle.matching.specs.Display.{of-inverse, of-witness, part, display}
-use Rattle.laws.specs.Sound.{found-absent}
+use Rattle.laws.specs.Judge.{found-absent}
 use Rattle.display.specs.Words.{Nonzero, Zero}
 
 part-nonzero : {m : ℕ} {P : ℕ → Type 0} (n : ℕ) (f : First m P) (x : ℕ) → x < m → P x → part n (found f) ≡ of-witness n

@@ -4,13 +4,13 @@ use mathlib.Core.List.{List}
 use Prim.Native.Nat.{ℕ, _*_}
 use native.Mathlib.Omega.{arith}
 use lib.ListN.{getD, take, replicate, length-replicate, getD-replicate}
+use Rattle.lists.specs.Onto.{onto, onto-long, onto-front}
 use Rattle.modular.specs.Prime.{OddPrime, below-equal}
 use Rattle.skew.specs.Subset.{Subset}
 use Rattle.matching.specs.Graph.{Graph}
-use Rattle.matching.specs.Session.{Session, onto}
+use Rattle.matching.specs.Session.{Session}
 use Rattle.matching.specs.Opening.{opened, singular, Buffers, Opens, opens, finds-singular}
 use Rattle.matching.specs.Display.{of-inverse, of-witness, display}
-use Rattle.laws.specs.Onto.{onto-long, onto-front}
 use Rattle.laws.specs.Sound.{opening-accepted}
 use Rattle.display.specs.Words.{Zero}
 use Rattle.display.specs.Laws.{display-witness, display-inverse}

@@ -1,4 +1,5 @@
 // The draw roll of document 01: states of 32 bits, each made of the one before it, and a draw of each, which is the weight of an edge.
+use residue::Residue;
 ghost use mathlib.Core.Path.{_≡_};
 ghost use Prim.Native.Nat.{_*_, _%_, _^_};
 ghost use lib.ListN.{length};
@@ -18,11 +19,11 @@ pub fn next(state: u32) -> u32
     std::num::wrapping_add_u32(wrapping_mul(1664525, state), 1013904223)
 }
 
-// The draw of state, from 1 to 65520.
+// The draw of state: from 1 to the modulus less 1.
 pub fn draw(state: u32) -> u16
     ensures { λ r. ⌜ r ≡ draw state ⌝ }
 {
-    (1 + (state / 65536) % 65520) as u16
+    (1 + (state / 65536) % (Residue::MODULUS as u32 - 1)) as u16
 }
 
 // Puts the first draws from seed into words, in order, one in each word.

@@ -1,6 +1,5 @@
 -- One record among the edges, and all of them to the end. Assumes nothing.
 use mathlib.Core.Path.{_≡_, refl, ap, _∙_}
-use mathlib.Core.Logic.{_≢_}
 use mathlib.Core.List.{List, [], _∷_}
 use Prim.Native.Nat.{ℕ, _+_, _≤_, _<_}
 use native.Mathlib.Numerals.{add-one}
@@ -8,14 +7,16 @@ use native.Mathlib.Omega.{arith}
 use lib.ListN.{length}
 use Rattle.matching.specs.Decision.{because}
 use Rattle.matching.specs.Pairs.{Pair, pair-of}
-use Rattle.matching.specs.Records.{kind, weighted, takes-end, sheet, unread, cells}
+use Rattle.matching.specs.Records.{weighted, takes-end, sheet, unread, cells}
 use Rattle.matching.specs.Computed.{only-edges}
-use Rattle.records.specs.Stands.{record-of, Stands}
+use Rattle.records.specs.Stands.{Stands}
 use Rattle.records.specs.declared.Ends.{Ends}
 use Rattle.records.specs.declared.Record.{Record}
 use Rattle.records.specs.declared.Record.the-variants.{Share, End}
 use Rattle.records.specs.declared.Next.the-variants.{Whole}
+use Rattle.refusals.specs.Answers.{refusal-of}
 use Rattle.due.specs.Follows.{ReadsOn, Follows, stands-within, taken-here, rejected-here, undue-here, ends-here, excess-here}
+use Rattle.due.specs.Others.{Left, other-kind}
 use Rattle.edges.specs.Marked.{Marked}
 use Rattle.edges.specs.declared.Mark.the-variants as mark
 use Rattle.edges.specs.declared.Step.{Step}
@@ -35,13 +36,13 @@ Stepped bytes at n table (step.On next) table′ =
 Stepped bytes at n table step.Done table′ =
     (table′ ≡ table) × ((weights : List ℕ) (edges : List Pair) → ReadsOn bytes (weighted n weights edges) at (sheet n weights edges))
 Stepped bytes at n table (step.Refused why) table′ =
-    (weights : List ℕ) (edges : List Pair) → table ≡ cells n edges → ReadsOn bytes (weighted n weights edges) at (unread (because (why .cause) (why .place)))
+    (weights : List ℕ) (edges : List Pair) → table ≡ cells n edges → ReadsOn bytes (weighted n weights edges) at (unread (refusal-of why))
 
 module _ {bytes : List ℕ} {at n : ℕ} where
   -- another kind than share and end
-  pub step-undue : {r : Record} → Stands bytes at (Whole r) → kind (record-of r) ≢ 2 → kind (record-of r) ≢ 4 → (weights : List ℕ) (edges : List Pair)
+  pub step-undue : {r : Record} → Stands bytes at (Whole r) → Left (2 ∷ 4 ∷ []) r → (weights : List ℕ) (edges : List Pair)
       → ReadsOn bytes (weighted n weights edges) at (unread (because 12 at))
-  step-undue S c d weights edges = undue-here S (only-edges c d)
+  step-undue {r} S left weights edges = undue-here S (only-edges (other-kind (2 ∷ 4 ∷ []) r 2 left tt) (other-kind (2 ∷ 4 ∷ []) r 4 left tt))
 
   pub step-share : {table table′ : List ℕ} (e : Ends) → Stands bytes at (Whole (Share e)) → Marked n (e .a) (e .b) table mark.Made table′
       → Stepped bytes at n table (step.On (at + 3)) table′
@@ -67,14 +68,14 @@ module _ {bytes : List ℕ} {at n : ℕ} where
       → ReadsOn bytes (weighted n weights edges) at (unread (because 12 (at + 1)))
   step-excess S l weights edges = taken-here S takes-end _ (excess-here bytes (at + 1) n weights edges l)
 
--- so many edges are read from one offset to another, and marked in the table
+-- count edges are read from one offset to another, and marked in the table
 pub record Reached (bytes : List ℕ) (from n : ℕ) (weights : List ℕ) (at count : ℕ) (table : List ℕ) : Type 0 where
   pub edges : List Pair
   pub counted : count ≡ length edges
   pub marks : table ≡ cells n edges
   pub follows : Follows bytes (weighted n weights []) from (weighted n weights edges) at
 
--- so many are read to the end
+-- count edges are read up to the end record
 pub record AllRead (bytes : List ℕ) (from n : ℕ) (weights : List ℕ) (count : ℕ) (table : List ℕ) : Type 0 where
   pub edges : List Pair
   pub counted : count ≡ length edges
@@ -83,7 +84,7 @@ pub record AllRead (bytes : List ℕ) (from n : ℕ) (weights : List ℕ) (count
 
 abbrev pub EdgesRead : List ℕ → (from n : ℕ) → List ℕ → Edges → List ℕ → Type 0
 EdgesRead bytes from n weights (edges.Counted count) table = AllRead bytes from n weights count table
-EdgesRead bytes from n weights (edges.Refused why) table = ReadsOn bytes (weighted n weights []) from (unread (because (why .cause) (why .place)))
+EdgesRead bytes from n weights (edges.Refused why) table = ReadsOn bytes (weighted n weights []) from (unread (refusal-of why))
 
 module _ {bytes : List ℕ} {from n : ℕ} {weights : List ℕ} where
   pub reached-start : {table : List ℕ} → table ≡ cells n [] → Reached bytes from n weights from 0 table

@@ -1,7 +1,8 @@
-// The edges of a sheet: its share records up to the end record, marked in a table. Causes 14 and 15, and 12 behind the end.
-use checks::Refusal;
+// The edges of a sheet: its share records up to the end record, marked in a table. Causes 12 to 15.
+use due::Due;
 use due::Found;
 use records::Record;
+use refusals::Refusal;
 ghost use mathlib.Core.Path.{_≡_};
 ghost use mathlib.Core.List.{List, []};
 ghost use Prim.Native.Nat.{ℕ};
@@ -23,13 +24,13 @@ pub enum Step {
     Refused(Refusal),
 }
 
-// How many edges there are, or a refusal.
+// The number of edges, or a refusal.
 pub enum Edges {
     Counted(usize),
     Refused(Refusal),
 }
 
-// Marks two vertices as adjacent, in both cells.
+// Marks a and b as adjacent in both cells of table. Refuses what is not two vertices below n, and an edge that is marked already.
 fn mark_edge(n: usize, a: usize, b: usize, table: &mut [u8]) -> Mark
     requires { ⌜ Square n (now table) ⌝ }
     ensures { λ r. ⌜ Marked n a b (now (table .entry)) r (now (table .exit)) ⌝ }
@@ -53,43 +54,36 @@ fn mark_edge(n: usize, a: usize, b: usize, table: &mut [u8]) -> Mark
     Mark::Made
 }
 
-// Reads one record, where share records or the end are due.
+// Reads the record at offset at of bytes, where a share record or the end is due, and marks the edge of a share record in table.
 fn take_record(bytes: &[u8], at: usize, n: usize, table: &mut [u8]) -> Step
     requires { ⌜ Square n (now table) ⌝ }
     ensures { λ r. ⌜ Stepped (now (bytes .entry)) at n (now (table .entry)) r (now (table .exit)) ⌝ }
 {
-    let undue = Refusal {
-        cause: 12,
-        place: at,
-    };
-    let found = due::found_at(bytes, at, 2, 4);
+    let found = due::found_at(bytes, at, Due::Edges);
     match found {
         Found::Refused(why) => Step::Refused(why),
         Found::Whole(record) => match record {
-            Record::Size(_) => Step::Refused(undue),
             Record::Share(ends) => {
                 let marked = mark_edge(n, ends.a, ends.b, table);
                 match marked {
                     Mark::Made => Step::On(at + 3),
-                    Mark::Refused(cause) => Step::Refused(Refusal { cause, place: at }),
+                    Mark::Refused(cause) => Step::Refused(refusals::because(cause, at)),
                 }
             }
-            Record::Seed(_) => Step::Refused(undue),
             Record::End => {
                 let next = at + 1;
                 if next < bytes.len() {
-                    return Step::Refused(Refusal {
-                        cause: 12,
-                        place: next,
-                    });
+                    return Step::Refused(refusals::because(12, next));
                 }
                 Step::Done
             }
+            _ => Step::Refused(refusals::because(12, at)),
         },
     }
 }
 
-// Reads the share records from an offset on, to the end, and marks their edges in a table of 0s. For proved callers.
+// Reads the share records at offset from of bytes up to the end record, and marks their edges in table, where every cell is 0 before.
+// Behind each record, the table has the edges of the records so far, and count is their number.
 pub fn read_edges(bytes: &[u8], from: usize, n: usize, table: &mut [u8]) -> Edges
     requires { ⌜ Square n (now table) × (now table ≡ cells n []) ⌝ }
     ensures { λ r. ⌜ ((weights : List ℕ) → EdgesRead (now (bytes .entry)) from n weights r (now (table .exit))) ⌝ }

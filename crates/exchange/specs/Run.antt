@@ -11,10 +11,10 @@ use native.Mathlib.Decide.{ℕ-discrete}
 use lib.ListN.{length, getD, set, length-set}
 use lib.Seq.{getD-set-same, getD-set-other}
 use Rattle.lists.specs.Table.{vector, table, Square}
+use Rattle.lists.specs.Choose.{choose, choose-yes, choose-no}
 use Rattle.modular.specs.Congruence.{Congruent, equals, _⨾_, _⊖_, linear}
 use Rattle.modular.specs.Prime.{by-remainders, remainders-equal}
 use Rattle.residue.specs.Modulus.{modulus, modulus-prime}
-use Rattle.skew.specs.Choose.{choose, choose-yes, choose-no}
 use Rattle.skew.specs.Subset.{Subset, _∈_, _∉_, Member, inside, outside, member?, marked, marked-in, marked-out, marked-same, Without, clash}
 use Rattle.skew.specs.Inverse.{Matrix, Vector, delta, delta-same, delta-other, Skew, Inverse}
 use Rattle.skew.specs.Column.{FirstDependent, Witness}

@@ -1,4 +1,4 @@
-// Symmetric exchange of pairs of indices of a skew matrix modulo 65521, to its end, in a square table of which only the words above the
+// Symmetric exchange of pairs of indices of a skew matrix of residues, to its end, in a square table of which only the words above the
 // diagonal count.
 ghost use mathlib.Core.Path.{_≡_};
 ghost use lib.ListN.{length};
@@ -22,7 +22,7 @@ fn weight(waits: u8, w: u64) -> u64
     if waits == 0 {
         return 0;
     }
-    w % Residue::MODULUS
+    Residue::make(w).value as u64
 }
 
 // The lowest partner of c: an index after c that waits, where row c is not 0; or n.

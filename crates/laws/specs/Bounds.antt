@@ -5,7 +5,7 @@ use Prim.Native.Nat.{ℕ, _+_, _*_, _^_, _≤_, _<_}
 use native.Mathlib.Omega.{arith}
 use native.Mathlib.Decide.{decLt}
 use lib.ListN.{length}
-use Rattle.skew.specs.Choose.{choose}
+use Rattle.lists.specs.Choose.{choose}
 use Rattle.matching.specs.Decision.{Refusal, because, absent, at, unless, accepted, refused}
 use Rattle.matching.specs.Graph.{largest, pair-count}
 use Rattle.matching.specs.Pairs.{Pair}

@@ -9,7 +9,7 @@ use lib.ListN.{length, getD, set, replicate, length-set}
 use lib.Seq.{ext-getD, getD-set-same, getD-set-other}
 use Rattle.lists.specs.Values.{length-list-of, getD-list-of, list-of-constant}
 use Rattle.lists.specs.Table.{index-of, index-row, index-column, index-below}
-use Rattle.skew.specs.Choose.{choose-yes, choose-no}
+use Rattle.lists.specs.Choose.{choose-yes, choose-no}
 use Rattle.matching.specs.Pairs.{Pair, pair-of}
 use Rattle.matching.specs.Model.{Named}
 use Rattle.matching.specs.Records.{Same, same?, among, cells}

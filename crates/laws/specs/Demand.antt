@@ -6,19 +6,19 @@ use native.Mathlib.Omega.{arith}
 use native.Mathlib.Decide.{decLt}
 use lib.ListN.{length, getD, take, drop, length-append, List·getD-append}
 use lib.Seq.{length-take-le, getD-take}
+use Rattle.lists.specs.Onto.{onto-again, onto-front-same}
 use Rattle.modular.specs.Prime.{OddPrime}
 use Rattle.skew.specs.Subset.{Subset, _∈_, _∉_, Member, inside, outside, member?}
 use Rattle.skew.specs.Matching.{invertible-even}
 use Rattle.matching.specs.Decision.{Refusal, Every, At, Ruling, accepted, refused}
 use Rattle.matching.specs.Graph.{Graph, tutte, largest, InOrder}
 use Rattle.matching.specs.Pairs.{Pair, Pairs, sequence, unmatched}
-use Rattle.matching.specs.Session.{State, graph-of, pairs-of, with-pairs, session, InverseTable, WellFormed}
-use Rattle.matching.specs.Causes.{lent-graph, lent-to-session, session-ruling, LongEnough}
+use Rattle.matching.specs.Session.{State, in-play, graph-of, pairs-of, with-pairs, session, InverseTable, WellFormed}
+use Rattle.matching.specs.Causes.{session-ruling}
 use Rattle.matching.specs.Model.{Call, undo, Answer, done, denied, Step, skew, Nonsingular, nonsingular?, undoes, remove-last, step, answered, pairs-after}
 use Rattle.matching.specs.Calls.{Returned, state-after, Handles, unsound, refuses, carries, Runs, none, more}
 use Rattle.matching.specs.Demand.{Once, StateOf, Undoes, FollowsModel}
-use Rattle.laws.specs.Onto.{onto-again, onto-front-same}
-use Rattle.laws.specs.Sound.{Sound, session-accepted}
+use Rattle.laws.specs.Sound.{GraphFits, SessionFits, Sound, session-accepted}
 use Rattle.laws.specs.Determined.{inverse-table-unique, table-over}
 use Rattle.laws.specs.Facts.{open-partner, picks-to-come, step-nonsingular, after-nonsingular, unlike}
 use Rattle.laws.specs.Rules.{rule-step}
@@ -52,60 +52,64 @@ once-at g made s v x small W below l e = record {
     go y h q (yes a) (no b) (no c) = omega arith
 
 -- the state of valid pairs, over the buffers of a first one
-module _ {p : ℕ} (P : OddPrime p) (g : Graph) (S : Subset) (first : State) where
+module _ {p : ℕ} (P : OddPrime p) (g : Graph) (first : State) where
   pub record Stands (pairs : Pairs) (s : State) : Type 0 where
-    pub state : StateOf P g S first pairs s
-    pub valid : Valid P g S pairs
+    pub state : StateOf P g (in-play first) first pairs s
+    pub valid : Valid P g (in-play first) pairs
 
   -- one state only is that of given pairs
   pub stands-same : {pairs : Pairs} {s t : State} → Stands pairs s → Stands pairs t → s ≡ t
   stands-same {pairs} A B =
       let a = A .state in
       let b = B .state in
-      let w : a .words ≡ b .words = inverse-table-unique P g S (a .words-length) (b .words-length) (a .words-inverse) (b .words-inverse) in
+      let w : a .words ≡ b .words = inverse-table-unique P g (in-play first) (a .words-length) (b .words-length) (a .words-inverse) (b .words-inverse) in
       a .is ∙ ap (λ ws. with-pairs g pairs ws first) w ∙ sym (b .is)
 
-  pub stands-nonsingular : {pairs : Pairs} {s : State} → Stands pairs s → Nonsingular P g S pairs
+  pub stands-nonsingular : {pairs : Pairs} {s : State} → Stands pairs s → Nonsingular P g (in-play first) pairs
   stands-nonsingular M = (_, M .state .words-inverse .is-inverse)
 
-  module _ (long : LongEnough (lent-graph g)) (order : InOrder p g) where
+  module _ (long : GraphFits g) (order : InOrder p g) where
     -- it is sound
-    pub stands-sound : (pairs : Pairs) (words : List ℕ) → length words ≡ g .n * g .n → InverseTable p g (unmatched S pairs) words → Valid P g S pairs
-        → session-ruling p S (with-pairs g pairs words first) ≡ accepted
+    pub stands-sound : (pairs : Pairs) (words : List ℕ) → length words ≡ g .n * g .n → InverseTable p g (unmatched (in-play first) pairs) words → Valid P g (in-play first) pairs
+        → session-ruling p (with-pairs g pairs words first) ≡ accepted
     stands-sound pairs words l I v =
-        session-accepted p S (with-pairs g pairs words first) .1 (
-          (long .0, (long .1 .0, (omega (arith, length-append words (drop (length words) (first .inverse)), l), (omega (arith, length-append (sequence (g .n) pairs) (drop (length (sequence (g .n) pairs)) (first .sequence)), length-sequence P g S pairs v), tt)))),
+        session-accepted p (with-pairs g pairs words first) .1 (
+          record {
+            graph = long;
+            inverse-fits = omega (arith, length-append words (drop (length words) (first .inverse)), l);
+            sequence-fits = omega (arith, length-append (sequence (g .n) pairs) (drop (length (sequence (g .n) pairs)) (first .sequence)), length-sequence P g (in-play first) pairs v);
+          },
           record {
             in-order = order;
-            well-formed = well-formed-sequence P g S pairs _ v;
+            well-formed = well-formed-sequence P g (in-play first) pairs _ v;
             as-defined =
-                rw (pairs-on-sequence P g S pairs (drop (length (sequence (g .n) pairs)) (first .sequence)))
+                rw (pairs-on-sequence P g (in-play first) pairs (drop (length (sequence (g .n) pairs)) (first .sequence)))
                 (table-over words _ (λ x h. List·getD-append words _ 0 x (omega (arith, l))) I);
           },
         )
 
     -- one call on it goes as the plain model goes
-    stands-step : (pairs : Pairs) (s t : State) (c : Call) (a : Answer) → Stands pairs s → Handles P S s c a t
-        → (a ≡ step P g S pairs c .answer) × Stands (step P g S pairs c .pairs) t
-    stands-step pairs s t c a M h = go a t (rw (N .is) at h) (change P g S pairs c (stands-nonsingular M))
+    stands-step : (pairs : Pairs) (s t : State) (c : Call) (a : Answer) → Stands pairs s → Handles P s c a t
+        → (a ≡ step P g (in-play first) pairs c .answer) × Stands (step P g (in-play first) pairs c .pairs) t
+    stands-step pairs s t c a M h = go a t (rw (N .is) at h) (change P g (in-play first) pairs c (stands-nonsingular M))
       where
-        N : StateOf P g S first pairs s
+        N : StateOf P g (in-play first) first pairs s
         N = M .state
 
         u : State
         u = with-pairs g pairs (N .words) first
 
-        ok : session-ruling p S u ≡ accepted
+        ok : session-ruling p u ≡ accepted
         ok = stands-sound pairs (N .words) (N .words-length) (N .words-inverse) (M .valid)
 
         same : pairs-of u ≡ pairs
-        same = pairs-on-sequence P g S pairs _
+        same = pairs-on-sequence P g (in-play first) pairs _
 
-        go : (a : Answer) (t : State) → Handles P S u c a t → Change P g S pairs (step P g S pairs c)
-            → (a ≡ step P g S pairs c .answer) × Stands (step P g S pairs c .pairs) t
+        go : (a : Answer) (t : State) → Handles P u c a t → Change P g (in-play first) pairs (step P g (in-play first) pairs c)
+            → (a ≡ step P g (in-play first) pairs c .answer) × Stands (step P g (in-play first) pairs c .pairs) t
         go _ _ (unsound r e) k = absurd (both {r = r} ok e)
         go _ _ (refuses r e q) k =
-            let q' : step P g S pairs c .answer ≡ denied r = rw same at q in (
+            let q' : step P g (in-play first) pairs c .answer ≡ denied r = rw same at q in (
               sym q',
               rw (denied-unchanged _ {r = r} k q') (record {
                 state = record { words = N .words; words-length = N .words-length; words-inverse = N .words-inverse; is = refl };
@@ -113,43 +117,43 @@ module _ {p : ℕ} (P : OddPrime p) (g : Graph) (S : Subset) (first : State) whe
               }),
             )
         go _ _ (carries x ps words e q l K) k =
-            let q' : step P g S pairs c ≡ record { answer = done x; pairs = ps } = rw same at q in
-            let v : Valid P g S ps = rw q' at (change-valid P g S pairs _ k (M .valid)) in (
+            let q' : step P g (in-play first) pairs c ≡ record { answer = done x; pairs = ps } = rw same at q in
+            let v : Valid P g (in-play first) ps = rw q' at (change-valid P g (in-play first) pairs _ k (M .valid)) in (
               sym (ap (λ z. z .answer) q'),
               rw q' (record {
                 state = record {
                   words = words;
                   words-length = l;
                   words-inverse = K;
-                  is = rw (onto-again (N .words) words (first .inverse) (l ∙ sym (N .words-length)), onto-again (sequence (g .n) pairs) (sequence (g .n) ps) (first .sequence) (length-sequence P g S ps v ∙ sym (length-sequence P g S pairs (M .valid))));
+                  is = rw (onto-again (N .words) words (first .inverse) (l ∙ sym (N .words-length)), onto-again (sequence (g .n) pairs) (sequence (g .n) ps) (first .sequence) (length-sequence P g (in-play first) ps v ∙ sym (length-sequence P g (in-play first) pairs (M .valid))));
                 };
                 valid = v;
               }),
             )
 
     -- and so does a list of calls, at every place
-    stands-after : (pairs : Pairs) (s : State) (calls : List Call) (returned : List Returned) → Stands pairs s → Runs P S s calls returned
-        → (k : ℕ) → Stands (pairs-after P g S pairs calls k) (state-after s returned k)
+    stands-after : (pairs : Pairs) (s : State) (calls : List Call) (returned : List Returned) → Stands pairs s → Runs P s calls returned
+        → (k : ℕ) → Stands (pairs-after P g (in-play first) pairs calls k) (state-after s returned k)
     unfolding pairs-after state-after
     stands-after pairs s calls returned M R zero = M
     stands-after pairs s [] [] M none (suc k) = M
     stands-after pairs s (c ∷ calls) (r ∷ later) M (more h rest) (suc k) =
-        stands-after (step P g S pairs c .pairs) (r .state) calls later (stands-step pairs s (r .state) c (r .answer) M h .1) rest k
+        stands-after (step P g (in-play first) pairs c .pairs) (r .state) calls later (stands-step pairs s (r .state) c (r .answer) M h .1) rest k
 
-    stands-answered : (pairs : Pairs) (s : State) (calls : List Call) (returned : List Returned) → Stands pairs s → Runs P S s calls returned
-        → map (λ (r : Returned). r .answer) returned ≡ answered P g S pairs calls
+    stands-answered : (pairs : Pairs) (s : State) (calls : List Call) (returned : List Returned) → Stands pairs s → Runs P s calls returned
+        → map (λ (r : Returned). r .answer) returned ≡ answered P g (in-play first) pairs calls
     unfolding answered
     stands-answered pairs s [] [] M none = refl
     stands-answered pairs s (c ∷ calls) (r ∷ later) M (more h rest) =
         let k = stands-step pairs s (r .state) c (r .answer) M h in
-        ap₂ (λ x xs. x ∷ xs) (k .0) (stands-answered (step P g S pairs c .pairs) (r .state) calls later (k .1) rest)
+        ap₂ (λ x xs. x ∷ xs) (k .0) (stands-answered (step P g (in-play first) pairs c .pairs) (r .state) calls later (k .1) rest)
 
-refused-stays : {p : ℕ} (P : OddPrime p) (S : Subset) (s : State) (calls : List Call) (returned : List Returned) → Runs P S s calls returned
+refused-stays : {p : ℕ} (P : OddPrime p) (s : State) (calls : List Call) (returned : List Returned) → Runs P s calls returned
     → (k : ℕ) (r : Refusal) → At (map (λ (r : Returned). r .answer) returned) k (denied r) → state-after s returned (suc k) ≡ state-after s returned k
 unfolding At state-after
-refused-stays P S s [] [] none k r a = absurd a
-refused-stays P S s (c ∷ calls) (x ∷ later) (more h rest) zero r a = refused-keeps P S h {r = r} a
-refused-stays P S s (c ∷ calls) (x ∷ later) (more h rest) (suc k) r a = refused-stays P S (x .state) calls later rest k r a
+refused-stays P s [] [] none k r a = absurd a
+refused-stays P s (c ∷ calls) (x ∷ later) (more h rest) zero r a = refused-keeps P h {r = r} a
+refused-stays P s (c ∷ calls) (x ∷ later) (more h rest) (suc k) r a = refused-stays P (x .state) calls later rest k r a
 
 -- the plain model from place to place
 module _ {p : ℕ} (P : OddPrime p) (g : Graph) (S : Subset) where
@@ -191,48 +195,48 @@ module _ {p : ℕ} (P : OddPrime p) (g : Graph) (S : Subset) where
       rule-step P g S (undoes refl (rw (A .found) at (after-nonsingular P g S [] calls (A .time) I)))
 
 -- demand 3 for a session that stands for the pairs at the start
-module _ {p : ℕ} (P : OddPrime p) (g : Graph) (S : Subset) (long : LongEnough (lent-graph g)) (order : InOrder p g) where
-  pub stands-follows : (start : Pairs) (s : State) (calls : List Call) (returned : List Returned) → Stands P g S s start s → Runs P S s calls returned
-      → FollowsModel P g S start calls s returned
+module _ {p : ℕ} (P : OddPrime p) (g : Graph) (s : State) (long : GraphFits g) (order : InOrder p g) where
+  pub stands-follows : (start : Pairs) (calls : List Call) (returned : List Returned) → Stands P g s start s → Runs P s calls returned
+      → FollowsModel P g (in-play s) start calls s returned
   unfolding pairs-after
-  stands-follows start s calls returned M R =
-      let m = invertible-even P (g .n) (tutte g p) (skew P g S) I in
+  stands-follows start calls returned M R =
+      let m = invertible-even P (g .n) (tutte g p) (skew P g) I in
       record {
         answers-are = answers;
         states-are = λ k. at k .state;
-        refused-same = refused-stays P S s calls returned R;
+        refused-same = refused-stays P s calls returned R;
         to-come = m .0;
         half = m .1;
-        come = picks-to-come P g S (m .0) ps I (m .1);
-        partners = λ c l o. open-partner P g S ps I c l o;
+        come = picks-to-come P g (in-play s) (m .0) ps I (m .1);
+        partners = λ c l o. open-partner P g (in-play s) ps I c l o;
         restores = restores;
         once = once;
       }
     where
       pairs-at : ℕ → Pairs
-      pairs-at k = pairs-after P g S start calls k
+      pairs-at k = pairs-after P g (in-play s) start calls k
 
       ps : Pairs
-      ps = pairs-after P g S start calls (length calls)
+      ps = pairs-after P g (in-play s) start calls (length calls)
 
-      at : (k : ℕ) → Stands P g S s (pairs-after P g S start calls k) (state-after s returned k)
-      at = stands-after P g S s long order start s calls returned M R
+      at : (k : ℕ) → Stands P g s (pairs-after P g (in-play s) start calls k) (state-after s returned k)
+      at = stands-after P g s long order start s calls returned M R
 
-      answers : map (λ (r : Returned). r .answer) returned ≡ answered P g S start calls
-      answers = stands-answered P g S s long order start s calls returned M R
+      answers : map (λ (r : Returned). r .answer) returned ≡ answered P g (in-play s) start calls
+      answers = stands-answered P g s long order start s calls returned M R
 
-      I : Nonsingular P g S ps
-      I = stands-nonsingular P g S s (at (length calls))
+      I : Nonsingular P g (in-play s) ps
+      I = stands-nonsingular P g s (at (length calls))
 
       restores : (j : ℕ) (e : Pair) → At calls j undo → At (map (λ (r : Returned). r .answer) returned) j (done e)
-          → length start < length (pairs-after P g S start calls j)
-          → (i : ℕ) × Undoes P g S start calls i j e × (state-after s returned (suc j) ≡ state-after s returned i)
+          → length start < length (pairs-after P g (in-play s) start calls j)
+          → (i : ℕ) × Undoes P g (in-play s) start calls i j e × (state-after s returned (suc j) ≡ state-after s returned i)
       restores j e u d l =
-          let q : pairs-after P g S start calls j ≡ e ∷ pairs-after P g S start calls (suc j) =
-          undo-removes P g S _ e _ (called P g S start calls j undo (done e) u (rw answers at d)) in
+          let q : pairs-after P g (in-play s) start calls j ≡ e ∷ pairs-after P g (in-play s) start calls (suc j) =
+          undo-removes P g (in-play s) _ e _ (called P g (in-play s) start calls j undo (done e) u (rw answers at d)) in
           let A =
-          appended-once (pairs-after P g S start calls) (moves P g S start calls (stands-nonsingular P g S s M)) j [] e
-          (pairs-after P g S start calls (suc j)) (omega (arith, ap length q)) q in (
+          appended-once (pairs-after P g (in-play s) start calls) (moves P g (in-play s) start calls (stands-nonsingular P g s M)) j [] e
+          (pairs-after P g (in-play s) start calls (suc j)) (omega (arith, ap length q)) q in (
             A .time,
             record {
               earlier = A .before;
@@ -240,57 +244,57 @@ module _ {p : ℕ} (P : OddPrime p) (g : Graph) (S : Subset) (long : LongEnough 
               stands = λ k h m. rw (A .found) (A .since k h m);
               newest = q ∙ ap (λ r. e ∷ r) (sym (A .found));
             },
-            stands-same P g S s (rw (← A .found) at (at (suc j))) (at (A .time)),
+            stands-same P g s (rw (← A .found) at (at (suc j))) (at (A .time)),
           )
 
-      once : Every (g .n) (λ c. ¬ (c ∈ unmatched S ps)) → Every (g .n) (λ v. v ∈ S → Once g (length ps) (state-after s returned (length calls) .sequence) v)
+      once : Every (g .n) (λ c. ¬ (c ∈ unmatched (in-play s) ps)) → Every (g .n) (λ v. v ∈ (in-play s) → Once g (length ps) (state-after s returned (length calls) .sequence) v)
       once none-left v l m =
           let N = at (length calls) in
-          let x = place-in (g .n) S ps _ v m (out (member? (unmatched S ps) v)) in
-          rw (N .state .is) (once-at g (length ps) _ v (x .0) (order .size) (well-formed-sequence P g S ps _ (N .valid)) l (x .1) (x .2))
+          let x = place-in (g .n) (in-play s) ps _ v m (out (member? (unmatched (in-play s) ps) v)) in
+          rw (N .state .is) (once-at g (length ps) _ v (x .0) (order .size) (well-formed-sequence P g (in-play s) ps _ (N .valid)) l (x .1) (x .2))
         where
-          out : Member (unmatched S ps) v → v ∉ unmatched S ps
+          out : Member (unmatched (in-play s) ps) v → v ∉ unmatched (in-play s) ps
           out (inside i) = absurd (none-left v l i)
           out (outside o) = o
 
 -- every sound session whose pairs are in play stands for the pairs on its sequence
-module _ {p : ℕ} (P : OddPrime p) (S : Subset) (s : State) (ok : session-ruling p S s ≡ accepted) (play : Inside S (s .session .made) (s .sequence)) where
-  sound : LongEnough (lent-to-session s []) × Sound p S s
-  sound = session-accepted p S s .0 ok
+module _ {p : ℕ} (P : OddPrime p) (s : State) (ok : session-ruling p s ≡ accepted) (play : Inside (in-play s) (s .session .made) (s .sequence)) where
+  sound : SessionFits s × Sound p s
+  sound = session-accepted p s .0 ok
 
-  long : LongEnough (lent-graph (graph-of s))
-  long = (sound .0 .0, (sound .0 .1 .0, tt))
+  long : GraphFits (graph-of s)
+  long = sound .0 .graph
 
-  pub sound-stands : Stands P (graph-of s) S s (pairs-of s) s
+  pub sound-stands : Stands P (graph-of s) s (pairs-of s) s
   sound-stands = record {
     state = record {
       words = take (n * n) (s .inverse);
-      words-length = length-take-le (n * n) (s .inverse) (sound .0 .1 .1 .0);
+      words-length = length-take-le (n * n) (s .inverse) (sound .0 .inverse-fits);
       words-inverse = table-over (s .inverse) _ (λ x h. getD-take (n * n) (s .inverse) x 0 h) (sound .1 .as-defined);
       is =
-          rw (length-pairs-on (s .sequence) (s .session .made), onto-front-same (n * n) (s .inverse) (sound .0 .1 .1 .0), sequence-on (graph-of s) (s .session .made) (s .sequence) (sound .0 .1 .1 .1 .0) (sound .1 .well-formed), onto-front-same n (s .sequence) (sound .0 .1 .1 .1 .0))
+          rw (length-pairs-on (s .sequence) (s .session .made), onto-front-same (n * n) (s .inverse) (sound .0 .inverse-fits), sequence-on (graph-of s) (s .session .made) (s .sequence) (sound .0 .sequence-fits) (sound .1 .well-formed), onto-front-same n (s .sequence) (sound .0 .sequence-fits))
           refl;
     };
-    valid = valid-on P (graph-of s) S (s .session .made) (s .sequence) (sound .1 .well-formed) play;
+    valid = valid-on P (graph-of s) (in-play s) (s .session .made) (s .sequence) (sound .1 .well-formed) play;
   }
     where
       n : ℕ
       n = s .session .size
 
   -- a call goes as the plain model goes from the pairs made
-  pub handles-model : {c : Call} {a : Answer} {t : State} → Handles P S s c a t
-      → (a ≡ step P (graph-of s) S (pairs-of s) c .answer) × (pairs-of t ≡ step P (graph-of s) S (pairs-of s) c .pairs)
+  pub handles-model : {c : Call} {a : Answer} {t : State} → Handles P s c a t
+      → (a ≡ step P (graph-of s) (in-play s) (pairs-of s) c .answer) × (pairs-of t ≡ step P (graph-of s) (in-play s) (pairs-of s) c .pairs)
   handles-model {c} {a} {t} h =
-      let M = stands-step P (graph-of s) S s long (sound .1 .in-order) (pairs-of s) s t c a sound-stands h in
-      (M .0, rw (M .1 .state .is) (pairs-on-sequence P (graph-of s) S _ _))
+      let M = stands-step P (graph-of s) s long (sound .1 .in-order) (pairs-of s) s t c a sound-stands h in
+      (M .0, rw (M .1 .state .is) (pairs-on-sequence P (graph-of s) (in-play s) _ _))
 
   -- a call leaves it sound
-  pub handles-sound : {c : Call} {a : Answer} {t : State} → Handles P S s c a t → session-ruling p S t ≡ accepted
+  pub handles-sound : {c : Call} {a : Answer} {t : State} → Handles P s c a t → session-ruling p t ≡ accepted
   handles-sound {c} {a} {t} h =
-      let M = stands-step P (graph-of s) S s long (sound .1 .in-order) (pairs-of s) s t c a sound-stands h .1 in
+      let M = stands-step P (graph-of s) s long (sound .1 .in-order) (pairs-of s) s t c a sound-stands h .1 in
       let N = M .state in
-      rw (N .is) (stands-sound P (graph-of s) S s long (sound .1 .in-order) _ (N .words) (N .words-length) (N .words-inverse) (M .valid))
+      rw (N .is) (stands-sound P (graph-of s) s long (sound .1 .in-order) _ (N .words) (N .words-length) (N .words-inverse) (M .valid))
 
   -- and a list of calls on it goes as the plain model goes, from these pairs on
-  pub follows : (calls : List Call) (returned : List Returned) → Runs P S s calls returned → FollowsModel P (graph-of s) S (pairs-of s) calls s returned
-  follows calls returned R = stands-follows P (graph-of s) S long (sound .1 .in-order) (pairs-of s) s calls returned sound-stands R
+  pub follows : (calls : List Call) (returned : List Returned) → Runs P s calls returned → FollowsModel P (graph-of s) (in-play s) (pairs-of s) calls s returned
+  follows calls returned R = stands-follows P (graph-of s) s long (sound .1 .in-order) (pairs-of s) calls returned sound-stands R

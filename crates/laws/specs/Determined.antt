@@ -23,7 +23,7 @@ use Rattle.matching.specs.Graph.{Graph, over, tutte}
 use Rattle.matching.specs.Pairs.{everything}
 use Rattle.matching.specs.Model.{skew}
 use Rattle.matching.specs.Session.{Session, session, InverseTable}
-use Rattle.matching.specs.Opening.{Opening, opened, singular, not-opened, Buffers, Singular, ruling, with-inverse, with-witness, Opens, refuses-opening, opens, finds-singular, OpenedExactly}
+use Rattle.matching.specs.Opening.{Opening, opened, singular, not-opened, Buffers, Singular, ruling, with-inverse, with-witness, players, Opens, refuses-opening, opens, finds-singular, OpenedExactly}
 use Rattle.matching.specs.Host.{words, opening-number, unpacked, stored-after, HostOpens, HostOpenedExactly}
 
 pub count-everything : (n : ℕ) → count n everything ≡ n
@@ -47,7 +47,7 @@ module _ {p : ℕ} (P : OddPrime p) (g : Graph) (S : Subset) where
       same x l =
           let k : x < g .n * g .n = omega arith in
           let e =
-          inverse-unique p (g .n) (tutte g p) (skew P g S) (U .is-inverse) (W .is-inverse) (x / g .n) (x % g .n) (row-below (g .n) x k)
+          inverse-unique p (g .n) (tutte g p) (skew P g) (U .is-inverse) (W .is-inverse) (x / g .n) (x % g .n) (row-below (g .n) x k)
           (column-below (g .n) x k) in
           let i = index-of (g .n) x in
           below-equal (U .small x k) (W .small x k) (equals (ap (λ z. getD u z 0) (sym i)) ⨾ e ⨾ equals (ap (λ z. getD v z 0) i))
@@ -77,7 +77,7 @@ module _ {p : ℕ} (P : OddPrime p) (g : Graph) (S : Subset) where
   -- one column and one buffer only are the witness
   pub singular-unique : {f h : ℕ} {u v : List ℕ} → length u ≡ g .n → length v ≡ g .n → Singular p g S f u → Singular p g S h v → (f ≡ h) × (u ≡ v)
   singular-unique {f} {h} {u} {v} hu hv U W =
-      let e : f ≡ h = first-unique P (g .n) (tutte g p) (skew P g S) S (U .first) (W .first) in
+      let e : f ≡ h = first-unique P (g .n) (tutte g p) (skew P g) S (U .first) (W .first) in
       (e, ext-getD 0 u v (hu ∙ sym hv) (λ x l. same e x l))
     where
       same : f ≡ h → (x : ℕ) → x < length u → getD u x 0 ≡ getD v x 0
@@ -112,7 +112,7 @@ module _ {p : ℕ} (P : OddPrime p) (g : Graph) (S : Subset) where
 
   -- opening has an outcome
   pub opens-some : (b : Buffers) → (o : Opening) × (after : Buffers) × Opens p g S b o after
-  opens-some b = go (ruling p g b) refl (outcome P (g .n) (tutte g p) (skew P g S) S)
+  opens-some b = go (ruling p g b) refl (outcome P (g .n) (tutte g p) (skew P g) S)
     where
       go : (v : Ruling) → ruling p g b ≡ v → Outcome p (g .n) (tutte g p) S → (o : Opening) × (after : Buffers) × Opens p g S b o after
       go (refused r) e _ = (not-opened r, b, refuses-opening r e)
@@ -128,17 +128,17 @@ module _ {p : ℕ} (P : OddPrime p) (g : Graph) (S : Subset) where
   opens-unique (opens words e l h) (refuses-opening r e′) = absurd (let z : _≡_ {A = ℕ} 0 1 = cc in omega arith)
   opens-unique {b} (opens words e l h) (opens words′ e′ l′ h′) = (refl, ap (λ words. with-inverse (g .n) words b) (inverse-table-unique l l′ h h′))
   opens-unique (opens words e l h) (finds-singular f w e′ l′ s) =
-      absurd (witness-singular P (g .n) (tutte g p) (skew P g S) S (s .kernel) (_, h .is-inverse))
+      absurd (witness-singular P (g .n) (tutte g p) (skew P g) S (s .kernel) (_, h .is-inverse))
   opens-unique (finds-singular f w e l s) (refuses-opening r e′) = absurd (let z : _≡_ {A = ℕ} 0 1 = cc in omega arith)
   opens-unique (finds-singular f w e l s) (opens words e′ l′ h) =
-      absurd (witness-singular P (g .n) (tutte g p) (skew P g S) S (s .kernel) (_, h .is-inverse))
+      absurd (witness-singular P (g .n) (tutte g p) (skew P g) S (s .kernel) (_, h .is-inverse))
   opens-unique {b} (finds-singular f w e l s) (finds-singular f′ w′ e′ l′ s′) =
       let u = singular-unique l l′ s s′ in (ap singular (u .0), ap (λ words. with-witness (g .n) words b) (u .1))
 
-pub host-opens-unique : {p : ℕ} (P : OddPrime p) (S : Subset) {n k k′ : ℕ} {adjacency weights : List ℕ} {b a a′ : Buffers}
-    → HostOpens p n adjacency weights S b k a → HostOpens p n adjacency weights S b k′ a′ → (k ≡ k′) × (a ≡ a′)
-host-opens-unique P S {b = b} H H′ =
-    let u = opens-unique P _ S (H .outcome) (H′ .outcome) in (
+pub host-opens-unique : {p : ℕ} (P : OddPrime p) {n k k′ : ℕ} {adjacency weights : List ℕ} {b a a′ : Buffers}
+    → HostOpens p n adjacency weights b k a → HostOpens p n adjacency weights b k′ a′ → (k ≡ k′) × (a ≡ a′)
+host-opens-unique P {b = b} H H′ =
+    let u = opens-unique P _ _ (H .outcome) (H′ .outcome) in (
       H .numbered ∙ ap opening-number (u .0) ∙ sym (H′ .numbered),
       H .stored ∙ ap₂ (λ o left. stored-after o left b) (u .0) (u .1) ∙ sym (H′ .stored),
     )
@@ -150,25 +150,25 @@ module _ {p : ℕ} (P : OddPrime p) (g : Graph) (S : Subset) where
   opened-exactly (opens entries e l h) ok = (λ _. (_, h .is-inverse), λ _. (_, refl))
   opened-exactly (finds-singular f w e l s) ok = (
     λ q. absurd (let e = q .1 in let z : _≡_ {A = ℕ} 0 1 = cc in omega arith),
-    λ I. absurd (witness-singular P (g .n) (tutte g p) (skew P g S) S (s .kernel) I),
+    λ I. absurd (witness-singular P (g .n) (tutte g p) (skew P g) S (s .kernel) I),
   )
 
-pub host-opened-exactly : {p : ℕ} (P : OddPrime p) (S : Subset) {n answer : ℕ} {adjacency weights : List ℕ} {b after : Buffers}
-    → HostOpens p n adjacency weights S b answer after → HostOpenedExactly p n adjacency weights S b answer
-host-opened-exactly {p} P S {n} {answer} {adjacency} {weights} {b} H ok = rw (H .numbered) (go (H .outcome))
+pub host-opened-exactly : {p : ℕ} (P : OddPrime p) {n answer : ℕ} {adjacency weights : List ℕ} {b after : Buffers}
+    → HostOpens p n adjacency weights b answer after → HostOpenedExactly p n adjacency weights b answer
+host-opened-exactly {p} P {n} {answer} {adjacency} {weights} {b} H ok = rw (H .numbered) (go (H .outcome))
   where
     g : Graph
     g = over n adjacency (words weights)
 
-    go : {o : Opening} {a : Buffers} → Opens p g S (unpacked b) o a → (opening-number o / 2 ^ 8 % 2 ^ 8 ≡ 1) ↔ Invertible p n (tutte g p) S
+    go : {o : Opening} {a : Buffers} → Opens p g (players n (unpacked b)) (unpacked b) o a → (opening-number o / 2 ^ 8 % 2 ^ 8 ≡ 1) ↔ Invertible p n (tutte g p) (players n (unpacked b))
     go (refuses-opening r e) = absurd (let z : _≡_ {A = ℕ} 0 1 = cc in omega arith)
     go (opens entries e l h) = (λ _. (_, h .is-inverse), λ _. refl)
     go (finds-singular f w e l s) =
-        (λ q. absurd (omega arith), λ I. absurd (witness-singular P n (tutte g p) (skew P g S) S (s .kernel) I))
+        (λ q. absurd (omega arith), λ I. absurd (witness-singular P n (tutte g p) (skew P g) (players n (unpacked b)) (s .kernel) I))
 
 module _ {p : ℕ} (P : OddPrime p) (g : Graph) where
   -- an odd number of vertices never opens
   pub odd-never-opens : (half : ℕ) → g .n ≡ half + half + 1 → {b a : Buffers} {s : Session} → ¬ Opens p g everything b (opened s) a
   odd-never-opens half odd (opens words _ _ h) =
-      let m = invertible-even P (g .n) (tutte g p) (skew P g everything) (_, h .is-inverse) in
+      let m = invertible-even P (g .n) (tutte g p) (skew P g) (_, h .is-inverse) in
       omega (arith, m .1, count-everything (g .n))

@@ -6,10 +6,10 @@ use mathlib.Core.List.{List, [], _∷_}
 use Prim.Native.Nat.{ℕ, zero, suc, _+_, _≤_, _<_}
 use native.Mathlib.Omega.{arith}
 use native.Mathlib.Decide.{ℕ-discrete, decLt}
+use Rattle.lists.specs.Choose.{choose-yes, choose-no}
 use Rattle.modular.specs.Congruence.{Congruent, equals, _⨾_, _⊖_, linear}
 use Rattle.modular.specs.Operations.{negative-plus}
 use Rattle.modular.specs.Prime.{OddPrime}
-use Rattle.skew.specs.Choose.{choose-yes, choose-no}
 use Rattle.skew.specs.Subset.{Subset, _∈_, _∉_, Member, inside, outside, member?, Without, swap, without, without-same, count, count-of-empty, count-without}
 use Rattle.skew.specs.Same.{inverse-same}
 use Rattle.skew.specs.Matching.{pick-exists}
@@ -120,7 +120,7 @@ module _ {p : ℕ} (P : OddPrime p) (g : Graph) (S : Subset) where
   pub open-partner : (pairs : Pairs) → Nonsingular P g S pairs → (c : ℕ) → c < g .n → c ∈ unmatched S pairs
       → (r : ℕ) × (r < g .n) × OpenPartner P g S pairs c r
   open-partner pairs I c hc l =
-      let s = pick-exists P (g .n) (tutte g p) (skew P g S) I c hc l in
+      let s = pick-exists P (g .n) (tutte g p) (skew P g) I c hc l in
       let k = s .2 in
       let d = k .sets .differ in
       let w = unmatched-without pairs c (s .0) d l (k .sets .b-in) in (

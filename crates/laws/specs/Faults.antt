@@ -4,7 +4,7 @@ use mathlib.Core.Logic.{_≢_}
 use Prim.Native.Nat.{ℕ, _≤_, _<_}
 use native.Mathlib.Omega.{arith}
 use native.Mathlib.Decide.{ℕ-discrete, decLt}
-use Rattle.skew.specs.Choose.{choose-yes, choose-no}
+use Rattle.lists.specs.Choose.{choose-yes, choose-no}
 use Rattle.matching.specs.Graph.{Graph, cell, kind-of, fault}
 
 pub fault-kind : (g : Graph) (i j : ℕ) → fault g i j ≡ kind-of (cell g i j) (cell g j i) i j

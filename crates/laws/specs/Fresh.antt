@@ -5,57 +5,62 @@ use Prim.Native.Nat.{ℕ, _*_, _-_}
 use native.Mathlib.Omega.{arith}
 use lib.ListN.{length, replicate, length-replicate}
 use Rattle.modular.specs.Prime.{OddPrime}
-use Rattle.skew.specs.Subset.{Subset}
 use Rattle.matching.specs.Decision.{accepted}
 use Rattle.matching.specs.Graph.{Graph, over}
 use Rattle.matching.specs.Pairs.{bytes, sequence, unmatched, pairs-on}
 use Rattle.matching.specs.Session.{Session, session, State, with-pairs}
 use Rattle.matching.specs.Causes.{session-ruling}
-use Rattle.matching.specs.Opening.{opened, Buffers, with-inverse, Opens, opens, opened-state}
+use Rattle.matching.specs.Opening.{opened, Buffers, with-inverse, players, Opens, opens, opened-state}
 use Rattle.matching.specs.Demand.{DemandThree}
 use Rattle.laws.specs.History.{nil}
 use Rattle.laws.specs.Sound.{opening-accepted, session-accepted}
 use Rattle.laws.specs.Demand.{stands-sound, sound-stands, follows}
 
-module _ {p : ℕ} (P : OddPrime p) (g : Graph) (S : Subset) where
+module _ {p : ℕ} (P : OddPrime p) (g : Graph) where
   -- what opening leaves is sound and has no pairs
-  pub opened-sound : {b a : Buffers} {s : Session} → Opens p g S b (opened s) a
-      → (session-ruling p S (opened-state g s a) ≡ accepted) × (s ≡ session (g .n) [])
+  pub opened-sound : {b a : Buffers} {s : Session} → Opens p g (players (g .n) b) b (opened s) a
+      → (session-ruling p (opened-state g s a) ≡ accepted) × (s ≡ session (g .n) [])
   unfolding sequence bytes unmatched
   opened-sound {b} (opens words e l I) =
       let k = opening-accepted p g (length (b .inverse)) (length (b .sequence)) (length (b .witness)) (length (b .work)) .0 e in
       let none : g .n - 0 ≡ g .n = omega arith in (
-        rw none at (stands-sound P g S (opened-state g (session (g .n) []) b) (k .0 .0, (k .0 .1 .0, tt)) (k .1) [] words l I nil),
+        rw none at (stands-sound P g (opened-state g (session (g .n) []) b) (k .0 .graph) (k .1) [] words l I nil),
         refl,
       )
 
   -- demand 3
-  pub demand-three : DemandThree P g S
+  pub demand-three : DemandThree P g
   unfolding pairs-on
   demand-three b _ _ (opens words e l I) calls returned R =
-      follows P S (opened-state g (session (g .n) []) (with-inverse (g .n) words b)) (opened-sound {b = b} (opens words e l I) .0)
+      follows P (opened-state g (session (g .n) []) (with-inverse (g .n) words b)) (opened-sound {b = b} (opens words e l I) .0)
       (λ x h. absurd (omega arith)) calls returned R
 
 -- and opening again over the buffers of such a session leaves them as they are
-module _ {p : ℕ} (P : OddPrime p) (S : Subset) (n : ℕ) (adjacency weights inverse sequence : List ℕ) where
+module _ {p : ℕ} (P : OddPrime p) (n : ℕ) (adjacency weights inverse sequence : List ℕ) where
   abbrev fresh : State
   fresh = record { session = session n []; adjacency = adjacency; weights = weights; inverse = inverse; sequence = sequence }
 
   abbrev lent : Buffers
   lent = record { inverse = inverse; sequence = sequence; witness = replicate n 0; work = replicate (n * n) 0 }
 
-  pub sound-opened : session-ruling p S fresh ≡ accepted
-      → (after : Buffers) × Opens p (over n adjacency weights) S lent (opened (session n [])) after × (after .inverse ≡ inverse) × (after .sequence ≡ sequence)
+  pub sound-opened : session-ruling p fresh ≡ accepted
+      → (after : Buffers) × Opens p (over n adjacency weights) (players n lent) lent (opened (session n [])) after × (after .inverse ≡ inverse) × (after .sequence ≡ sequence)
   unfolding pairs-on unmatched sequence bytes
   sound-opened e =
-      let k = session-accepted p S fresh .0 e in
-      let M = sound-stands P S fresh e (λ x l. absurd (omega arith)) .state in
+      let k = session-accepted p fresh .0 e in
+      let M = sound-stands P fresh e (λ x l. absurd (omega arith)) .state in
       let none : n - 0 ≡ n = omega arith in
       let same : fresh ≡ with-pairs (over n adjacency weights) [] (M .words) fresh = M .is in (
         _,
         opens (M .words)
             (opening-accepted p (over n adjacency weights) (length inverse) (length sequence) (length {A = ℕ} (replicate n 0)) (length {A = ℕ} (replicate (n * n) 0)) .1 (
-              (k .0 .0, (k .0 .1 .0, (k .0 .1 .1 .0, (k .0 .1 .1 .1 .0, (omega (arith, length-replicate {A = ℕ} n 0), (omega (arith, length-replicate {A = ℕ} (n * n) 0), tt)))))),
+              record {
+                graph = k .0 .graph;
+                inverse-fits = k .0 .inverse-fits;
+                sequence-fits = k .0 .sequence-fits;
+                witness-fits = omega (arith, length-replicate {A = ℕ} n 0);
+                work-fits = omega (arith, length-replicate {A = ℕ} (n * n) 0);
+              },
               k .1 .in-order,
             ))
             (M .words-length) (M .words-inverse),

@@ -3,8 +3,8 @@
 pub mod Facts
 pub mod Rules
 pub mod History
--- A buffer whose first words are new, and what an accepting ruling says.
-pub mod Onto
+-- What judging a list of causes gives, and what an accepting ruling says.
+pub mod Judge
 pub mod Sound
 pub mod Faults
 -- The bytes of a sequence of pairs.

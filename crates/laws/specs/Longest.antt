@@ -8,7 +8,7 @@ use native.Mathlib.Omega.{arith}
 use native.Mathlib.Decide.{ℕ-discrete, decLe, decLt}
 use lib.ListN.{length, take, drop, take-append-drop, length-append}
 use lib.Seq.{length-take-le, take-all}
-use Rattle.skew.specs.Choose.{choose, choose-yes, choose-no}
+use Rattle.lists.specs.Choose.{choose, choose-yes, choose-no}
 use Rattle.matching.specs.Graph.{largest}
 use Rattle.matching.specs.Pairs.{Pair, pair-of}
 use Rattle.matching.specs.Records.{Record, size, share, seed, end, width, four, Begins, begins-size, begins-share, begins-seed, begins-end, Same, same?, among, Progress, start, sized, weighted, ended, Due, size-due, seed-due, share-due, end-due, Takes, takes-size, takes-seed, takes-share, takes-end, Reading, sheet, Reads, whole, not-due, stops, cut, rejected, goes-on, ReadsAs}

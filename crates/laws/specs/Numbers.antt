@@ -6,28 +6,31 @@ use mathlib.Core.List.{List, [], _∷_, _++_}
 use Prim.Native.Nat.{ℕ, zero, suc, _+_, _*_, _-_, _/_, _%_, _^_, _≤_, _<_}
 use native.Mathlib.Omega.{arith}
 use native.Mathlib.Decide.{ℕ-discrete, decLt}
+use lib.Dec.{lit<}
 use lib.ListN.{length, getD}
 use Rattle.lists.specs.Table.{square-small}
+use Rattle.lists.specs.Choose.{choose, choose-yes, choose-no}
 use Rattle.modular.specs.Prime.{OddPrime}
-use Rattle.skew.specs.Choose.{choose, choose-yes, choose-no}
 use Rattle.skew.specs.Subset.{Subset}
 use Rattle.matching.specs.Decision.{Refusal, because, First, nowhere, first-at, Finding, absent, at, when, found, not?, Cause, Ruling, accepted, refused, unless, judge}
 use Rattle.matching.specs.Graph.{Graph, largest, pair-count}
-use Rattle.matching.specs.Pairs.{Pair, Pairs, unmatched, pairs-on}
-use Rattle.matching.specs.Session.{Session, State, graph-of, pairs-of}
-use Rattle.matching.specs.Causes.{Lent, lent-to-opening, lent-to-session, opening-causes, first-short, too-large, too-short, bad-cell, bad-weight, first-faulty, first-outside, ill-formed, not-inverse, opening-ruling, session-ruling}
+use Rattle.matching.specs.Pairs.{Pair, Pairs, unmatched, in?, pairs-on}
+use Rattle.matching.specs.Session.{Session, State, in-play, graph-of, pairs-of}
+use Rattle.matching.specs.Causes.{Lent, lent-row, lent-to-opening, lent-to-session, opening-causes, session-causes, first-short, too-large, too-short, bad-cell, bad-weight, first-faulty, first-outside, ill-formed, not-inverse, opening-ruling, session-ruling}
 use Rattle.matching.specs.Decided.{well-formed?, inverse-table?}
 use Rattle.matching.specs.Opening.{Opening, opened, singular, not-opened, Buffers, Opens, refuses-opening, opens, finds-singular}
-use Rattle.matching.specs.Model.{Call, pick, Answer, done, denied, Allowed, Step, Rule, picks, pick-refused, picks-lowest, none-left, no-pair, undo-refused, undoes}
-use Rattle.matching.specs.Calls.{Handles, unsound, refuses, carries, row-ruling, shows, row-refused}
-use Rattle.matching.specs.Host.{number, refusal-number, opening-number, answer-number, session-back, row-number, unpacked-state, state-stored, HostHandles, HostPickedExactly, HostShowsRow}
+use Rattle.matching.specs.Model.{Call, pick, Answer, done, denied, needs, Allowed, Step, Rule, picks, pick-refused, picks-lowest, none-left, no-pair, undo-refused, undoes}
+use Rattle.matching.specs.Calls.{Returned, state-after, Handles, unsound, refuses, carries, Runs, none, more, row-ruling, ShowsRow, shows, row-refused}
+use Rattle.matching.specs.Replay.{place-of, as-place, call-count, lent-answers, first-unknown, unknown-kind, list-causes, replay-ruling, Replays, refuses-replay, replays, replay-number, replay-stored, HostReplays}
+use Rattle.matching.specs.Host.{number, refusal-number, opening-number, answer-number, session-back, ruled-number, row-number, unpacked-state, state-stored, HostHandles, HostPickedExactly, HostShowsRow}
+use Rattle.laws.specs.Judge.{when-absent}
 use Rattle.laws.specs.Facts.{refused-pick}
 use Rattle.laws.specs.Rules.{step-rule}
 use Rattle.laws.specs.History.{Change, appended, removed, unchanged, change, Moves, grows, shrinks, stays, change-moves}
 use Rattle.laws.specs.Sequence.{length-pairs-on}
-use Rattle.laws.specs.Sound.{when-absent, opening-accepted, Sound, session-accepted}
+use Rattle.laws.specs.Sound.{opening-accepted, Sound, session-accepted, more-accepted}
 use Rattle.laws.specs.Carried.{handles-some, handles-unique, picked-exactly}
-use Rattle.laws.specs.Outcomes.{row-unique}
+use Rattle.laws.specs.Outcomes.{row-unique, replay-accepted, replays-some, replays-unique}
 
 module _ (cause kind value made : ℕ) (c : cause < 2 ^ 8) (k : kind < 2 ^ 8) (v : value < 2 ^ 16) where
   pub cause-field : number cause kind value made % 2 ^ 8 ≡ cause
@@ -116,6 +119,26 @@ answer-numbers (done x) (denied r) s t h k e = absurd (omega (arith, k .cause-fr
 answer-numbers (denied q) (done y) s t h k e = absurd (omega (arith, h .cause-from, h .cause-below))
 answer-numbers (denied q) (denied r) s t h k e = ap denied (same-refusal h k e)
 
+-- what fits where a call is only accepted or refused: the pairs of the session handed back
+abbrev pub SmallRuling : Ruling → Session → Type 0
+SmallRuling accepted s = s .made < 2 ^ 8
+SmallRuling (refused r) s = Small r
+
+abbrev pub ruling-cause : Ruling → ℕ
+ruling-cause accepted = 0
+ruling-cause (refused r) = r .cause
+
+pub ruled-low-byte : (kind : ℕ) (v : Ruling) (s : Session) → kind < 2 ^ 8 → SmallRuling v s → ruled-number kind v s % 2 ^ 8 ≡ ruling-cause v
+ruled-low-byte kind accepted s l h = omega arith
+ruled-low-byte kind (refused r) s l h = omega arith
+
+-- and two different rulings of a kind have different numbers
+pub ruled-numbers : (kind : ℕ) (v w : Ruling) (s t : Session) → kind < 2 ^ 8 → SmallRuling v s → SmallRuling w t → ruled-number kind v s ≡ ruled-number kind w t → v ≡ w
+ruled-numbers kind accepted accepted s t l h k e = refl
+ruled-numbers kind accepted (refused r) s t l h k e = absurd (omega (arith, k .cause-from, k .cause-below))
+ruled-numbers kind (refused q) accepted s t l h k e = absurd (omega (arith, h .cause-from, h .cause-below))
+ruled-numbers kind (refused q) (refused r) s t l h k e = ap refused (same-refusal h k e)
+
 -- the first of the causes that applies: its place, or a later one
 data Judged (f : Finding) (k : ℕ) (later : Ruling) (r : Refusal) : Type 0 where
   here : (x : ℕ) → f ≡ at x → r ≡ because k x → Judged f k later r
@@ -149,8 +172,25 @@ place-short (b ∷ later) {x} h e = go (decLt (b .length) (b .needed)) e (λ k. 
 small : (k x : ℕ) {r : Refusal} → r ≡ because k x → 1 ≤ k → k < 2 ^ 8 → x < 2 ^ 16 → Small r
 small k x e l h p = rw e (record { cause-from = l; cause-below = h; place-below = p })
 
+-- causes whose numbers and places are small, and a refusal by one of them
+abbrev SmallCauses : List Cause → Type 0
+SmallCauses [] = Unit {0}
+SmallCauses (c ∷ later) = (1 ≤ c .number) × (c .number < 2 ^ 8) × ((x : ℕ) → c .finding ≡ at x → x < 2 ^ 16) × SmallCauses later
+
+small-judged : (causes : List Cause) {r : Refusal} → SmallCauses causes → judge causes ≡ refused r → Small r
+small-judged [] h e = absurd (let z : _≡_ {A = ℕ} 0 1 = cc in omega arith)
+small-judged (c ∷ later) {r} h e = go (judged (c .finding) (c .number) (judge later) e) (λ t. small-judged later (h .3) t)
+  where
+    go : Judged (c .finding) (c .number) (judge later) r → (judge later ≡ refused r → Small r) → Small r
+    go (here x q t) rest = small (c .number) x t (h .0) (h .1) (h .2 x q)
+    go (there _ t) rest = rest t
+
+-- one at place 0
+at-zero : {A : Type 0} (d : Dec A) (x : ℕ) → when d 0 ≡ at x → x < 2 ^ 16
+at-zero d x q = omega (arith, place-when d 0 q)
+
 -- a refusal by the causes 1 to 4 is small, and so is one by later causes that are
-small-causes : (p : ℕ) (g : Graph) (buffers : List Lent) (later : List Cause) {r : Refusal} → SmallNumbers buffers → (judge later ≡ refused r → Small r)
+small-causes : (p : ℕ) (g : Graph) (buffers : List Lent) (later : List Cause) {r : Refusal} → SmallNumbers buffers → SmallCauses later
     → judge (opening-causes p g buffers ++ later) ≡ refused r → Small r
 unfolding bad-cell bad-weight
 small-causes p g buffers later {r} numbers rest e = size (judged (too-large (g .n) .finding) 1 _ e)
@@ -167,7 +207,7 @@ small-causes p g buffers later {r} numbers rest e = size (judged (too-large (g .
 
     weights : g .n ≤ largest → Judged (found (first-outside p g)) 4 (judge later) r → Small r
     weights h (here x q t) = small 4 x t (omega arith) (omega arith) (pairs-few h x (place-found (first-outside p g) q))
-    weights h (there _ t) = rest t
+    weights h (there _ t) = small-judged later rest t
 
     cells : g .n ≤ largest → Judged (found (first-faulty g)) 3 (judge (bad-weight p g ∷ later)) r → Small r
     cells h (here x q t) = small 3 x t (omega arith) (omega arith) (cell-place h x (place-found (first-faulty g) q))
@@ -187,7 +227,7 @@ pub opens-small : {p : ℕ} {g : Graph} {S : Subset} {b left : Buffers} {o : Ope
 unfolding opening-ruling
 opens-small {p} {g} {b = b} (refuses-opening r e) =
     small-causes p g (lent-to-opening g (length (b .inverse)) (length (b .sequence)) (length (b .witness)) (length (b .work))) [] (numbers (length (b .inverse)) (length (b .sequence)) (length (b .witness)) (length (b .work)))
-    (λ q. absurd (let z : _≡_ {A = ℕ} 0 1 = cc in omega arith)) e
+    tt e
   where
     numbers : (i s w k : ℕ) → SmallNumbers (lent-to-opening g i s w k)
     numbers i s w k = (omega arith, (omega arith, (omega arith, (omega arith, (omega arith, (omega arith, tt))))))
@@ -195,24 +235,23 @@ opens-small (opens inverse e l I) = refl
 opens-small {p} {g} (finds-singular f witness e l s) =
     omega (arith, s .kernel .below, opening-accepted p g _ _ _ _ .0 e .1 .size)
 
-module _ {p : ℕ} (P : OddPrime p) (S : Subset) where
-  -- and so is what a session call answers
-  unsound-small : (s : State) {r : Refusal} → session-ruling p S s ≡ refused r → Small r
-  unfolding session-ruling ill-formed not-inverse
-  unsound-small s {r} e =
-      small-causes p (graph-of s) (lent-to-session s [])
-      (ill-formed (graph-of s) (s .session .made) (s .sequence) ∷ not-inverse p (graph-of s) (unmatched S (pairs-of s)) (s .inverse) ∷ []) (omega arith, (omega arith, (omega arith, (omega arith, tt)))) (λ q. formed (judged _ 5 _ q)) e
-    where
-      table : Judged (when (not? (inverse-table? p (graph-of s) (unmatched S (pairs-of s)) (s .inverse))) 0) 6 accepted r → Small r
-      table (here x q t) = small 6 x t (omega arith) (omega arith) (omega (arith, place-when (not? (inverse-table? p (graph-of s) (unmatched S (pairs-of s)) (s .inverse))) 0 q))
-      table (there _ t) = absurd (let z : _≡_ {A = ℕ} 0 1 = cc in omega arith)
+module _ {p : ℕ} (P : OddPrime p) where
+  -- and so is what a session call answers, whatever it is lent besides and looks at afterwards
+  session-small : (s : State) (besides : List Lent) (later : List Cause) {r : Refusal} → SmallNumbers besides → SmallCauses later
+      → judge (session-causes p s besides ++ later) ≡ refused r → Small r
+  unfolding ill-formed not-inverse
+  session-small s besides later h k e =
+      small-causes p (graph-of s) (lent-to-session s besides)
+      (ill-formed (graph-of s) (s .session .made) (s .sequence) ∷ not-inverse p (graph-of s) (unmatched (in-play s) (pairs-of s)) (s .inverse) ∷ later)
+      (omega arith, (omega arith, (omega arith, (omega arith, h))))
+      (omega arith, omega arith, at-zero (not? (well-formed? (graph-of s) (s .session .made) (s .sequence))), (omega arith, omega arith, at-zero (not? (inverse-table? p (graph-of s) (unmatched (in-play s) (pairs-of s)) (s .inverse))), k)) e
 
-      formed : Judged (when (not? (well-formed? (graph-of s) (s .session .made) (s .sequence))) 0) 5 (judge (not-inverse p (graph-of s) (unmatched S (pairs-of s)) (s .inverse) ∷ [])) r → Small r
-      formed (here x q t) = small 5 x t (omega arith) (omega arith) (omega (arith, place-when (not? (well-formed? (graph-of s) (s .session .made) (s .sequence))) 0 q))
-      formed (there _ t) = table (judged _ 6 _ t)
+  unsound-small : (s : State) {r : Refusal} → session-ruling p s ≡ refused r → Small r
+  unfolding session-ruling
+  unsound-small s e = session-small s [] [] tt tt e
 
-  rule-small : (g : Graph) {pairs after : Pairs} {c : Call} {a : Answer} {r : Refusal} → Rule P g S pairs c a after → a ≡ denied r → Small r
-  rule-small g {pairs} {r = r} (pick-refused {a} {b} {r = w} e) q =
+  rule-small : (g : Graph) {S : Subset} {pairs after : Pairs} {c : Call} {a : Answer} {r : Refusal} → Rule P g S pairs c a after → a ≡ denied r → Small r
+  rule-small g {S} {pairs} {r = r} (pick-refused {a} {b} {r = w} e) q =
       let t = refused-pick P g S pairs a b {r = w} e in
       let d : w ≡ r = cc in
       rw d at (the w (record { cause-from = omega (arith, t .from-7); cause-below = omega (arith, t .to-10); place-below = omega (arith, t .at-0) }))
@@ -227,7 +266,7 @@ module _ {p : ℕ} (P : OddPrime p) (S : Subset) where
   rule-small g (undoes _ _) q = absurd (let z : _≡_ {A = ℕ} 0 1 = cc in omega arith)
 
   -- the newest pair of a well-formed sequence has vertices below n
-  newest-below : (s : State) → Sound p S s → (made : ℕ) → made ≡ s .session .made → (e : Pair) (earlier : Pairs) → pairs-on (s .sequence) made ≡ e ∷ earlier
+  newest-below : (s : State) → Sound p s → (made : ℕ) → made ≡ s .session .made → (e : Pair) (earlier : Pairs) → pairs-on (s .sequence) made ≡ e ∷ earlier
       → (e .smaller < e .larger) × (e .larger < s .session .size)
   unfolding pairs-on
   newest-below s W zero m e earlier q = absurd (let z : _≡_ {A = ℕ} 0 1 = cc in omega arith)
@@ -236,46 +275,46 @@ module _ {p : ℕ} (P : OddPrime p) (S : Subset) where
       subst (λ (x : Pair). (x .smaller < x .larger) × (x .larger < s .session .size)) d
       (W .well-formed .ordered k (omega arith), W .well-formed .below k (omega arith))
 
-  pub handles-small : {s t : State} {c : Call} {a : Answer} → Handles P S s c a t → SmallAnswer a
+  pub handles-small : {s t : State} {c : Call} {a : Answer} → Handles P s c a t → SmallAnswer a
   handles-small {s} (unsound r e) = unsound-small s e
   handles-small {s} {c = c} (refuses r e k) =
-      let I = session-accepted p S s .0 e .1 in
-      rule-small (graph-of s) (step-rule P (graph-of s) S (pairs-of s) c (_, I .as-defined .is-inverse)) k
-  handles-small {s} {c = c} (carries x ps words e k l i) = go _ (change P (graph-of s) S (pairs-of s) c (_, I .as-defined .is-inverse)) (ap (λ t. t .answer) k)
+      let I = session-accepted p s .0 e .1 in
+      rule-small (graph-of s) (step-rule P (graph-of s) (in-play s) (pairs-of s) c (_, I .as-defined .is-inverse)) k
+  handles-small {s} {c = c} (carries x ps words e k l i) = go _ (change P (graph-of s) (in-play s) (pairs-of s) c (_, I .as-defined .is-inverse)) (ap (λ t. t .answer) k)
     where
-      I : Sound p S s
-      I = session-accepted p S s .0 e .1
+      I : Sound p s
+      I = session-accepted p s .0 e .1
 
       below : (y : Pair) → y .smaller < y .larger → y .larger < s .session .size → done y ≡ done x → SmallAnswer (done x)
       below y o b q = let d : y ≡ x = cc in
           subst (λ (z : Pair). SmallAnswer (done z)) d (omega (arith, I .in-order .size), omega (arith, I .in-order .size))
 
-      go : (t : Step) → Change P (graph-of s) S (pairs-of s) t → t .answer ≡ done x → SmallAnswer (done x)
+      go : (t : Step) → Change P (graph-of s) (in-play s) (pairs-of s) t → t .answer ≡ done x → SmallAnswer (done x)
       go _ (appended y f _) q = below y (f .ordered) (f .below) q
       go _ (removed y earlier w _) q =
           let h = newest-below s I (s .session .made) refl y earlier w in below y (h .0) (h .1) q
       go _ (unchanged m) q = absurd (let z : _≡_ {A = ℕ} 0 1 = cc in omega arith)
 
   -- every session call through the host has an outcome, and no other
-  pub host-handles-some : (s : State) (c : Call) → (k : ℕ) × (t : State) × HostHandles P S s c k t
+  pub host-handles-some : (s : State) (c : Call) → (k : ℕ) × (t : State) × HostHandles P s c k t
   host-handles-some s c =
-      let h = handles-some P S (unpacked-state s) c in
+      let h = handles-some P (unpacked-state s) c in
       (_, _, record { given = h .0; left = h .1; outcome = h .2; numbered = refl; stored = refl })
 
-  pub host-handles-unique : {s t t′ : State} {c : Call} {k k′ : ℕ} → HostHandles P S s c k t → HostHandles P S s c k′ t′ → (k ≡ k′) × (t ≡ t′)
+  pub host-handles-unique : {s t t′ : State} {c : Call} {k k′ : ℕ} → HostHandles P s c k t → HostHandles P s c k′ t′ → (k ≡ k′) × (t ≡ t′)
   host-handles-unique {s} H H′ =
-      let u = handles-unique P S (H .outcome) (H′ .outcome) in (
+      let u = handles-unique P (H .outcome) (H′ .outcome) in (
         H .numbered ∙ ap₂ (λ a left. answer-number a (left .session)) (u .0) (u .1) ∙ sym (H′ .numbered),
         H .stored ∙ ap₂ (λ a left. state-stored a left s) (u .0) (u .1) ∙ sym (H′ .stored),
       )
 
   -- the pairs made after an accepted call fit their bits
-  pub made-small : {s t : State} {c : Call} {e : Pair} → Handles P S s c (done e) t → t .session .made < 2 ^ 8
+  pub made-small : {s t : State} {c : Call} {e : Pair} → Handles P s c (done e) t → t .session .made < 2 ^ 8
   made-small {s} {c = c} (carries x ps words e k l i) =
-      go (rw k at (change-moves _ (change P (graph-of s) S (pairs-of s) c (_, I .as-defined .is-inverse))))
+      go (rw k at (change-moves _ (change P (graph-of s) (in-play s) (pairs-of s) c (_, I .as-defined .is-inverse))))
     where
-      I : Sound p S s
-      I = session-accepted p S s .0 e .1
+      I : Sound p s
+      I = session-accepted p s .0 e .1
 
       go : Moves (pairs-of s) ps → length ps < 2 ^ 8
       go m = omega (arith, grown m, length-pairs-on (s .sequence) (s .session .made), I .well-formed .few, I .in-order .size)
@@ -286,13 +325,13 @@ module _ {p : ℕ} (P : OddPrime p) (S : Subset) where
           grown (stays q) = rw q (omega arith)
 
   -- the session handed back is the one that the number says
-  pub host-session : {s t : State} {c : Call} {k : ℕ} → HostHandles P S s c k t → t .session ≡ session-back k (s .session)
+  pub host-session : {s t : State} {c : Call} {k : ℕ} → HostHandles P s c k t → t .session ≡ session-back k (s .session)
   host-session {s} {c = c} H = rw (H .stored, H .numbered) (go (H .given) (H .left) (H .outcome) (handles-small (H .outcome)))
     where
-      size-same : {e : Pair} {left : State} → Handles P S (unpacked-state s) c (done e) left → left .session .size ≡ s .session .size
+      size-same : {e : Pair} {left : State} → Handles P (unpacked-state s) c (done e) left → left .session .size ≡ s .session .size
       size-same (carries _ _ _ _ _ _ _) = refl
 
-      go : (a : Answer) (left : State) → Handles P S (unpacked-state s) c a left → SmallAnswer a
+      go : (a : Answer) (left : State) → Handles P (unpacked-state s) c a left → SmallAnswer a
           → state-stored a left s .session ≡ session-back (answer-number a (left .session)) (s .session)
       go (denied r) left h f =
           sym (choose-no (ℕ-discrete (answer-number (denied r) (left .session) % 2 ^ 8) 0) _ (s .session) (λ z. omega (arith, answer-low-byte (denied r) (left .session) f, f .cause-from)))
@@ -302,30 +341,124 @@ module _ {p : ℕ} (P : OddPrime p) (S : Subset) where
           ∙ ap₂ (λ x y. record { size = x; made = y }) (sym (size-same h)) (made-field 0 3 (e .smaller + 2 ^ 8 * e .larger) (left .session .made) (omega arith) (omega arith) (omega arith) (made-small h)))
 
   -- demand 2, second half, through the host
-  pub host-picked-exactly : {s t : State} {a b k : ℕ} → HostHandles P S s (pick a b) k t → HostPickedExactly P S s a b k
-  host-picked-exactly {s} {a = a} {b = b} H ok = rw (H .numbered) (go (H .given) (H .outcome) (handles-small (H .outcome)) (picked-exactly P S (H .outcome) ok))
+  pub host-picked-exactly : {s t : State} {a b k : ℕ} → HostHandles P s (pick a b) k t → HostPickedExactly P s a b k
+  host-picked-exactly {s} {a = a} {b = b} H ok = rw (H .numbered) (go (H .given) (H .outcome) (handles-small (H .outcome)) (picked-exactly P (H .outcome) ok))
     where
       t : State
       t = unpacked-state s
 
-      go : (x : Answer) → Handles P S t (pick a b) x (H .left) → SmallAnswer x → ((e : Pair) × (x ≡ done e)) ↔ Allowed P (graph-of t) S (pairs-of t) a b
-          → (answer-number x (H .left .session) % 2 ^ 8 ≡ 0) ↔ Allowed P (graph-of t) S (pairs-of t) a b
+      go : (x : Answer) → Handles P t (pick a b) x (H .left) → SmallAnswer x → ((e : Pair) × (x ≡ done e)) ↔ Allowed P (graph-of t) (in-play t) (pairs-of t) a b
+          → (answer-number x (H .left .session) % 2 ^ 8 ≡ 0) ↔ Allowed P (graph-of t) (in-play t) (pairs-of t) a b
       go (done e) h f d = (λ _. d .0 (e, refl), λ _. answer-low-byte (done e) (H .left .session) f)
       go (denied r) h f d = (
         λ z. absurd (omega (arith, answer-low-byte (denied r) (H .left .session) f, f .cause-from)),
         λ w. absurd (let q = d .1 w .1 in let z : _≡_ {A = ℕ} 0 1 = cc in omega arith),
       )
 
-  -- open row through the host has an outcome, and no other
-  pub host-row-some : (s : State) (a : ℕ) (row : List ℕ) → (k : ℕ) × (t : State) × (after : List ℕ) × HostShowsRow P S s a row k t after
-  host-row-some s a row = go (row-ruling P S (unpacked-state s) a row) refl
+  -- the pairs made are few on a sound session, and after calls; the size is the same
+  made-few : (s : State) → session-ruling p s ≡ accepted → s .session .made < 2 ^ 8
+  made-few s e = let k = session-accepted p s .0 e .1 in omega (arith, k .well-formed .few, k .in-order .size)
+
+  run-made : {s : State} {calls : List Call} {returned : List Returned} → Runs P s calls returned → s .session .made < 2 ^ 8
+      → state-after s returned (length returned) .session .made < 2 ^ 8
+  unfolding state-after
+  run-made none h = h
+  run-made {s} (more {c = c} H rest) h = run-made rest (after H)
     where
-      go : (v : Ruling) → row-ruling P S (unpacked-state s) a row ≡ v → (k : ℕ) × (t : State) × (after : List ℕ) × HostShowsRow P S s a row k t after
+      after : {a : Answer} {t : State} → Handles P s c a t → t .session .made < 2 ^ 8
+      after (unsound _ _) = h
+      after (refuses _ _ _) = h
+      after (carries x ps ws e k l i) = made-small (carries x ps ws e k l i)
+
+  run-size : {s : State} {calls : List Call} {returned : List Returned} → Runs P s calls returned → state-after s returned (length returned) .session .size ≡ s .session .size
+  unfolding state-after
+  run-size none = refl
+  run-size {s} (more {c = c} H rest) = run-size rest ∙ after H
+    where
+      after : {a : Answer} {t : State} → Handles P s c a t → t .session .size ≡ s .session .size
+      after (unsound _ _) = refl
+      after (refuses _ _ _) = refl
+      after (carries _ _ _ _ _ _ _) = refl
+
+  -- what open row and replay answer is small
+  pub row-small : {s t : State} {a : ℕ} {row row′ : List ℕ} {v : Ruling} → ShowsRow P s a row v t row′ → SmallRuling v (s .session)
+  unfolding row-ruling
+  row-small {s} {a = a} {row = row} (shows e) =
+      made-few s
+      (more-accepted p s (lent-row (s .session .size) (length row) ∷ []) (needs 7 (decLt a (s .session .size)) ∷ needs 8 (in? (unmatched (in-play s) (pairs-of s)) a) ∷ []) .0 e .0)
+  row-small {s} {a = a} {row = row} (row-refused r e) =
+      session-small s (lent-row (s .session .size) (length row) ∷ []) (needs 7 (decLt a (s .session .size)) ∷ needs 8 (in? (unmatched (in-play s) (pairs-of s)) a) ∷ []) (omega arith, tt)
+      (omega arith, omega arith, at-zero (not? (decLt a (s .session .size))), (omega arith, omega arith, at-zero (not? (in? (unmatched (in-play s) (pairs-of s)) a)), tt)) e
+
+  list-small : (numbers : List ℕ) → SmallCauses (list-causes numbers)
+  unfolding unknown-kind
+  list-small numbers =
+      (omega arith, omega arith, unknown (found (first-unknown numbers)), (omega arith, omega arith, cut (not? (ℕ-discrete (length numbers % 3) 0)), tt))
+    where
+      place-small : (i : ℕ) → place-of i < 2 ^ 16
+      place-small i = go (decLt i 65535)
+        where
+          go : Dec (i < 65535) → place-of i < 2 ^ 16
+          go (yes l) = rw (choose-yes (decLt i 65535) i 65535 l) (omega arith)
+          go (no l) = rw (choose-no (decLt i 65535) i 65535 l) (lit< tt)
+
+      unknown : (f : Finding) (x : ℕ) → as-place f ≡ at x → x < 2 ^ 16
+      unknown absent x q = absurd (let z : _≡_ {A = ℕ} 0 1 = cc in omega arith)
+      unknown (at i) x q = let w : place-of i ≡ x = cc in rw w at (place-small i)
+
+      cut : {A : Type 0} (d : Dec A) (x : ℕ) → when d (place-of (call-count numbers)) ≡ at x → x < 2 ^ 16
+      cut d x q = rw (place-when d (place-of (call-count numbers)) q) (place-small (call-count numbers))
+
+  pub replays-small : {s t : State} {numbers answers answers′ : List ℕ} {v : Ruling} → Replays P s numbers answers v t answers′ → SmallRuling v (t .session)
+  unfolding replay-ruling
+  replays-small {s} {numbers = numbers} {answers = answers} (refuses-replay r e) =
+      session-small s (lent-answers (call-count numbers) (length answers) ∷ []) (list-causes numbers) (omega arith, tt) (list-small numbers) e
+  replays-small {s} {numbers = numbers} {answers = answers} (replays returned e runs) =
+      run-made runs (made-few s (replay-accepted P s numbers answers .0 e .0))
+
+  -- open row through the host has an outcome, and no other
+  pub host-row-some : (s : State) (a : ℕ) (row : List ℕ) → (k : ℕ) × (t : State) × (after : List ℕ) × HostShowsRow P s a row k t after
+  host-row-some s a row = go (row-ruling P (unpacked-state s) a row) refl
+    where
+      go : (v : Ruling) → row-ruling P (unpacked-state s) a row ≡ v → (k : ℕ) × (t : State) × (after : List ℕ) × HostShowsRow P s a row k t after
       go accepted e = (_, s, _, record { verdict = accepted; outcome = shows e; numbered = refl; same = refl })
       go (refused r) e = (_, s, row, record { verdict = refused r; outcome = row-refused r e; numbered = refl; same = refl })
 
-  pub host-row-unique : {s t t′ : State} {a k k′ : ℕ} {row after after′ : List ℕ} → HostShowsRow P S s a row k t after → HostShowsRow P S s a row k′ t′ after′
+  pub host-row-unique : {s t t′ : State} {a k k′ : ℕ} {row after after′ : List ℕ} → HostShowsRow P s a row k t after → HostShowsRow P s a row k′ t′ after′
       → (k ≡ k′) × (t ≡ t′) × (after ≡ after′)
   host-row-unique {s} H H′ =
-      let u = row-unique P S (H .outcome) (H′ .outcome) in
+      let u = row-unique P (H .outcome) (H′ .outcome) in
       (H .numbered ∙ ap (λ v. row-number v (s .session)) (u .0) ∙ sym (H′ .numbered), H .same ∙ sym (H′ .same), u .2)
+
+  -- and so has a replay
+  pub host-replays-some : (s : State) (numbers answers : List ℕ) → (k : ℕ) × (t : State) × (after : List ℕ) × HostReplays P s numbers answers k t after
+  host-replays-some s numbers answers =
+      let h = replays-some P (unpacked-state s) numbers answers in
+      (_, _, h .2, record { verdict = h .0; left = h .1; outcome = h .3; numbered = refl; stored = refl })
+
+  pub host-replays-unique : {s t t′ : State} {k k′ : ℕ} {numbers answers after after′ : List ℕ} → HostReplays P s numbers answers k t after
+      → HostReplays P s numbers answers k′ t′ after′ → (k ≡ k′) × (t ≡ t′) × (after ≡ after′)
+  host-replays-unique {s} H H′ =
+      let u = replays-unique P (H .outcome) (H′ .outcome) in (
+        H .numbered ∙ ap₂ (λ v (left : State). replay-number v (left .session)) (u .0) (u .1) ∙ sym (H′ .numbered),
+        H .stored ∙ ap₂ (λ v left. replay-stored v left s) (u .0) (u .1) ∙ sym (H′ .stored),
+        u .2,
+      )
+
+  -- the session handed back is the one that the number says
+  pub host-replay-session : {s t : State} {k : ℕ} {numbers answers after : List ℕ} → HostReplays P s numbers answers k t after → t .session ≡ session-back k (s .session)
+  host-replay-session {s} {numbers = numbers} {answers = answers} H =
+      rw (H .stored, H .numbered) (go (H .verdict) (H .left) (H .outcome) (replays-small (H .outcome)))
+    where
+      size-same : {v : Ruling} {left : State} {after : List ℕ} → Replays P (unpacked-state s) numbers answers v left after → left .session .size ≡ s .session .size
+      size-same (refuses-replay _ _) = refl
+      size-same (replays _ _ runs) = run-size runs
+
+      go : (v : Ruling) (left : State) {after : List ℕ} → Replays P (unpacked-state s) numbers answers v left after → SmallRuling v (left .session)
+          → replay-stored v left s .session ≡ session-back (replay-number v (left .session)) (s .session)
+      go (refused r) left R h =
+          sym (choose-no (ℕ-discrete (refusal-number r % 2 ^ 8) 0) _ (s .session) (λ z. omega (arith, ruled-low-byte 5 (refused r) (left .session) (omega arith) h, h .cause-from)))
+      go accepted left R h =
+          sym
+          (choose-yes (ℕ-discrete (number 0 5 0 (left .session .made) % 2 ^ 8) 0) _ (s .session) (ruled-low-byte 5 accepted (left .session) (omega arith) h)
+          ∙ ap₂ (λ x y. record { size = x; made = y }) (sym (size-same R)) (made-field 0 5 0 (left .session .made) (omega arith) (omega arith) (omega arith) h))

@@ -1,25 +1,28 @@
 -- Open row, replay, the reader and the listing have exactly one outcome each. Assumes nothing.
 use mathlib.Core.Path.{_≡_, refl, sym, ap, _∙_}
-use mathlib.Core.List.{List, [], _++_}
+use mathlib.Core.Logic.{_↔_}
+use mathlib.Core.List.{List, [], _∷_, _++_}
 use Prim.Native.Nat.{ℕ}
 use native.Mathlib.Omega.{arith}
 use lib.ListN.{length, take, replicate}
+use Rattle.lists.specs.Onto.{onto}
 use Rattle.modular.specs.Prime.{OddPrime}
 use Rattle.residue.specs.Modulus.{modulus, modulus-prime}
-use Rattle.skew.specs.Subset.{Subset}
 use Rattle.skew.specs.Decide.{Outcome, inverse, column, outcome, witness-singular}
 use Rattle.skew.specs.Matching.{invertible-even}
-use Rattle.matching.specs.Decision.{Refusal, Ruling, accepted, refused}
+use Rattle.matching.specs.Decision.{Refusal, Ruling, accepted, refused, judge}
 use Rattle.matching.specs.Graph.{Graph, tutte}
 use Rattle.matching.specs.Pairs.{Pair, everything, unmatched}
-use Rattle.matching.specs.Session.{State, onto}
+use Rattle.matching.specs.Session.{State}
+use Rattle.matching.specs.Causes.{LongEnough, session-ruling}
 use Rattle.matching.specs.Opening.{Singular}
 use Rattle.matching.specs.Model.{skew, automatic, pairs-after, Nonsingular, PicksToCome}
 use Rattle.matching.specs.Calls.{state-after, row-ruling, ShowsRow, shows, row-refused}
-use Rattle.matching.specs.Replay.{calls-of, list-ruling, numbers-of, Replays, refuses-list, replays}
+use Rattle.matching.specs.Replay.{call-count, calls-of, lent-answers, list-causes, replay-ruling, numbers-of, Replays, refuses-replay, replays}
 use Rattle.matching.specs.Records.{Reading, sheet, unread, ReadsFrom, ReadsAs, graph, Read, not-read, graph-read, room, FillsFrom, refuses-records, lacks-room, fills}
 use Rattle.matching.specs.Computed.{read-from, read}
 use Rattle.matching.specs.Listing.{input-limit, first-line, pair-lines, witness-lines, line-full, line-none, refused-line, Lists, refuses-sheet, pairs-up, shows-witness}
+use Rattle.laws.specs.Sound.{more-accepted}
 use Rattle.laws.specs.Carried.{runs-some, runs-unique}
 use Rattle.laws.specs.Facts.{picks-to-come, picks-to-come-half}
 use Rattle.laws.specs.Determined.{singular-of, singular-unique}
@@ -28,36 +31,43 @@ use Rattle.laws.specs.Reading.{reads-unique}
 never : {A : Type 0} → _≡_ {A = ℕ} 0 1 → A
 never z = absurd (omega arith)
 
-module _ {p : ℕ} (P : OddPrime p) (S : Subset) where
-  pub row-some : (s : State) (a : ℕ) (row : List ℕ) → (v : Ruling) × (t : State) × (after : List ℕ) × ShowsRow P S s a row v t after
-  row-some s a row = go (row-ruling P S s a row) refl
+module _ {p : ℕ} (P : OddPrime p) where
+  pub row-some : (s : State) (a : ℕ) (row : List ℕ) → (v : Ruling) × (t : State) × (after : List ℕ) × ShowsRow P s a row v t after
+  row-some s a row = go (row-ruling P s a row) refl
     where
-      go : (v : Ruling) → row-ruling P S s a row ≡ v → (v : Ruling) × (t : State) × (after : List ℕ) × ShowsRow P S s a row v t after
+      go : (v : Ruling) → row-ruling P s a row ≡ v → (v : Ruling) × (t : State) × (after : List ℕ) × ShowsRow P s a row v t after
       go accepted e = (accepted, s, _, shows e)
       go (refused r) e = (refused r, s, row, row-refused r e)
 
-  pub row-unique : {s : State} {a : ℕ} {row after after′ : List ℕ} {v v′ : Ruling} {t t′ : State} → ShowsRow P S s a row v t after → ShowsRow P S s a row v′ t′ after′
+  pub row-unique : {s : State} {a : ℕ} {row after after′ : List ℕ} {v v′ : Ruling} {t t′ : State} → ShowsRow P s a row v t after → ShowsRow P s a row v′ t′ after′
       → (v ≡ v′) × (t ≡ t′) × (after ≡ after′)
   row-unique (shows e) (shows e′) = (refl, refl, refl)
   row-unique (shows e) (row-refused r e′) = never (cc)
   row-unique (row-refused r e) (shows e′) = never (cc)
   row-unique (row-refused r e) (row-refused r′ e′) = (cc, refl, refl)
 
-module _ {p : ℕ} (P : OddPrime p) (S : Subset) where
-  pub replays-some : (s : State) (numbers answers : List ℕ) → (v : Ruling) × (t : State) × (after : List ℕ) × Replays P S s numbers answers v t after
-  replays-some s numbers answers = go (list-ruling numbers (length answers)) refl
-    where
-      go : (v : Ruling) → list-ruling numbers (length answers) ≡ v → (v : Ruling) × (t : State) × (after : List ℕ) × Replays P S s numbers answers v t after
-      go (refused r) e = (refused r, s, answers, refuses-list r e)
-      go accepted e = let R = runs-some P S s (calls-of numbers) in (_, _, _, replays (R .0) e (R .1))
+module _ {p : ℕ} (P : OddPrime p) where
+  -- a replay is not refused exactly when the session is sound, there is room for the answers, and the list is in order
+  pub replay-accepted : (s : State) (numbers answers : List ℕ)
+      → (replay-ruling P s numbers answers ≡ accepted)
+      ↔ ((session-ruling p s ≡ accepted) × LongEnough (lent-answers (call-count numbers) (length answers) ∷ []) × (judge (list-causes numbers) ≡ accepted))
+  unfolding replay-ruling
+  replay-accepted s numbers answers = more-accepted p s (lent-answers (call-count numbers) (length answers) ∷ []) (list-causes numbers)
 
-  pub replays-unique : {s t t′ : State} {numbers answers after after′ : List ℕ} {v v′ : Ruling} → Replays P S s numbers answers v t after
-      → Replays P S s numbers answers v′ t′ after′ → (v ≡ v′) × (t ≡ t′) × (after ≡ after′)
-  replays-unique (refuses-list r e) (refuses-list r′ e′) = (cc, refl, refl)
-  replays-unique (refuses-list r e) (replays _ e′ _) = never (cc)
-  replays-unique (replays _ e _) (refuses-list r e′) = never (cc)
+  pub replays-some : (s : State) (numbers answers : List ℕ) → (v : Ruling) × (t : State) × (after : List ℕ) × Replays P s numbers answers v t after
+  replays-some s numbers answers = go (replay-ruling P s numbers answers) refl
+    where
+      go : (v : Ruling) → replay-ruling P s numbers answers ≡ v → (v : Ruling) × (t : State) × (after : List ℕ) × Replays P s numbers answers v t after
+      go (refused r) e = (refused r, s, answers, refuses-replay r e)
+      go accepted e = let R = runs-some P s (calls-of numbers) in (accepted, _, _, replays (R .0) e (R .1))
+
+  pub replays-unique : {s t t′ : State} {numbers answers after after′ : List ℕ} {v v′ : Ruling} → Replays P s numbers answers v t after
+      → Replays P s numbers answers v′ t′ after′ → (v ≡ v′) × (t ≡ t′) × (after ≡ after′)
+  replays-unique (refuses-replay r e) (refuses-replay r′ e′) = (cc, refl, refl)
+  replays-unique (refuses-replay r e) (replays _ e′ _) = never (cc)
+  replays-unique (replays _ e _) (refuses-replay r e′) = never (cc)
   replays-unique {s} {answers = answers} (replays a e R) (replays b e′ R′) =
-      let q : a ≡ b = runs-unique P S R R′ in
+      let q : a ≡ b = runs-unique P R R′ in
       (refl, ap (λ l. state-after s l (length l)) q, ap (λ l. onto (numbers-of l) answers) q)
 
 pub fills-some : (bytes : List ℕ) (at : ℕ) (adjacency weights : List ℕ) → (o : Read) × (a : List ℕ) × (w : List ℕ) × FillsFrom bytes at adjacency weights o a w
@@ -99,7 +109,7 @@ lists-some input = go (read (take input-limit input) .reading) (read (take input
     go : (r : Reading) → ReadsAs (take input-limit input) r → (text : List ℕ) × Lists input text
     go (unread why) R = (_, refuses-sheet R)
     go (sheet n weights edges) R =
-        ends (outcome modulus-prime (g .n) (tutte g modulus) (skew modulus-prime g everything) everything)
+        ends (outcome modulus-prime (g .n) (tutte g modulus) (skew modulus-prime g) everything)
       where
         g : Graph
         g = graph n weights edges
@@ -107,7 +117,7 @@ lists-some input = go (read (take input-limit input) .reading) (read (take input
         ends : Outcome modulus (g .n) (tutte g modulus) everything → (text : List ℕ) × Lists input text
         ends (inverse T I) =
             let J : Nonsingular modulus-prime g everything [] = (T, I) in
-            let m = invertible-even modulus-prime (g .n) (tutte g modulus) (skew modulus-prime g everything) J in
+            let m = invertible-even modulus-prime (g .n) (tutte g modulus) (skew modulus-prime g) J in
             (_, pairs-up R J (picks-to-come modulus-prime g everything (m .0) [] J (m .1)))
         ends (column f w F W) =
             let s = singular-of modulus-prime g everything F W in (_, shows-witness R (s .1) (s .2))
@@ -135,9 +145,9 @@ listed-unique {n} {weights} {edges} (paired m I c) (paired m′ I′ c′) =
     let q : m ≡ m′ = omega arith in
     rw q refl
 listed-unique {n} {weights} {edges} (paired m I c) (witnessed f ws l s) =
-    absurd (witness-singular modulus-prime n (tutte (graph n weights edges) modulus) (skew modulus-prime (graph n weights edges) everything) everything (s .kernel) I)
+    absurd (witness-singular modulus-prime n (tutte (graph n weights edges) modulus) (skew modulus-prime (graph n weights edges)) everything (s .kernel) I)
 listed-unique {n} {weights} {edges} (witnessed f ws l s) (paired m I c) =
-    absurd (witness-singular modulus-prime n (tutte (graph n weights edges) modulus) (skew modulus-prime (graph n weights edges) everything) everything (s .kernel) I)
+    absurd (witness-singular modulus-prime n (tutte (graph n weights edges) modulus) (skew modulus-prime (graph n weights edges)) everything (s .kernel) I)
 listed-unique {n} {weights} {edges} (witnessed f ws l s) (witnessed f′ ws′ l′ s′) =
     let q = singular-unique modulus-prime (graph n weights edges) everything l l′ s s′ .1 in rw q refl
 

@@ -6,23 +6,22 @@ use native.Mathlib.Omega.{arith}
 use native.Mathlib.Decide.{ℕ-discrete, decLt}
 use lib.ListN.{length, getD, List·getD-append}
 use Rattle.lists.specs.Table.{index-below, row-below, column-below}
+use Rattle.lists.specs.Choose.{choose}
+use Rattle.lists.specs.Onto.{onto, onto-long}
 use Rattle.draws.specs.Draws.{draws}
 use Rattle.draws.specs.Laws.{draws-length, draws-range}
-use Rattle.skew.specs.Choose.{choose}
 use Rattle.residue.specs.Modulus.{modulus}
 use Rattle.matching.specs.Decision.{because, accepted, Every}
 use Rattle.matching.specs.Graph.{Graph, over, largest, pair-count, cell, kind-of, fault, InRange, InOrder}
 use Rattle.matching.specs.Pairs.{Pair, pair-of}
-use Rattle.matching.specs.Session.{onto}
 use Rattle.matching.specs.Model.{Named}
-use Rattle.matching.specs.Causes.{lent-graph, opening-ruling, lent-inverse, lent-sequence, lent-witness, lent-work, LongEnough}
+use Rattle.matching.specs.Causes.{opening-ruling, lent-inverse, lent-sequence, lent-witness, lent-work, LongEnough}
 use Rattle.matching.specs.Records.{Record, size, kind, Begins, begins-size, begins-share, begins-seed, begins-end, Progress, start, sized, weighted, ended, Due, size-due, seed-due, share-due, end-due, Same, same?, among, Takes, takes-size, takes-seed, takes-share, takes-end, Rejects, too-large-size, not-two, stood-already, Reading, sheet, unread, Reads, whole, not-due, stops, cut, rejected, goes-on, cells, graph-read, Fills, fills}
 use Rattle.matching.specs.Computed.{nothing-due, begins-kind}
 use Rattle.laws.specs.Facts.{pair-of-smaller, pair-of-larger}
 use Rattle.laws.specs.Cells.{pair-of-swap, cells-length, cells-at}
-use Rattle.laws.specs.Onto.{onto-long}
 use Rattle.laws.specs.Faults.{fault-kind, kind-diagonal-zero, kind-equal}
-use Rattle.laws.specs.Sound.{opening-accepted}
+use Rattle.laws.specs.Sound.{GraphFits, opening-accepted}
 
 no-record : {A : Type 0} {r : Record} {rest : List ℕ} → Begins r [] rest → A
 no-record = elim [ ]
@@ -203,9 +202,9 @@ module _ {n : ℕ} {drawn : List ℕ} {edges : List Pair} (F : Fit n drawn edges
       List·getD-append drawn _ 0 x (omega (arith, drawn-length)) ∙ ap (λ w. getD w x 0) (F .drawn) in
       rw e (draws-range (F .seeded-by) (pair-count n) x l)
 
-  pub sheet-in-order : LongEnough (lent-graph g) × InOrder modulus g
+  pub sheet-in-order : GraphFits g × InOrder modulus g
   sheet-in-order = (
-    (onto-long (cells n edges) adjacency (n * n) (cells-length n edges), (onto-long drawn weights (pair-count n) drawn-length, tt)),
+    record { cells = onto-long (cells n edges) adjacency (n * n) (cells-length n edges); weights = onto-long drawn weights (pair-count n) drawn-length },
     record {
       size = F .small;
       cells = λ x l. faultless (x / n) (x % n) (row-below n x l) (column-below n x l);
@@ -219,4 +218,7 @@ pub filled-accepted : {bytes adjacency weights a w : List ℕ} {n m : ℕ} (inve
     → opening-ruling modulus (over n a w) inverse sequence witness work ≡ accepted
 filled-accepted {adjacency = adjacency} {weights = weights} inverse sequence witness work (fills R _) long =
     let k = sheet-in-order (reads-fit R refl tt) adjacency weights in
-    opening-accepted modulus _ inverse sequence witness work .1 ((k .0 .0, (k .0 .1 .0, long)), k .1)
+    opening-accepted modulus _ inverse sequence witness work .1 (
+      record { graph = k .0; inverse-fits = long .0; sequence-fits = long .1 .0; witness-fits = long .1 .1 .0; work-fits = long .1 .1 .1 .0 },
+      k .1,
+    )

@@ -2,21 +2,21 @@
 -- opening through the host does not refuse what was read through it. Assumes nothing.
 use mathlib.Core.Path.{_≡_, refl, sym, ap, ap₂, _∙_}
 use mathlib.Core.List.{List, [], _∷_}
-use Prim.Native.Nat.{ℕ, _%_, _^_, _≤_, _<_}
+use Prim.Native.Nat.{ℕ, _%_, _^_, _<_}
 use native.Mathlib.Omega.{arith}
 use native.Mathlib.Decide.{decLt}
-use lib.ListN.{length, getD, take, drop, length-take, List·getD-append}
+use lib.ListN.{length, take, drop, length-take, List·getD-append}
+use Rattle.lists.specs.Onto.{onto}
 use Rattle.residue.specs.Modulus.{modulus}
-use Rattle.skew.specs.Subset.{Subset}
-use Rattle.matching.specs.Decision.{Ruling, accepted, refused, because}
-use Rattle.matching.specs.Graph.{over, pair-count}
-use Rattle.matching.specs.Session.{onto}
+use Rattle.matching.specs.Decision.{accepted, because}
+use Rattle.matching.specs.Graph.{over}
 use Rattle.matching.specs.Causes.{lent-graph, lent-inverse, lent-sequence, lent-witness, lent-work, too-short, LongEnough, opening-ruling}
-use Rattle.matching.specs.Opening.{Opening, opened, singular, not-opened, Buffers, Opens, opens, finds-singular, refuses-opening}
+use Rattle.matching.specs.Opening.{Opening, opened, singular, not-opened, Buffers, players, Opens, opens, refuses-opening}
 use Rattle.matching.specs.Records.{Read, graph-read, not-read, room, FillsFrom, fills}
 use Rattle.matching.specs.Listing.{input-limit, text-room, Listed, ListsInto, lists-into, lacks-text-room}
 use Rattle.matching.specs.Host.{words, Bytes, bytes-of, cause-in, made-in, unpacked, read-number, weights-stored, opening-number, HostReads, HostOpens}
-use Rattle.laws.specs.Sound.{judge-accepted, short-absent}
+use Rattle.laws.specs.Judge.{judge-accepted}
+use Rattle.laws.specs.Sound.{short-absent, graph-fits}
 use Rattle.laws.specs.Reading.{reads-fit, drawn-length, in-range, filled-accepted}
 use Rattle.laws.specs.Bounds.{Answers, fills-answer}
 use Rattle.laws.specs.Outcomes.{fills-some, fills-unique, lists-some, lists-unique}
@@ -85,14 +85,15 @@ stored-back : {bytes adjacency a left : List ℕ} {n m : ℕ} (weights : List �
 stored-back {adjacency = adjacency} weights B (fills {n = n} {drawn = drawn} R e) =
     let F = reads-fit R refl tt in
     let l = drawn-length F adjacency (words weights) in
-    let long = short-absent (lent-graph (over n adjacency (words weights))) .0 (judge-accepted (too-short (lent-graph (over n adjacency (words weights))) ∷ []) .0 e .0) in
-    read-words drawn weights B (omega (arith, long .1 .0))
+    let g = over n adjacency (words weights) in
+    let long = graph-fits g .0 (short-absent (lent-graph g) .0 (judge-accepted (too-short (lent-graph g) ∷ []) .0 e .0)) in
+    read-words drawn weights B (omega (arith, long .weights))
     (λ x h.
     let small = in-range F adjacency (words weights) x (omega arith) .1 in
     omega (arith, small, List·getD-append drawn (drop (length drawn) (words weights)) 0 x h))
 
 -- a graph that was read through the host is opened through it, or found singular: no cause applies
-module _ {sheet adjacency weights a w : List ℕ} {k : ℕ} (B : Bytes weights) (H : HostReads sheet adjacency weights k a w) (none : cause-in k ≡ 0) (S : Subset) (b : Buffers) where
+module _ {sheet adjacency weights a w : List ℕ} {k : ℕ} (B : Bytes weights) (H : HostReads sheet adjacency weights k a w) (none : cause-in k ≡ 0) (b : Buffers) where
   -- what is read, with its size
   record ReadSize : Type 0 where
     edges : ℕ
@@ -112,13 +113,13 @@ module _ {sheet adjacency weights a w : List ℕ} {k : ℕ} (B : Bytes weights) 
           let v : words w ≡ H .left = ap words s ∙ stored-back weights B F in
           record { edges = m; filled = rw (q, v) F }
 
-  pub host-read-opens : {answer : ℕ} {after : Buffers} → LongBytes (made-in k) b → HostOpens modulus (made-in k) a w S b answer after → cause-in answer ≡ 0
+  pub host-read-opens : {answer : ℕ} {after : Buffers} → LongBytes (made-in k) b → HostOpens modulus (made-in k) a w b answer after → cause-in answer ≡ 0
   host-read-opens long O = ap cause-in (O .numbered) ∙ go (O .opening) (O .outcome)
     where
       ok : opening-ruling modulus (over (made-in k) a (words w)) (length (words (b .inverse))) (length (b .sequence)) (length (words (b .witness))) (length (words (b .work))) ≡ accepted
       ok = filled-accepted _ _ _ _ (read-size .filled) long
 
-      go : (o : Opening) {left : Buffers} → Opens modulus (over (made-in k) a (words w)) S (unpacked b) o left → cause-in (opening-number o) ≡ 0
+      go : (o : Opening) {left : Buffers} → Opens modulus (over (made-in k) a (words w)) (players (made-in k) (unpacked b)) (unpacked b) o left → cause-in (opening-number o) ≡ 0
       go (opened s) X = opening-low-byte (made-in k) (opened s) (opens-small X)
       go (singular f) X = opening-low-byte (made-in k) (singular f) (opens-small X)
       go (not-opened r) (refuses-opening _ e) = let a = ok in absurd (let z : _≡_ {A = ℕ} 0 1 = cc in omega arith)

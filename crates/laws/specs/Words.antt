@@ -4,9 +4,9 @@ use mathlib.Core.List.{List, [], _∷_}
 use Prim.Native.Nat.{ℕ, zero, suc, _+_, _*_, _/_, _%_, _^_, _≤_, _<_}
 use native.Mathlib.Omega.{arith}
 use lib.ListN.{length, getD, take}
-use Rattle.matching.specs.Session.{onto}
+use lib.Seq.{length-take-le}
+use Rattle.lists.specs.Onto.{onto, onto-front, onto-front-same}
 use Rattle.matching.specs.Host.{words, Bytes, bytes-of}
-use Rattle.laws.specs.Onto.{onto-front}
 
 double : (i : ℕ) → 2 * suc i ≡ suc (suc (2 * i))
 double i = omega arith
@@ -68,6 +68,17 @@ stored-words (w ∷ new) [] B h = absurd (omega arith)
 stored-words (w ∷ new) (a ∷ []) B h = absurd (omega arith)
 stored-words (w ∷ new) (a ∷ b ∷ l) B h =
     ap (λ r. w % 256 ∷ w / 256 % 256 ∷ r) (stored-words new l (λ x. B (suc (suc x))) (omega arith))
+
+-- the words of a byte slice stored over it again, all of them or the first k
+pub own-words : (l : List ℕ) → Bytes l → onto (bytes-of (words l)) l ≡ l
+unfolding bytes-of
+own-words l B = stored-words [] l B (omega arith)
+
+pub own-front : (k : ℕ) (l : List ℕ) → Bytes l → k ≤ length (words l) → onto (bytes-of (take k (words l))) l ≡ l
+own-front k l B h =
+    sym (stored-words (take k (words l)) l B (omega (arith, length-take-le k (words l) h)))
+    ∙ ap (λ w. onto (bytes-of w) l) (onto-front-same k (words l) h)
+    ∙ own-words l B
 
 -- and so where the words were written over others
 pub stored-front : (new old l : List ℕ) (k : ℕ) → Bytes l → length new ≡ k → k ≤ length (words l)

@@ -5,14 +5,13 @@ use Prim.Native.Nat.{ℕ, _*_, _≤_}
 use native.Mathlib.Omega.{arith}
 use lib.ListN.{length, take, drop, length-append, length-drop}
 use Rattle.lists.specs.Table.{square-small}
+use Rattle.lists.specs.Onto.{onto, onto-front, onto-nothing}
 use Rattle.matching.specs.Decision.{Refusal}
 use Rattle.matching.specs.Graph.{over, largest}
 use Rattle.matching.specs.Pairs.{Pair}
-use Rattle.matching.specs.Session.{onto}
 use Rattle.matching.specs.Records.{sheet, ReadsAs, cells, graph, graph-read, not-read, Fills, refuses-records, lacks-room, fills}
 use Rattle.matching.specs.Listing as definition
 use Rattle.matching.specs.Listing.{input-limit, text-room, first-line, refused-line, Lists, refuses-sheet, pairs-up, shows-witness, ListsInto, lists-into}
-use Rattle.laws.specs.Onto.{onto-front, onto-nothing}
 use Rattle.laws.specs.Cells.{cells-length}
 use Rattle.laws.specs.Reading.{reads-fit, sheet-in-order}
 use Rattle.laws.specs.Bounds.{reads-edges}

@@ -7,11 +7,11 @@ use Prim.Native.Nat.{ℕ, zero, suc, _*_}
 use native.Mathlib.Decide.{decLt}
 use lib.ListN.{length}
 use Rattle.lists.specs.Values.{list-of}
+use Rattle.lists.specs.Onto.{onto}
 use Rattle.modular.specs.Prime.{OddPrime}
-use Rattle.skew.specs.Subset.{Subset}
 use Rattle.matching.specs.Decision.{Refusal, Ruling, accepted, refused, judge}
 use Rattle.matching.specs.Pairs.{Pair, Pairs, unmatched, in?}
-use Rattle.matching.specs.Session.{State, graph-of, pairs-of, with-pairs, InverseTable, onto}
+use Rattle.matching.specs.Session.{State, in-play, graph-of, pairs-of, with-pairs, InverseTable}
 use Rattle.matching.specs.Causes.{lent-row, session-causes, session-ruling}
 use Rattle.matching.specs.Model.{Call, Answer, done, denied, Step, needs, pick-ruling, Allowed, step}
 
@@ -31,26 +31,25 @@ abbrev pub bit-of : Ruling → ℕ
 bit-of accepted = 1
 bit-of (refused r) = 0
 
--- the vertices in play are a set S; in document 01 it is `everything`
-module _ {p : ℕ} (P : OddPrime p) (S : Subset) where
+module _ {p : ℕ} (P : OddPrime p) where
   -- what the plain model makes of the pairs made
   abbrev pub model-step : State → Call → Step
-  model-step s c = step P (graph-of s) S (pairs-of s) c
+  model-step s c = step P (graph-of s) (in-play s) (pairs-of s) c
 
   -- hand pick, automatic pick and take-back: the answer, and the state handed back. A refused call changes nothing; an accepted one
   -- leaves the model's pairs and the inverse for the vertices then left
   pub data Handles (s : State) (c : Call) : Answer → State → Type 0 where
-    unsound : (r : Refusal) → session-ruling p S s ≡ refused r → Handles s c (denied r) s
-    refuses : (r : Refusal) → session-ruling p S s ≡ accepted → model-step s c .answer ≡ denied r → Handles s c (denied r) s
-    carries : (e : Pair) (pairs : Pairs) (inverse : List ℕ) → session-ruling p S s ≡ accepted
+    unsound : (r : Refusal) → session-ruling p s ≡ refused r → Handles s c (denied r) s
+    refuses : (r : Refusal) → session-ruling p s ≡ accepted → model-step s c .answer ≡ denied r → Handles s c (denied r) s
+    carries : (e : Pair) (pairs : Pairs) (inverse : List ℕ) → session-ruling p s ≡ accepted
         → model-step s c ≡ record { answer = done e; pairs = pairs }
-        → length inverse ≡ s .session .size * s .session .size → InverseTable p (graph-of s) (unmatched S pairs) inverse
+        → length inverse ≡ s .session .size * s .session .size → InverseTable p (graph-of s) (unmatched (in-play s) pairs) inverse
         → Handles s c (done e) (with-pairs (graph-of s) pairs inverse s)
 
   -- demand 2, second half: on a sound session a hand pick is accepted exactly when `Allowed`. It follows from `Handles`.
   abbrev pub PickedExactly : State → (a b : ℕ) → Answer → Type 0
   PickedExactly s a b answer =
-      session-ruling p S s ≡ accepted → (((e : Pair) × (answer ≡ done e)) ↔ Allowed P (graph-of s) S (pairs-of s) a b)
+      session-ruling p s ≡ accepted → (((e : Pair) × (answer ≡ done e)) ↔ Allowed P (graph-of s) (in-play s) (pairs-of s) a b)
 
   -- a list of calls, each given the state that the last one handed back, and what each returned
   pub data Runs : State → List Call → List Returned → Type 0 where
@@ -61,16 +60,16 @@ module _ {p : ℕ} (P : OddPrime p) (S : Subset) where
   -- for each vertex b, whether a pick of a and b would be accepted
   unfoldable pub open-row : State → ℕ → List ℕ
   unfolding list-of pick-ruling
-  open-row s a = list-of (s .session .size) (λ b. bit-of (pick-ruling P (graph-of s) S (pairs-of s) a b))
+  open-row s a = list-of (s .session .size) (λ b. bit-of (pick-ruling P (graph-of s) (in-play s) (pairs-of s) a b))
 
   -- open row of a: causes 1 to 6, with the row among the lent buffers, then 7 and 8 of a itself
   unfoldable pub row-ruling : State → ℕ → List ℕ → Ruling
   unfolding session-ruling decLt
   row-ruling s a row =
       judge
-      (session-causes p S s (lent-row (s .session .size) (length row) ∷ [])
+      (session-causes p s (lent-row (s .session .size) (length row) ∷ [])
       ++ needs 7 (decLt a (s .session .size))
-      ∷ needs 8 (in? (unmatched S (pairs-of s)) a)
+      ∷ needs 8 (in? (unmatched (in-play s) (pairs-of s)) a)
       ∷ [])
 
   -- whether it was refused, the state handed back, which is always as it came, and the row afterwards

@@ -4,12 +4,12 @@ use mathlib.Core.List.{List, [], _∷_, _++_}
 use Prim.Native.Nat.{ℕ, _*_, _/_, _%_, _≤_}
 use native.Mathlib.Decide.{ℕ-discrete, decLt}
 use lib.ListN.{length, getD}
-use Rattle.skew.specs.Choose.{choose}
+use Rattle.lists.specs.Choose.{choose}
 use Rattle.skew.specs.Subset.{Subset}
 use Rattle.matching.specs.Decision.{both?, not?, First, first?, Finding, absent, at, when, found, Cause, Ruling, judge}
 use Rattle.matching.specs.Graph.{Graph, largest, pair-count, fault, Faulty, InRange}
 use Rattle.matching.specs.Pairs.{unmatched}
-use Rattle.matching.specs.Session.{State, graph-of, pairs-of}
+use Rattle.matching.specs.Session.{State, in-play, graph-of, pairs-of}
 use Rattle.matching.specs.Decided.{inverse-table?, well-formed?}
 
 -- a lent buffer: its number in the table, how long it is, and how much of it the call needs
@@ -114,18 +114,18 @@ unfolding bad-cell bad-weight
 opening-ruling p g inverse sequence witness work = judge (opening-causes p g (lent-to-opening g inverse sequence witness work))
 
 -- what a session call is lent, with the buffers `more` that it is lent besides, and what it looks at first: 1 to 6, whether the session is
--- sound for a set S of vertices in play; in document 01 it is `everything`
+-- sound
 abbrev pub lent-to-session : State → List Lent → List Lent
 lent-to-session s more =
     lent-always (s .session .size) (length (s .adjacency)) (length (s .weights)) (length (s .inverse)) (length (s .sequence)) ++ more
 
-abbrev pub session-causes : ℕ → Subset → State → List Lent → List Cause
-session-causes p S s more =
+abbrev pub session-causes : ℕ → State → List Lent → List Cause
+session-causes p s more =
     opening-causes p (graph-of s) (lent-to-session s more)
     ++ ill-formed (graph-of s) (s .session .made) (s .sequence)
-    ∷ not-inverse p (graph-of s) (unmatched S (pairs-of s)) (s .inverse)
+    ∷ not-inverse p (graph-of s) (unmatched (in-play s) (pairs-of s)) (s .inverse)
     ∷ []
 
-unfoldable pub session-ruling : ℕ → Subset → State → Ruling
+unfoldable pub session-ruling : ℕ → State → Ruling
 unfolding bad-cell bad-weight ill-formed not-inverse
-session-ruling p S s = judge (session-causes p S s [])
+session-ruling p s = judge (session-causes p s [])

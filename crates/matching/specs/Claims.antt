@@ -5,22 +5,24 @@ use Prim.Native.Nat.{ℕ, _*_, _/_, _<_}
 use native.Mathlib.Decide.{decLt}
 use lib.ListN.{length, getD, take, replicate}
 use Rattle.lists.specs.Table.{vector}
+use Rattle.lists.specs.Onto.{onto}
 use Rattle.residue.specs.Modulus.{modulus, modulus-prime}
 use Rattle.skew.specs.Decide.{first-dependent?}
 use Rattle.matching.specs.Decision.{Refusal, Ruling, every?, accepted, refused}
 use Rattle.matching.specs.Graph.{Graph, over, pair-count, tutte}
 use Rattle.matching.specs.Pairs.{Pair, everything, unmatched}
-use Rattle.matching.specs.Session.{Session, session, State, graph-of, with-pairs, InverseTable, onto}
+use Rattle.matching.specs.Session.{Session, session, State, graph-of, with-pairs, InverseTable}
 use Rattle.matching.specs.Decided.{inverse-table?, witness?}
 use Rattle.matching.specs.Causes.{session-ruling}
 use Rattle.matching.specs.Opening.{Opening, opened, singular, not-opened, Buffers, Singular, Opens, opens, refuses-opening, finds-singular, with-inverse, with-witness, ruling}
 use Rattle.matching.specs.Display.{Part, display}
 use Rattle.matching.specs.Model.{Call, automatic, Answer, done, denied, skew, Nonsingular, nonsingular?, answered, pairs-after, PicksToCome}
-use Rattle.matching.specs.Calls.{Returned, model-step, Handles, unsound, refuses, carries, Runs, none, more, row-ruling, open-row, ShowsRow, shows, row-refused}
+use Rattle.matching.specs.Calls.{Returned, state-after, model-step, Handles, unsound, refuses, carries, Runs, none, more, row-ruling, open-row, ShowsRow, shows, row-refused}
 use Rattle.matching.specs.Records.{Reading, sheet, unread, ReadsAs, cells, graph, Read, graph-read, not-read, room, Fills, lacks-room, fills}
 use Rattle.matching.specs.Computed.{read}
 use Rattle.matching.specs.Listing.{input-limit, first-line, pair-lines, witness-lines, line-full, line-none, refused-line, Lists, refuses-sheet, pairs-up, shows-witness}
 use Rattle.matching.specs.Host.{opening-number, answer-number, row-number, words, bytes-of, unpacked-state, state-stored, HostHandles, read-number, weights-stored, HostReads, draws-ruling, draws-number, draws-stored, HostDraws}
+use Rattle.matching.specs.Replay.{calls-of, numbers-of, replay-ruling, Replays, refuses-replay, replays, replay-number, replay-stored, HostReplays}
 
 -- n vertices with these edges and weights
 abbrev pub linked : ℕ → List Pair → List ℕ → Graph
@@ -80,6 +82,10 @@ pub data Claim : Type 0 where
   row : State → ℕ → List ℕ → List ℕ → Claim
   -- an open row that is refused
   no-row : State → ℕ → List ℕ → Refusal → Claim
+  -- a replay of these numbers on this session, whose calls return these: the state and the answers afterwards
+  replayed : State → (numbers answers : List ℕ) → List Returned → State → List ℕ → Claim
+  -- a replay that is refused
+  no-replay : State → (numbers answers : List ℕ) → Refusal → Claim
   -- the part that is displayed
   displayed : ℕ → List ℕ → List ℕ → Part → Claim
   -- these bytes are read so
@@ -101,6 +107,8 @@ pub data Claim : Type 0 where
   host-bytes : List ℕ → List ℕ → List ℕ → Claim
   -- a call through the host on a state of bytes: the number, and the bytes afterwards; with the pair, and the words left
   host-handled : State → Call → Pair → State → ℕ → State → Claim
+  -- a replay through the host on a state of bytes, whose calls on the words return these: the number, the bytes and the answers afterwards
+  host-replayed : State → (numbers answers : List ℕ) → List Returned → (left : State) → ℕ → State → List ℕ → Claim
   -- a sheet through the host into an adjacency table and the weights' bytes: the answer and the words left, the number, and the bytes afterwards
   host-reads : (bytes adjacency weights : List ℕ) → Read → (left : List ℕ) → ℕ → (adjacency′ weights′ : List ℕ) → Claim
   -- the draws of a seed through the host, for so many vertices: the number, and the weights' bytes afterwards
@@ -128,12 +136,14 @@ Holds (afterwards g calls inverse) =
     Nonsingular modulus-prime g everything []
     × (length inverse ≡ g .n * g .n)
     × InverseTable modulus g (unmatched everything (pairs-after modulus-prime g everything [] calls (length calls))) inverse
-Holds (by-hand s c r) = (session-ruling modulus everything s ≡ accepted) × Handles modulus-prime everything s c (denied r) s
-Holds (spoiled s c r) = (session-ruling modulus everything s ≡ refused r) × Handles modulus-prime everything s c (denied r) s
-Holds (handled s c e t) = Handles modulus-prime everything s c (done e) t
-Holds (ran s calls returned) = Runs modulus-prime everything s calls returned
-Holds (row s a old new) = ShowsRow modulus-prime everything s a old accepted s new
-Holds (no-row s a old r) = ShowsRow modulus-prime everything s a old (refused r) s old
+Holds (by-hand s c r) = (session-ruling modulus s ≡ accepted) × Handles modulus-prime s c (denied r) s
+Holds (spoiled s c r) = (session-ruling modulus s ≡ refused r) × Handles modulus-prime s c (denied r) s
+Holds (handled s c e t) = Handles modulus-prime s c (done e) t
+Holds (ran s calls returned) = Runs modulus-prime s calls returned
+Holds (row s a old new) = ShowsRow modulus-prime s a old accepted s new
+Holds (no-row s a old r) = ShowsRow modulus-prime s a old (refused r) s old
+Holds (replayed s numbers old returned t new) = Replays modulus-prime s numbers old accepted t new
+Holds (no-replay s numbers old r) = Replays modulus-prime s numbers old (refused r) s old
 Holds (displayed n inverse words part) = display n inverse words ≡ part
 Holds (reads bytes r) = ReadsAs bytes r
 Holds (filling bytes adjacency weights o adjacency′ weights′) = Fills bytes adjacency weights o adjacency′ weights′
@@ -145,7 +155,8 @@ Holds (host-answer a s k) = answer-number a s ≡ k
 Holds (host-row v s k) = row-number v s ≡ k
 Holds (host-words bytes ws) = words bytes ≡ ws
 Holds (host-bytes ws old new) = onto (bytes-of ws) old ≡ new
-Holds (host-handled s c e left k after) = HostHandles modulus-prime everything s c k after
+Holds (host-handled s c e left k after) = HostHandles modulus-prime s c k after
+Holds (host-replayed s numbers old returned left k after new) = HostReplays modulus-prime s numbers old k after new
 Holds (host-reads bytes adjacency weights o left k adjacency′ weights′) = HostReads bytes adjacency weights k adjacency′ weights′
 Holds (host-draws n seed weights k weights′) = HostDraws n seed weights k weights′
 
@@ -167,14 +178,14 @@ decided (no _) t = absurd t
 unfoldable pub ShownSingular : Graph → ℕ → List ℕ → Type 0
 ShownSingular g f words =
     IsYes (every? (λ x. getD words x 0 < modulus) (g .n) (λ x. decLt (getD words x 0) modulus))
-    × IsYes (first-dependent? modulus-prime (g .n) (tutte g modulus) (skew modulus-prime g everything) everything f)
+    × IsYes (first-dependent? modulus-prime (g .n) (tutte g modulus) (skew modulus-prime g) everything f)
     × IsYes (witness? modulus (g .n) (tutte g modulus) everything f (vector words))
 
 pub shown-singular : (g : Graph) (f : ℕ) (words : List ℕ) → ShownSingular g f words → Singular modulus g everything f words
 unfolding ShownSingular
 shown-singular g f words e = record {
   small = decided (every? _ (g .n) (λ x. decLt (getD words x 0) modulus)) (e .0);
-  first = decided (first-dependent? modulus-prime (g .n) (tutte g modulus) (skew modulus-prime g everything) everything f) (e .1);
+  first = decided (first-dependent? modulus-prime (g .n) (tutte g modulus) (skew modulus-prime g) everything f) (e .1);
   kernel = decided (witness? modulus (g .n) (tutte g modulus) everything f (vector words)) (e .2);
 }
 
@@ -182,30 +193,30 @@ shown-singular g f words e = record {
 unfoldable pub ShownHandled : State → Call → Pair → State → Type 0
 ShownHandled s c e t =
     let size = s .session .size in
-    let pairs = model-step modulus-prime everything s c .pairs in
+    let pairs = model-step modulus-prime s c .pairs in
     let inverse = take (size * size) (t .inverse) in
-    (session-ruling modulus everything s ≡ accepted)
-    × (model-step modulus-prime everything s c .answer ≡ done e)
+    (session-ruling modulus s ≡ accepted)
+    × (model-step modulus-prime s c .answer ≡ done e)
     × (length inverse ≡ size * size)
     × IsYes (inverse-table? modulus (graph-of s) (unmatched everything pairs) inverse)
     × (with-pairs (graph-of s) pairs inverse s ≡ t)
 
-shown-handled : (s : State) (c : Call) (e : Pair) (t : State) → ShownHandled s c e t → Handles modulus-prime everything s c (done e) t
+shown-handled : (s : State) (c : Call) (e : Pair) (t : State) → ShownHandled s c e t → Handles modulus-prime s c (done e) t
 unfolding ShownHandled
 shown-handled s c e t h =
-    subst (λ (u : State). Handles modulus-prime everything s c (done e) u) (h .4)
-    (carries e (model-step modulus-prime everything s c .pairs) _ (h .0) (ap (λ a. record { answer = a; pairs = model-step modulus-prime everything s c .pairs }) (h .1)) (h .2) (decided (inverse-table? modulus (graph-of s) _ _) (h .3)))
+    subst (λ (u : State). Handles modulus-prime s c (done e) u) (h .4)
+    (carries e (model-step modulus-prime s c .pairs) _ (h .0) (ap (λ a. record { answer = a; pairs = model-step modulus-prime s c .pairs }) (h .1)) (h .2) (decided (inverse-table? modulus (graph-of s) _ _) (h .3)))
 
 unfoldable pub ShownReturned : State → Call → Answer → State → Type 0
 ShownReturned s c (done e) t = ShownHandled s c e t
 ShownReturned s c (denied r) t =
-    (session-ruling modulus everything s ≡ accepted) × (model-step modulus-prime everything s c .answer ≡ denied r) × (s ≡ t)
+    (session-ruling modulus s ≡ accepted) × (model-step modulus-prime s c .answer ≡ denied r) × (s ≡ t)
 
-shown-returned : (s : State) (c : Call) (a : Answer) (t : State) → ShownReturned s c a t → Handles modulus-prime everything s c a t
+shown-returned : (s : State) (c : Call) (a : Answer) (t : State) → ShownReturned s c a t → Handles modulus-prime s c a t
 unfolding ShownReturned
 shown-returned s c (done e) t h = shown-handled s c e t h
 shown-returned s c (denied r) t h =
-    subst (λ (u : State). Handles modulus-prime everything s c (denied r) u) (h .2) (refuses r (h .0) (h .1))
+    subst (λ (u : State). Handles modulus-prime s c (denied r) u) (h .2) (refuses r (h .0) (h .1))
 
 unfoldable pub ShownRun : State → List Call → List Returned → Type 0
 unfolding ShownReturned
@@ -214,13 +225,26 @@ ShownRun s [] (r ∷ later) = ⊥
 ShownRun s (c ∷ calls) [] = ⊥
 ShownRun s (c ∷ calls) (r ∷ later) = ShownReturned s c (r .answer) (r .state) × ShownRun (r .state) calls later
 
-shown-run : (s : State) (calls : List Call) (returned : List Returned) → ShownRun s calls returned → Runs modulus-prime everything s calls returned
+shown-run : (s : State) (calls : List Call) (returned : List Returned) → ShownRun s calls returned → Runs modulus-prime s calls returned
 unfolding ShownRun
 shown-run s [] [] h = none
 shown-run s [] (r ∷ later) h = absurd h
 shown-run s (c ∷ calls) [] h = absurd h
 shown-run s (c ∷ calls) (r ∷ later) h =
     more (shown-returned s c (r .answer) (r .state) (h .0)) (shown-run (r .state) calls later (h .1))
+
+unfoldable pub ShownReplay : State → (numbers old : List ℕ) → List Returned → State → List ℕ → Type 0
+ShownReplay s numbers old returned t new =
+    (replay-ruling modulus-prime s numbers old ≡ accepted)
+    × ShownRun s (calls-of numbers) returned
+    × (state-after s returned (length returned) ≡ t)
+    × (onto (numbers-of returned) old ≡ new)
+
+shown-replay : (s : State) (numbers old : List ℕ) (returned : List Returned) (t : State) (new : List ℕ) → ShownReplay s numbers old returned t new
+    → Replays modulus-prime s numbers old accepted t new
+unfolding ShownReplay
+shown-replay s numbers old returned t new h =
+    rw (← h .2, ← h .3) (replays returned (h .0) (shown-run s (calls-of numbers) returned (h .1)))
 
 -- what is computed of the bytes is what they are read as
 shown-read : (bytes : List ℕ) {r : Reading} → read bytes .reading ≡ r → ReadsAs bytes r
@@ -294,13 +318,15 @@ Shown (afterwards g calls inverse) =
     IsYes (nonsingular? modulus-prime g everything [])
     × (length inverse ≡ g .n * g .n)
     × IsYes (inverse-table? modulus g (unmatched everything (pairs-after modulus-prime g everything [] calls (length calls))) inverse)
-Shown (by-hand s c r) = (session-ruling modulus everything s ≡ accepted) × (model-step modulus-prime everything s c .answer ≡ denied r)
-Shown (spoiled s c r) = session-ruling modulus everything s ≡ refused r
+Shown (by-hand s c r) = (session-ruling modulus s ≡ accepted) × (model-step modulus-prime s c .answer ≡ denied r)
+Shown (spoiled s c r) = session-ruling modulus s ≡ refused r
 Shown (handled s c e t) = ShownHandled s c e t
 Shown (ran s calls returned) = ShownRun s calls returned
 Shown (row s a old new) =
-    (row-ruling modulus-prime everything s a old ≡ accepted) × (onto (open-row modulus-prime everything s a) old ≡ new)
-Shown (no-row s a old r) = row-ruling modulus-prime everything s a old ≡ refused r
+    (row-ruling modulus-prime s a old ≡ accepted) × (onto (open-row modulus-prime s a) old ≡ new)
+Shown (no-row s a old r) = row-ruling modulus-prime s a old ≡ refused r
+Shown (replayed s numbers old returned t new) = ShownReplay s numbers old returned t new
+Shown (no-replay s numbers old r) = replay-ruling modulus-prime s numbers old ≡ refused r
 Shown (displayed n inverse words part) = display n inverse words ≡ part
 Shown (reads bytes r) = read bytes .reading ≡ r
 Shown (filling bytes adjacency weights o adjacency′ weights′) = ShownFilling (read bytes .reading) adjacency weights o adjacency′ weights′
@@ -314,6 +340,10 @@ Shown (host-words bytes ws) = words bytes ≡ ws
 Shown (host-bytes ws old new) = onto (bytes-of ws) old ≡ new
 Shown (host-handled s c e left k after) =
     ShownHandled (unpacked-state s) c e left × (k ≡ answer-number (done e) (left .session)) × (after ≡ state-stored (done e) left s)
+Shown (host-replayed s numbers old returned left k after new) =
+    ShownReplay (unpacked-state s) numbers old returned left new
+    × (k ≡ replay-number accepted (left .session))
+    × (after ≡ replay-stored accepted left s)
 Shown (host-reads bytes adjacency weights o left k adjacency′ weights′) =
     ShownFilling (read (take input-limit bytes) .reading) adjacency (words weights) o adjacency′ left
     × (k ≡ read-number o)
@@ -339,8 +369,10 @@ enough (spoiled s c r) e = (e, unsound r e)
 enough (handled s c x t) e = shown-handled s c x t e
 enough (ran s calls returned) e = shown-run s calls returned e
 enough (row s a old new) e =
-    subst (λ (after : List ℕ). ShowsRow modulus-prime everything s a old accepted s after) (e .1) (shows (e .0))
+    subst (λ (after : List ℕ). ShowsRow modulus-prime s a old accepted s after) (e .1) (shows (e .0))
 enough (no-row s a old r) e = row-refused r e
+enough (replayed s numbers old returned t new) e = shown-replay s numbers old returned t new e
+enough (no-replay s numbers old r) e = refuses-replay r e
 enough (displayed n inverse words part) e = e
 enough (reads bytes r) e = shown-read bytes e
 enough (filling bytes adjacency weights o adjacency′ weights′) e = filled bytes adjacency weights o adjacency′ weights′ (read bytes .reading) refl e
@@ -355,6 +387,13 @@ enough (host-words bytes ws) e = e
 enough (host-bytes ws old new) e = e
 enough (host-handled s c x left k after) e =
     record { given = done x; left = left; outcome = shown-handled (unpacked-state s) c x left (e .0); numbered = e .1; stored = e .2 }
+enough (host-replayed s numbers old returned left k after new) e = record {
+  verdict = accepted;
+  left = left;
+  outcome = shown-replay (unpacked-state s) numbers old returned left new (e .0);
+  numbered = e .1;
+  stored = e .2;
+}
 enough (host-reads bytes adjacency weights o left k adjacency′ weights′) e = record {
   given = o;
   left = left;

@@ -1,13 +1,13 @@
 -- What a sequence of bytes is read as, computed with its proof. Assumes nothing.
-use mathlib.Core.Path.{_≡_, refl, sym, _∙_}
+use mathlib.Core.Path.{_≡_, refl, sym, ap, _∙_}
 use mathlib.Core.Logic.{_≢_}
 use mathlib.Core.List.{List, [], _∷_}
 use Prim.Native.Nat.{ℕ, zero, suc, _+_, _<_}
 use native.Mathlib.Omega.{arith}
 use native.Mathlib.Decide.{ℕ-discrete, decLt}
-use lib.ListN.{length, drop, length-drop}
+use lib.ListN.{length, getD, drop, length-drop}
+use Rattle.lists.specs.Choose.{choose}
 use Rattle.draws.specs.Draws.{draws}
-use Rattle.skew.specs.Choose.{choose}
 use Rattle.matching.specs.Decision.{because}
 use Rattle.matching.specs.Graph.{largest, pair-count}
 use Rattle.matching.specs.Pairs.{Pair, pair-of}
@@ -49,23 +49,18 @@ begins-width begins-share = omega arith
 begins-width begins-seed = omega arith
 begins-width begins-end = omega arith
 
+-- how many bytes a record takes goes by its kind
+abbrev width-at : ℕ → ℕ
+width-at k = getD (0 ∷ 2 ∷ 3 ∷ 5 ∷ 1 ∷ []) k 0
+
+width-kind : (r : Record) → width r ≡ width-at (kind r)
+width-kind (size _) = refl
+width-kind (share _ _) = refl
+width-kind (seed _) = refl
+width-kind end = refl
+
 pub same-width : (q r : Record) → kind q ≡ kind r → width q ≡ width r
-same-width (size _) (size _) e = refl
-same-width (size _) (share _ _) e = absurd (omega arith)
-same-width (size _) (seed _) e = absurd (omega arith)
-same-width (size _) end e = absurd (omega arith)
-same-width (share _ _) (size _) e = absurd (omega arith)
-same-width (share _ _) (share _ _) e = refl
-same-width (share _ _) (seed _) e = absurd (omega arith)
-same-width (share _ _) end e = absurd (omega arith)
-same-width (seed _) (size _) e = absurd (omega arith)
-same-width (seed _) (share _ _) e = absurd (omega arith)
-same-width (seed _) (seed _) e = refl
-same-width (seed _) end e = absurd (omega arith)
-same-width end (size _) e = absurd (omega arith)
-same-width end (share _ _) e = absurd (omega arith)
-same-width end (seed _) e = absurd (omega arith)
-same-width end end e = refl
+same-width q r e = width-kind q ∙ ap width-at e ∙ sym (width-kind r)
 
 pub begins-with : {k : ℕ} {body rest : List ℕ} {r : Record} → k ≡ kind r → Begins r (kind r ∷ body) rest → Begins r (k ∷ body) rest
 begins-with e b = rw e b

@@ -9,8 +9,8 @@ use Rattle.skew.specs.Subset.{Subset, _∈_, count}
 use Rattle.matching.specs.Decision.{Refusal, Every, At}
 use Rattle.matching.specs.Graph.{Graph, cell}
 use Rattle.matching.specs.Pairs.{Pair, Pairs, unmatched}
-use Rattle.matching.specs.Session.{Session, State, with-pairs, InverseTable}
-use Rattle.matching.specs.Opening.{opened, Buffers, Opens, opened-state}
+use Rattle.matching.specs.Session.{Session, State, in-play, with-pairs, InverseTable}
+use Rattle.matching.specs.Opening.{opened, Buffers, players, Opens, opened-state}
 use Rattle.matching.specs.Model.{Call, undo, done, denied, answered, pairs-after, OpenPartner, PicksToCome}
 use Rattle.matching.specs.Calls.{Returned, state-after, Runs}
 
@@ -22,7 +22,7 @@ pub record Once (g : Graph) (made : ℕ) (sequence : List ℕ) (v : ℕ) : Type 
   pub only : Every (g .n) (λ x. getD sequence x 0 ≡ v → x ≡ place)
   pub adjacent : cell g (getD sequence (place / 2 + place / 2) 0) (getD sequence (place / 2 + place / 2 + 1) 0) ≡ 1
 
--- a graph g, and a set S of vertices in play; in document 01 it is `everything`
+-- a graph g, and a set S of vertices in play
 module _ {p : ℕ} (P : OddPrime p) (g : Graph) (S : Subset) where
   -- t is the state of these pairs: the session, the sequence, and the inverse for the vertices then left alone; the tables are the graph's,
   -- and the excess of the buffers is that of s
@@ -70,8 +70,9 @@ module _ {p : ℕ} (P : OddPrime p) (g : Graph) (S : Subset) where
       pub once : Every (g .n) (λ c. ¬ (c ∈ unmatched S pairs-left))
           → Every (g .n) (λ v. v ∈ S → Once g (length pairs-left) (state-after s returned (length calls) .sequence) v)
 
-  -- demand 3: so it is for every list of calls, the empty one included, on a session fresh from opening
-  abbrev pub DemandThree : Type 0
-  DemandThree =
-      (b after : Buffers) (s : Session) → Opens p g S b (opened s) after → (calls : List Call) (returned : List Returned)
-      → Runs P S (opened-state g s after) calls returned → FollowsModel [] calls (opened-state g s after) returned
+-- demand 3: so it is for every list of calls, the empty one included, on a session fresh from opening
+abbrev pub DemandThree : {p : ℕ} → OddPrime p → Graph → Type 0
+DemandThree {p} P g =
+    (b after : Buffers) (s : Session) → Opens p g (players (g .n) b) b (opened s) after → (calls : List Call) (returned : List Returned)
+    → Runs P (opened-state g s after) calls returned
+    → FollowsModel P g (in-play (opened-state g s after)) [] calls (opened-state g s after) returned

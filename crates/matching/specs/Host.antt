@@ -6,17 +6,17 @@ use mathlib.Core.List.{List, [], _∷_}
 use Prim.Native.Nat.{ℕ, _+_, _*_, _/_, _%_, _^_, _<_}
 use native.Mathlib.Decide.{ℕ-discrete}
 use lib.ListN.{length, getD, take}
+use Rattle.lists.specs.Choose.{choose}
+use Rattle.lists.specs.Onto.{onto}
 use Rattle.modular.specs.Prime.{OddPrime}
 use Rattle.draws.specs.Draws.{draws}
-use Rattle.skew.specs.Choose.{choose}
-use Rattle.skew.specs.Subset.{Subset}
 use Rattle.skew.specs.Inverse.{Invertible}
 use Rattle.matching.specs.Decision.{Refusal, Ruling, accepted, refused, judge}
 use Rattle.matching.specs.Graph.{over, pair-count, tutte}
-use Rattle.matching.specs.Session.{Session, State, graph-of, pairs-of, onto}
+use Rattle.matching.specs.Session.{Session, State, in-play, graph-of, pairs-of}
 use Rattle.matching.specs.Model.{Call, Answer, done, denied, Allowed}
 use Rattle.matching.specs.Causes.{too-large, too-short, lent-weights, session-ruling}
-use Rattle.matching.specs.Opening.{Opening, opened, singular, not-opened, Buffers, ruling, Opens}
+use Rattle.matching.specs.Opening.{Opening, opened, singular, not-opened, Buffers, ruling, players, Opens}
 use Rattle.matching.specs.Calls.{Handles, ShowsRow}
 use Rattle.matching.specs.Records.{Read, graph-read, not-read, Fills}
 use Rattle.matching.specs.Listing.{input-limit}
@@ -71,6 +71,11 @@ answer-number (denied r) s = refusal-number r
 abbrev pub session-back : ℕ → Session → Session
 session-back answer s = choose (ℕ-discrete (cause-in answer) 0) (record { size = s .size; made = made-in answer }) s
 
+-- the state that a call hands back: the session of its number, the tables that were lent, and the buffers as it left them
+abbrev pub handed-back : State → (answer : ℕ) → (inverse sequence : List ℕ) → State
+handed-back s answer inverse sequence =
+    record { session = session-back answer (s .session); adjacency = s .adjacency; weights = s .weights; inverse = inverse; sequence = sequence }
+
 -- a call that is only accepted or refused: its kind, and the number of pairs of the session handed back
 abbrev pub ruled-number : ℕ → Ruling → Session → ℕ
 ruled-number kind accepted s = number 0 kind 0 (s .made)
@@ -100,18 +105,18 @@ stored-after (singular f) left b = packed left b
 stored-after (not-opened r) left b = b
 
 -- opening through the host: the number, and every byte of the buffers afterwards
-pub record HostOpens (p n : ℕ) (adjacency weights : List ℕ) (S : Subset) (b : Buffers) (answer : ℕ) (after : Buffers) : Type 0 where
+pub record HostOpens (p n : ℕ) (adjacency weights : List ℕ) (b : Buffers) (answer : ℕ) (after : Buffers) : Type 0 where
   pub opening : Opening
   pub buffers : Buffers
-  pub outcome : Opens p (over n adjacency (words weights)) S (unpacked b) opening buffers
+  pub outcome : Opens p (over n adjacency (words weights)) (players n (unpacked b)) (unpacked b) opening buffers
   pub numbered : answer ≡ opening-number opening
   pub stored : after ≡ stored-after opening buffers b
 
 -- demand 2, first half, through the host. It follows from `HostOpens`.
-abbrev pub HostOpenedExactly : ℕ → ℕ → (adjacency weights : List ℕ) → Subset → Buffers → ℕ → Type 0
-HostOpenedExactly p n adjacency weights S b answer =
+abbrev pub HostOpenedExactly : ℕ → ℕ → (adjacency weights : List ℕ) → Buffers → ℕ → Type 0
+HostOpenedExactly p n adjacency weights b answer =
     ruling p (over n adjacency (words weights)) (unpacked b) ≡ accepted
-    → ((kind-in answer ≡ 1) ↔ Invertible p n (tutte (over n adjacency (words weights)) p) S)
+    → ((kind-in answer ≡ 1) ↔ Invertible p n (tutte (over n adjacency (words weights)) p) (players n (unpacked b)))
 
 -- a session's state whose weights and inverse are the host's bytes, read as words
 abbrev pub unpacked-state : State → State
@@ -138,13 +143,13 @@ abbrev pub state-stored : Answer → State → State → State
 state-stored (done e) left s = stored-over left s
 state-stored (denied r) left s = s
 
-module _ {p : ℕ} (P : OddPrime p) (S : Subset) where
+module _ {p : ℕ} (P : OddPrime p) where
   -- hand pick, automatic pick and take-back through the host: the number, and every byte afterwards. The session is that of the number
   -- (laws, Numbers: `host-session`)
   pub record HostHandles (s : State) (c : Call) (answer : ℕ) (after : State) : Type 0 where
     pub given : Answer
     pub left : State
-    pub outcome : Handles P S (unpacked-state s) c given left
+    pub outcome : Handles P (unpacked-state s) c given left
     pub numbered : answer ≡ answer-number given (left .session)
     pub stored : after ≡ state-stored given left s
 
@@ -152,12 +157,12 @@ module _ {p : ℕ} (P : OddPrime p) (S : Subset) where
   abbrev pub HostPickedExactly : State → (a b : ℕ) → ℕ → Type 0
   HostPickedExactly s a b answer =
       let t = unpacked-state s in
-      session-ruling p S t ≡ accepted → ((cause-in answer ≡ 0) ↔ Allowed P (graph-of t) S (pairs-of t) a b)
+      session-ruling p t ≡ accepted → ((cause-in answer ≡ 0) ↔ Allowed P (graph-of t) (in-play t) (pairs-of t) a b)
 
   -- open row through the host: the number, the state, which is as it came, and the row's bytes afterwards
   pub record HostShowsRow (s : State) (a : ℕ) (row : List ℕ) (answer : ℕ) (after : State) (row′ : List ℕ) : Type 0 where
     pub verdict : Ruling
-    pub outcome : ShowsRow P S (unpacked-state s) a row verdict (unpacked-state s) row′
+    pub outcome : ShowsRow P (unpacked-state s) a row verdict (unpacked-state s) row′
     pub numbered : answer ≡ row-number verdict (s .session)
     pub same : after ≡ s
 

@@ -4,11 +4,11 @@ use mathlib.Core.List.{List, [], _∷_, _++_}
 use Prim.Native.Nat.{ℕ, zero, suc, _+_, _/_, _%_, _≤_, _<_}
 use native.Mathlib.Decide.{ℕ-discrete, decLt}
 use lib.ListN.{length, take, replicate}
+use Rattle.lists.specs.Choose.{choose}
+use Rattle.lists.specs.Onto.{onto}
 use Rattle.residue.specs.Modulus.{modulus, modulus-prime}
-use Rattle.skew.specs.Choose.{choose}
 use Rattle.matching.specs.Decision.{Refusal}
 use Rattle.matching.specs.Pairs.{Pair, Pairs, everything}
-use Rattle.matching.specs.Session.{onto}
 use Rattle.matching.specs.Model.{automatic, Nonsingular, pairs-after, PicksToCome}
 use Rattle.matching.specs.Opening.{Singular}
 use Rattle.matching.specs.Records.{sheet, unread, ReadsAs, graph}

@@ -58,18 +58,18 @@ Adjacent g e = cell g (e .smaller) (e .larger) ≡ 1
 abbrev pub adjacent? : (g : Graph) (e : Pair) → Dec (Adjacent g e)
 adjacent? g e = ℕ-discrete (cell g (e .smaller) (e .larger)) 1
 
+pub skew : {p : ℕ} → OddPrime p → (g : Graph) → Skew p (g .n) (tutte g p)
+skew P g = tutte-skew g (omega (arith, P .prime .above-one)) (g .n)
+
 -- the vertices in play are a set S
 module _ {p : ℕ} (P : OddPrime p) (g : Graph) (S : Subset) where
-  pub skew : Skew p (g .n) (tutte g p)
-  skew = tutte-skew g (omega (arith, P .prime .above-one)) (g .n)
-
   -- the Tutte matrix has an inverse on the vertices that the pairs leave
   abbrev pub Nonsingular : Pairs → Type 0
   Nonsingular pairs = Invertible p (g .n) (tutte g p) (unmatched S pairs)
 
   unfoldable pub nonsingular? : (pairs : Pairs) → Dec (Nonsingular pairs)
   unfolding invertible? tutte unmatched
-  nonsingular? pairs = invertible? P (g .n) (tutte g p) skew (unmatched S pairs)
+  nonsingular? pairs = invertible? P (g .n) (tutte g p) (skew P g) (unmatched S pairs)
 
   -- causes 7 to 10 of a hand pick: not two vertices, one of them matched, not adjacent, no inverse for what is left
   unfoldable pub pick-ruling : Pairs → ℕ → ℕ → Ruling

@@ -5,13 +5,14 @@ use mathlib.Core.List.{List, []}
 use Prim.Native.Nat.{ℕ, _*_, _<_}
 use lib.ListN.{length, getD, replicate}
 use Rattle.lists.specs.Table.{vector}
+use Rattle.lists.specs.Onto.{onto}
 use Rattle.skew.specs.Subset.{Subset}
 use Rattle.skew.specs.Inverse.{Invertible}
 use Rattle.skew.specs.Column.{FirstDependent, Witness}
 use Rattle.matching.specs.Decision.{Every, Refusal, Ruling, accepted, refused}
 use Rattle.matching.specs.Graph.{Graph, tutte}
-use Rattle.matching.specs.Pairs.{unused}
-use Rattle.matching.specs.Session.{Session, session, State, InverseTable, onto}
+use Rattle.matching.specs.Pairs.{everything, unused}
+use Rattle.matching.specs.Session.{Session, session, State, InverseTable}
 use Rattle.matching.specs.Causes.{opening-ruling}
 
 -- "opened" and a session with no pairs; "witness" with the first dependent column f; or a refusal
@@ -54,8 +55,11 @@ with-witness n witness b = record {
 abbrev pub ruling : ℕ → Graph → Buffers → Ruling
 ruling p g b = opening-ruling p g (length (b .inverse)) (length (b .sequence)) (length (b .witness)) (length (b .work))
 
--- the answer and the buffers that opening leaves; the tables are lent to be read only. The vertices in play are a set S; in document 01 it
--- is `everything`.
+-- the vertices that opening starts from: all of them
+abbrev pub players : ℕ → Buffers → Subset
+players n b = everything
+
+-- the answer and the buffers that opening leaves; the tables are lent to be read only. The vertices in play are a set S, the `players`
 pub data Opens (p : ℕ) (g : Graph) (S : Subset) (b : Buffers) : Opening → Buffers → Type 0 where
   refuses-opening : (r : Refusal) → ruling p g b ≡ refused r → Opens p g S b (not-opened r) b
   opens : (inverse : List ℕ) → ruling p g b ≡ accepted → length inverse ≡ g .n * g .n → InverseTable p g S inverse

@@ -6,12 +6,12 @@ use Prim.Native.Nat.{ℕ, _+_, _*_, _/_, _%_, _≤_, _<_}
 use native.Mathlib.Decide.{ℕ-discrete}
 use lib.ListN.{length, drop}
 use Rattle.lists.specs.Values.{list-of}
+use Rattle.lists.specs.Choose.{choose}
+use Rattle.lists.specs.Onto.{onto}
 use Rattle.draws.specs.Draws.{draws}
-use Rattle.skew.specs.Choose.{choose}
 use Rattle.matching.specs.Decision.{Refusal, because, both?, Ruling, accepted, refused, judge}
 use Rattle.matching.specs.Graph.{Graph, over, largest, pair-count}
 use Rattle.matching.specs.Pairs.{Pair, pair-of}
-use Rattle.matching.specs.Session.{onto}
 use Rattle.matching.specs.Model.{Named}
 use Rattle.matching.specs.Causes.{lent-graph, too-short}
 

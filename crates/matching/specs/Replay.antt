@@ -4,12 +4,12 @@ use mathlib.Core.List.{List, [], _∷_, _++_, map}
 use Prim.Native.Nat.{ℕ, zero, suc, _+_, _*_, _/_, _%_, _<_}
 use native.Mathlib.Decide.{ℕ-discrete, decLt}
 use lib.ListN.{length, getD}
+use Rattle.lists.specs.Choose.{choose}
+use Rattle.lists.specs.Onto.{onto}
 use Rattle.modular.specs.Prime.{OddPrime}
-use Rattle.skew.specs.Choose.{choose}
-use Rattle.skew.specs.Subset.{Subset}
 use Rattle.matching.specs.Decision.{Refusal, both?, not?, First, first?, Finding, absent, at, when, found, Cause, Ruling, accepted, refused, judge}
-use Rattle.matching.specs.Session.{Session, State, graph-of, onto}
-use Rattle.matching.specs.Causes.{Lent, too-short, session-ruling}
+use Rattle.matching.specs.Session.{Session, State, in-play, graph-of}
+use Rattle.matching.specs.Causes.{Lent, session-causes, session-ruling}
 use Rattle.matching.specs.Model.{Call, pick, automatic, undo}
 use Rattle.matching.specs.Calls.{Returned, state-after, Runs}
 use Rattle.matching.specs.Host.{answer-number, ruled-number, unpacked-state, stored-over}
@@ -64,57 +64,62 @@ unknown-kind numbers = record { number = 12; finding = as-place (found (first-un
 abbrev pub cut-call : List ℕ → Cause
 cut-call numbers = record { number = 13; finding = when (not? (ℕ-discrete (length numbers % 3) 0)) (place-of (call-count numbers)) }
 
--- a list is refused as a whole, before any call is made
-unfoldable pub list-ruling : List ℕ → ℕ → Ruling
-unfolding unknown-kind
-list-ruling numbers room =
-    judge (too-short (lent-answers (call-count numbers) room ∷ []) ∷ unknown-kind numbers ∷ cut-call numbers ∷ [])
+-- what is looked at in the list: 12 and then 13
+abbrev pub list-causes : List ℕ → List Cause
+list-causes numbers = unknown-kind numbers ∷ cut-call numbers ∷ []
 
 -- the host's numbers of what calls returned
 abbrev pub numbers-of : List Returned → List ℕ
 numbers-of returned = map (λ (r : Returned). answer-number (r .answer) (r .state .session)) returned
 
-module _ {p : ℕ} (P : OddPrime p) (S : Subset) where
-  -- either the list is refused and nothing changes, or its calls are run: the ruling is the session's, the state is that after the last
-  -- call, and the first answers are the numbers of the calls
-  pub data Replays (s : State) (numbers answers : List ℕ) : Ruling → State → List ℕ → Type 0 where
-    refuses-list : (r : Refusal) → list-ruling numbers (length answers) ≡ refused r → Replays s numbers answers (refused r) s answers
-    replays : (returned : List Returned) → list-ruling numbers (length answers) ≡ accepted → Runs P S s (calls-of numbers) returned
-        → Replays s numbers answers (session-ruling p S s) (state-after s returned (length returned)) (onto (numbers-of returned) answers)
+module _ {p : ℕ} (P : OddPrime p) where
+  -- causes 1 to 6, with the answers among the lent buffers, then 12 and 13 of the list
+  unfoldable pub replay-ruling : State → (numbers answers : List ℕ) → Ruling
+  unfolding session-ruling unknown-kind
+  replay-ruling s numbers answers =
+      judge (session-causes p s (lent-answers (call-count numbers) (length answers) ∷ []) ++ list-causes numbers)
 
-  -- demand 3 of a replay on a sound session with no pairs, so on one fresh from opening: the calls of the list go as the plain model goes
+  -- either it is refused as a whole and nothing changes, or the calls are run: the state is that after the last of them, and the first answers
+  -- are the numbers of the calls
+  pub data Replays (s : State) (numbers answers : List ℕ) : Ruling → State → List ℕ → Type 0 where
+    refuses-replay : (r : Refusal) → replay-ruling s numbers answers ≡ refused r → Replays s numbers answers (refused r) s answers
+    replays : (returned : List Returned) → replay-ruling s numbers answers ≡ accepted → Runs P s (calls-of numbers) returned
+        → Replays s numbers answers accepted (state-after s returned (length returned)) (onto (numbers-of returned) answers)
+
+  -- demand 3 of a replay on a session with no pairs, so on one fresh from opening: unless it is refused, the calls of the list go as the
+  -- plain model goes
   pub record FollowsReplay (s : State) (numbers answers : List ℕ) (t : State) (answers′ : List ℕ) : Type 0 where
     pub returned : List Returned
-    pub runs : Runs P S s (calls-of numbers) returned
+    pub runs : Runs P s (calls-of numbers) returned
     pub left : t ≡ state-after s returned (length returned)
     pub written : answers′ ≡ onto (numbers-of returned) answers
-    pub follows : FollowsModel P (graph-of s) S [] (calls-of numbers) s returned
+    pub follows : FollowsModel P (graph-of s) (in-play s) [] (calls-of numbers) s returned
 
   abbrev pub DemandThreeOf : State → (numbers answers : List ℕ) → State → List ℕ → Type 0
   DemandThreeOf s numbers answers t answers′ =
-      session-ruling p S s ≡ accepted → s .session .made ≡ 0 → list-ruling numbers (length answers) ≡ accepted → FollowsReplay s numbers answers t answers′
+      replay-ruling s numbers answers ≡ accepted → s .session .made ≡ 0 → FollowsReplay s numbers answers t answers′
 
 -- kind 5: a list of calls made, with the pairs of the session handed back
 abbrev pub replay-number : Ruling → Session → ℕ
 replay-number v s = ruled-number 5 v s
 
--- the host's state after a replay: on a refusal as it came; the answers are in `Replays`
+-- the host's state after a replay: on a refusal as it came
 abbrev pub replay-stored : Ruling → State → State → State
 replay-stored accepted left s = stored-over left s
 replay-stored (refused r) left s = s
 
-module _ {p : ℕ} (P : OddPrime p) (S : Subset) where
+module _ {p : ℕ} (P : OddPrime p) where
   -- replay through the host: the number, and every byte and every answer afterwards
   pub record HostReplays (s : State) (numbers answers : List ℕ) (answer : ℕ) (after : State) (answers′ : List ℕ) : Type 0 where
     pub verdict : Ruling
     pub left : State
-    pub outcome : Replays P S (unpacked-state s) numbers answers verdict left answers′
+    pub outcome : Replays P (unpacked-state s) numbers answers verdict left answers′
     pub numbered : answer ≡ replay-number verdict (left .session)
     pub stored : after ≡ replay-stored verdict left s
 
-  -- demand 3 through the host: on a sound session with no pairs the calls of a list that is not refused go as the plain model goes, and the
-  -- bytes are those of the state after the last. It follows from `HostReplays`
+  -- demand 3 through the host: on a session with no pairs the calls of a replay that is not refused go as the plain model goes, and the bytes
+  -- are those of the state after the last. It follows from `HostReplays`
   abbrev pub HostDemandThree : State → (numbers answers : List ℕ) → State → List ℕ → Type 0
   HostDemandThree s numbers answers after answers′ =
-      session-ruling p S (unpacked-state s) ≡ accepted → s .session .made ≡ 0 → list-ruling numbers (length answers) ≡ accepted
-      → (left : State) × FollowsReplay P S (unpacked-state s) numbers answers left answers′ × (after ≡ replay-stored accepted left s)
+      replay-ruling P (unpacked-state s) numbers answers ≡ accepted → s .session .made ≡ 0
+      → (left : State) × FollowsReplay P (unpacked-state s) numbers answers left answers′ × (after ≡ replay-stored accepted left s)

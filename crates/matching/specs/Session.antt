@@ -1,19 +1,16 @@
 -- Lent buffers and the session over them (document 01, "Sheet, matrix, session"). Assumes nothing.
 use mathlib.Core.Path.{_≡_}
 use mathlib.Core.Logic.{_≢_}
-use mathlib.Core.List.{List, _++_}
+use mathlib.Core.List.{List}
 use Prim.Native.Nat.{ℕ, _+_, _*_, _≤_, _<_}
-use lib.ListN.{length, getD, drop}
+use lib.ListN.{length, getD}
 use Rattle.lists.specs.Table.{table}
+use Rattle.lists.specs.Onto.{onto}
 use Rattle.skew.specs.Subset.{Subset}
 use Rattle.skew.specs.Inverse.{Inverse}
 use Rattle.matching.specs.Decision.{Every}
 use Rattle.matching.specs.Graph.{Graph, over, cell, tutte}
-use Rattle.matching.specs.Pairs.{Pairs, unused, pairs-on, sequence}
-
--- a buffer whose first words are new and whose excess is as it was
-abbrev pub onto : List ℕ → List ℕ → List ℕ
-onto new old = new ++ drop (length new) old
+use Rattle.matching.specs.Pairs.{Pairs, everything, unused, pairs-on, sequence}
 
 -- the size and the number of pairs made
 pub record Session : Type 0 where
@@ -32,6 +29,20 @@ pub record State : Type 0 where
   pub weights : List ℕ
   pub inverse : List ℕ
   pub sequence : List ℕ
+
+-- the state of a session of this size with so many pairs, over these tables and buffers
+abbrev pub state : (size made : ℕ) (adjacency weights inverse sequence : List ℕ) → State
+state size made adjacency weights inverse sequence = record {
+  session = record { size = size; made = made };
+  adjacency = adjacency;
+  weights = weights;
+  inverse = inverse;
+  sequence = sequence;
+}
+
+-- the vertices that a session plays on: all of them
+abbrev pub in-play : State → Subset
+in-play s = everything
 
 -- the graph as the session's size reads the two tables
 abbrev pub graph-of : State → Graph

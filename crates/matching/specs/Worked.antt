@@ -1,5 +1,5 @@
 -- Worked examples of the causes with their places and order, of open rows, the displayed part, records, the listing and the host's
--- numbers: one list, and one claim over it. Assumes nothing.
+-- numbers, one list with one claim over it; and of replays. Assumes nothing.
 use mathlib.Core.Path.{refl}
 use mathlib.Core.List.{List, [], _∷_, _++_}
 use Prim.Native.Nat.{ℕ}
@@ -17,12 +17,13 @@ use Rattle.matching.specs.Causes.{opening-ruling, session-ruling}
 use Rattle.matching.specs.Opening.{opened, singular, not-opened, Buffers}
 use Rattle.matching.specs.Display.{of-inverse, of-witness, display}
 use Rattle.matching.specs.Model.{pick, automatic, undo, done, denied, nonsingular?, step, answered, pairs-after, picked, stopped}
-use Rattle.matching.specs.Calls.{Returned, row-ruling, open-row}
+use Rattle.matching.specs.Calls.{Returned, state-after, row-ruling, open-row}
 use Rattle.matching.specs.Records.{sheet, unread, cells, graph, graph-read, not-read}
 use Rattle.matching.specs.Computed.{read}
 use Rattle.matching.specs.Host.{words, bytes-of}
+use Rattle.matching.specs.Replay.{first-calls, replay-ruling}
 use Rattle.matching.specs.Listing.{digits, pair-lines, witness-lines}
-use Rattle.matching.specs.Claims.{linked, on, edge, ones, path, complete, ring, Claim, witness, not-opening, model, answers, by-hand, spoiled, handled, ran, row, no-row, displayed, reads, filling, lists, lists-witness, lists-refusal, host-opening, host-answer, host-row, host-words, host-bytes, host-handled, host-reads, host-draws, before, Holds, All, ShownSingular, ShownHandled, ShownReturned, ShownRun, ShownListed, ShownWitness, ShownFilling, Shown, all}
+use Rattle.matching.specs.Claims.{linked, on, edge, ones, path, complete, ring, Claim, witness, not-opening, model, answers, by-hand, spoiled, handled, ran, row, no-row, replayed, no-replay, displayed, reads, filling, lists, lists-witness, lists-refusal, host-opening, host-answer, host-row, host-words, host-bytes, host-handled, host-replayed, host-reads, host-draws, before, Holds, All, ShownSingular, ShownHandled, ShownReturned, ShownRun, ShownReplay, ShownListed, ShownWitness, ShownFilling, Shown, all}
 
 -- two vertices, whose adjacency table and weights are as lent
 abbrev two : List ℕ → List ℕ → Graph
@@ -187,3 +188,35 @@ worked =
 pub worked-hold : All Holds worked
 unfolding worked Shown ShownFilling words bytes-of draws ShownSingular ShownHandled ShownReturned ShownRun ShownListed ShownWitness modulus-prime answered pairs-after step nonsingular? inverse-table? witness? first-dependent? first? every? tutte opening-ruling session-ruling row-ruling open-row display cells unmatched pairs-on decLt read digits pair-lines witness-lines graph sequence
 worked-hold = all worked (refl, (refl, (refl, (refl, (refl, (refl, (refl, (refl, (refl, (refl, (refl, (refl, (refl, (refl, (refl, (refl, (refl, (refl, (refl, (refl, (refl, (refl, (refl, (refl, (refl, (refl, (refl, (refl, (refl, ((refl, refl), ((refl, refl), ((refl, refl), ((refl, refl), ((tt, refl), (refl, ((tt, refl), ((refl, refl, refl, tt, refl), ((refl, refl, refl, tt, refl), ((refl, refl, refl, tt, refl), (((refl, refl, refl), ((refl, refl, refl, tt, refl), ((refl, refl, refl), ((refl, refl, refl, tt, refl), ((refl, refl, refl), ((refl, refl, refl, tt, refl), ((refl, refl, refl, tt, refl), tt))))))), (((refl, refl, refl, tt, refl), ((refl, refl, refl, tt, refl), ((refl, refl, refl), tt))), ((refl, refl), ((refl, refl), (refl, (refl, (refl, (refl, (refl, (refl, (refl, (refl, (refl, (refl, (refl, (refl, (refl, (refl, (refl, (refl, (refl, (refl, (refl, (refl, (refl, (refl, (refl, (refl, (refl, (refl, (refl, (refl, ((refl, refl, refl), ((refl, refl, refl), ((refl, refl, refl, refl), ((tt, picked refl (picked refl (stopped refl)), refl), ((refl, (tt, tt, tt), refl), ((refl, (tt, tt, tt), refl), ((refl, refl), (refl, (refl, (refl, (refl, (refl, (refl, (refl, (refl, (refl, (refl, (((refl, refl, refl, tt, refl), refl, refl), (((refl, refl, refl, refl), refl, refl), (((refl, refl, refl), refl, refl), ((refl, refl), ((refl, refl), ((refl, refl), tt))))))))))))))))))))))))))))))))))))))))))))))))))))))))))))))))))))))))))))))))))))))))))))))
+
+-- replays
+pub worked-replays : List Claim
+worked-replays =
+    -- 1 to 6 before 12 and 13 of the list, and the answers last of the buffers; the answers are as they were
+    no-replay (on (over 97 [] []) 0 [] []) (0 ∷ 0 ∷ 0 ∷ []) (9 ∷ []) (because 1 0)
+    ∷ no-replay (on complete 1 last-two (0 ∷ 1 ∷ 255 ∷ [])) (2 ∷ 0 ∷ 0 ∷ []) [] (because 2 4)
+    ∷ no-replay (on (over 4 (1 ∷ zeros) (ones 4)) 3 last-two first-pair) (2 ∷ 0 ∷ 0 ∷ 2 ∷ 0 ∷ 0 ∷ []) (9 ∷ []) (because 2 10)
+    ∷ no-replay (on (over 4 (1 ∷ zeros) (ones 4)) 3 last-two first-pair) (4 ∷ 0 ∷ 0 ∷ []) (9 ∷ []) (because 3 0)
+    ∷ no-replay (on (over 4 (complete .adjacency) (1 ∷ 1 ∷ 1 ∷ 1 ∷ 1 ∷ 65521 ∷ [])) 3 last-two first-pair) (0 ∷ 0 ∷ 0 ∷ []) (9 ∷ []) (because 4 5)
+    ∷ no-replay (on complete 3 last-two first-pair) (2 ∷ 0 ∷ []) [] (because 5 0)
+    ∷ no-replay (on complete 1 zeros first-pair) (2 ∷ 0 ∷ 0 ∷ 2 ∷ []) (9 ∷ []) (because 6 0)
+    -- 12 before 13, each at its call; a call that is cut has no kind
+    ∷ no-replay one-pair (2 ∷ 0 ∷ 0 ∷ 4 ∷ 0 ∷ 0 ∷ 1 ∷ []) (9 ∷ 9 ∷ []) (because 12 1)
+    ∷ no-replay one-pair (2 ∷ 0 ∷ 0 ∷ 4 ∷ 0 ∷ []) (9 ∷ []) (because 13 1)
+    -- calls made, one of them refused, with an answer to spare; none
+    ∷ replayed no-pairs (1 ∷ 1 ∷ 0 ∷ 2 ∷ 7 ∷ 9 ∷ 1 ∷ 0 ∷ 2 ∷ 3 ∷ 7 ∷ 9 ∷ []) (9 ∷ 9 ∷ 9 ∷ 9 ∷ 9 ∷ [])
+    (gives (edge 0 1) one-pair ∷ gives (edge 2 3) two-pairs ∷ stays 8 two-pairs ∷ gives (edge 2 3) one-pair ∷ [])
+    one-pair (4311745280 ∷ 8640398080 ∷ 8 ∷ 4345430784 ∷ 9 ∷ [])
+    ∷ replayed two-pairs [] (9 ∷ []) [] two-pairs (9 ∷ [])
+    -- through the host, with an odd byte
+    ∷ host-replayed (on (over 2 in-order (2 ∷ 0 ∷ [])) 0 (0 ∷ 0 ∷ 248 ∷ 127 ∷ 249 ∷ 127 ∷ 0 ∷ 0 ∷ 9 ∷ []) (255 ∷ 255 ∷ [])) (1 ∷ 1 ∷ 0 ∷ []) (9 ∷ 9 ∷ [])
+    (gives (edge 0 1) (on (over 2 in-order (2 ∷ [])) 1 (0 ∷ 0 ∷ 0 ∷ 0 ∷ []) (0 ∷ 1 ∷ [])) ∷ [])
+    (on (over 2 in-order (2 ∷ [])) 1 (0 ∷ 0 ∷ 0 ∷ 0 ∷ []) (0 ∷ 1 ∷ []))
+    4294968576
+    (on (over 2 in-order (2 ∷ 0 ∷ [])) 1 (0 ∷ 0 ∷ 0 ∷ 0 ∷ 0 ∷ 0 ∷ 0 ∷ 0 ∷ 9 ∷ []) (0 ∷ 1 ∷ []))
+    (4311745280 ∷ 9 ∷ [])
+    ∷ []
+
+pub worked-replays-hold : All Holds worked-replays
+unfolding worked-replays Shown ShownReplay words bytes-of ShownHandled ShownReturned ShownRun modulus-prime step nonsingular? inverse-table? first? every? tutte replay-ruling session-ruling first-calls state-after cells unmatched pairs-on decLt sequence
+worked-replays-hold = all worked-replays (refl, (refl, (refl, (refl, (refl, (refl, (refl, (refl, (refl, ((refl, ((refl, refl, refl, tt, refl), ((refl, refl, refl, tt, refl), ((refl, refl, refl), ((refl, refl, refl, tt, refl), tt)))), refl, refl), ((refl, tt, refl, refl), (((refl, ((refl, refl, refl, tt, refl), tt), refl, refl), refl, refl), tt))))))))))))

@@ -1,11 +1,11 @@
 // The one number that the host is answered, by its bits (docs/HOST.md).
-use checks::Refusal;
-use checks::Ruling;
+use refusals::Refusal;
+use refusals::Ruling;
 ghost use mathlib.Core.Path.{_≡_};
 ghost use Prim.Native.Nat.{ℕ, _<_, _^_};
 ghost use Rattle.matching.specs.Decision.{because};
 ghost use Rattle.matching.specs.Host.{number, refusal-number, ruled-number};
-ghost use Rattle.checks.specs.Answers.{ruling-of};
+ghost use Rattle.refusals.specs.Answers.{ruling-of};
 ghost use Rattle.numbers.specs.Fits.{FitsNumber};
 
 // The number of a call that was carried out: the kind of answer, its value, and the pairs made. For proved callers.

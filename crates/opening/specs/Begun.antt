@@ -3,11 +3,12 @@ use mathlib.Core.Path.{_≡_, _∙_}
 use mathlib.Core.List.{List, _++_}
 use Prim.Native.Nat.{ℕ, _*_, _≤_}
 use lib.ListN.{length, take, drop, replicate, length-replicate, take-append-drop}
+use Rattle.lists.specs.Onto.{onto}
 use Rattle.residue.specs.Modulus.{modulus}
 use Rattle.matching.specs.Decision.{accepted}
 use Rattle.matching.specs.Graph.{Graph, over}
 use Rattle.matching.specs.Pairs.{unused, everything}
-use Rattle.matching.specs.Session.{InverseTable, onto}
+use Rattle.matching.specs.Session.{InverseTable}
 use Rattle.matching.specs.Opening.{Singular, ruling, Opens, opens, finds-singular}
 use Rattle.matching.specs.Causes.{opening-ruling}
 use Rattle.laws.specs.Sound.{opening-accepted}
@@ -30,12 +31,12 @@ pub ready : (n : ℕ) (adjacency weights inverse sequence witness : List ℕ) (w
 ready n adjacency weights inverse sequence witness work e =
     let k = opening-accepted modulus (over n adjacency weights) (length inverse) (length sequence) (length witness) work .0 e in (
       record {
-        lent = record { size = k .1 .size; cells = k .0 .0; weights-enough = k .0 .1 .0 };
-        inverse-fits = k .0 .1 .1 .0;
-        sequence-fits = k .0 .1 .1 .1 .0;
-        witness-fits = k .0 .1 .1 .1 .1 .0;
+        lent = record { size = k .1 .size; cells = k .0 .graph .cells; weights-enough = k .0 .graph .weights };
+        inverse-fits = k .0 .inverse-fits;
+        sequence-fits = k .0 .sequence-fits;
+        witness-fits = k .0 .witness-fits;
       },
-      k .0 .1 .1 .1 .1 .1 .0,
+      k .0 .work-fits,
     )
 
 -- what opening leaves of a graph that is not refused, but for the work buffer: the one that is found is written, and the other is as it was

@@ -1,12 +1,11 @@
 // Opening: the inverse of the Tutte matrix of a lent graph, or the witness of its first dependent column, or a refusal.
-use checks::Refusal;
-use checks::Ruling;
 use exchange::Outcome;
+use refusals::Refusal;
+use refusals::Ruling;
 use session::Session;
 ghost use Rattle.residue.specs.Modulus.{modulus};
 ghost use Rattle.matching.specs.Graph.{over};
-ghost use Rattle.matching.specs.Pairs.{everything};
-ghost use Rattle.matching.specs.Opening.{Opens, OpenedExactly};
+ghost use Rattle.matching.specs.Opening.{players, Opens, OpenedExactly};
 ghost use Rattle.opening.specs.Answers.{opening-of, buffers};
 ghost use Rattle.opening.specs.Begun.{Ready, Begun};
 
@@ -17,9 +16,8 @@ pub enum Opening {
     Refused(Refusal),
 }
 
-// Opening over tables and buffers that are long enough. Of the inverse and the witness only the one that is found is written. For proved
-// callers, who have judged what the tables hold, and make the other 0 where it is asked for, and the work buffer's first words.
-pub fn begin_accepted(
+// Opens on a graph that is accepted. Of the inverse and the witness only the one that is found is written.
+fn begin_accepted(
     n: usize,
     adjacency: &[u8],
     weights: &[u16],
@@ -59,11 +57,11 @@ pub fn begin(
     ensures { λ o.
         let lent = buffers (now (inverse .entry)) (now (sequence .entry)) (now (witness .entry)) (now (work .entry)) in
         let g = over n (now (adjacency .entry)) (now (weights .entry)) in
-        ⌜ Opens modulus g everything lent (opening-of o) (buffers (now (inverse .exit)) (now (sequence .exit)) (now (witness .exit)) (now (work .exit))) ⌝ }
+        ⌜ Opens modulus g (players n lent) lent (opening-of o) (buffers (now (inverse .exit)) (now (sequence .exit)) (now (witness .exit)) (now (work .exit))) ⌝ }
     ensures { λ o.
         let lent = buffers (now (inverse .entry)) (now (sequence .entry)) (now (witness .entry)) (now (work .entry)) in
         let g = over n (now (adjacency .entry)) (now (weights .entry)) in
-        ⌜ OpenedExactly modulus g everything lent (opening-of o) ⌝ }
+        ⌜ OpenedExactly modulus g (players n lent) lent (opening-of o) ⌝ }
 {
     let ruling = checks::judge_opening(
         n,

@@ -1,40 +1,67 @@
 // Opening with numbers and byte slices: what the host's entry calls. Words cross as two bytes, low first (docs/HOST.md).
-use checks::Ruling;
-use exchange::Outcome;
+use opening::Opening;
+use refusals::Ruling;
 ghost use mathlib.Core.Path.{_≡_};
-ghost use mathlib.Core.List.{_++_};
-ghost use Prim.Native.Nat.{_*_, _^_, _≤_, _<_};
-ghost use lib.ListN.{length, take, drop, replicate};
+ghost use mathlib.Core.List.{List};
+ghost use Prim.Native.Nat.{ℕ, _*_, _≤_};
+ghost use lib.ListN.{length};
 ghost use Rattle.residue.specs.Modulus.{modulus};
-ghost use Rattle.matching.specs.Pairs.{everything};
-ghost use Rattle.matching.specs.Session.{onto};
-ghost use Rattle.matching.specs.Host.{bytes-of, number, HostOpens, HostOpenedExactly};
-ghost use Rattle.opening.specs.Answers.{buffers};
-ghost use Rattle.opening_bytes.specs.Opened.{Fits, Lends};
+ghost use Rattle.matching.specs.Host.{opening-number, HostOpens, HostOpenedExactly};
+ghost use Rattle.opening.specs.Answers.{opening-of, buffers};
+ghost use Rattle.opening_bytes.specs.Opened.{Fits, Lends, first-stored, FitsBits, after};
 
-// Stores the inverse as bytes, and makes those of the witness 0. The number that the host is answered.
-fn store_inverse(n: usize, table: &[u16], inverse: &mut [u8], witness: &mut [u8]) -> u64
-    requires { ⌜ (n * n ≤ length (now table)) × (2 * (n * n) ≤ length (now inverse)) × (2 * n ≤ length (now witness)) ⌝ }
-    ensures { λ r. ⌜ r ≡ number 0 1 0 0 ⌝ }
-    ensures { λ _. ⌜ (now (inverse .exit) ≡ onto (bytes-of (take (n * n) (now (table .entry)))) (now (inverse .entry))) × (now (witness .exit) ≡ replicate (2 * n) 0 ++ drop (2 * n) (now (witness .entry))) ⌝ }
+// Stores the words of the inverse, the witness and the work buffer as bytes.
+fn store(
+    n: usize,
+    table: &[u16],
+    vector: &[u16],
+    spare: &[u16],
+    inverse: &mut [u8],
+    witness: &mut [u8],
+    work: &mut [u8],
+)
+    requires { ⌜ (n * n ≤ length (now table)) × (n ≤ length (now vector)) × (n * n ≤ length (now spare)) ⌝ }
+    requires { ⌜ (2 * (n * n) ≤ length (now inverse)) × (2 * n ≤ length (now witness)) × (2 * (n * n) ≤ length (now work)) ⌝ }
+    ensures { λ _. ⌜ now (inverse .exit) ≡ first-stored (n * n) (now (table .entry)) (now (inverse .entry)) ⌝ }
+    ensures { λ _. ⌜ now (witness .exit) ≡ first-stored n (now (vector .entry)) (now (witness .entry)) ⌝ }
+    ensures { λ _. ⌜ now (work .exit) ≡ first-stored (n * n) (now (spare .entry)) (now (work .entry)) ⌝ }
 {
     packing::store(table, n * n, inverse);
-    buffers::fill_bytes(witness, 2 * n, 0);
-    numbers::carried(1, 0, 0)
-}
-
-// The same for the witness of column f.
-fn store_witness(n: usize, f: usize, vector: &[u16], inverse: &mut [u8], witness: &mut [u8]) -> u64
-    requires { ⌜ (f < 2 ^ 16) × (n ≤ length (now vector)) × (2 * (n * n) ≤ length (now inverse)) × (2 * n ≤ length (now witness)) ⌝ }
-    ensures { λ r. ⌜ r ≡ number 0 2 f 0 ⌝ }
-    ensures { λ _. ⌜ (now (inverse .exit) ≡ replicate (2 * (n * n)) 0 ++ drop (2 * (n * n)) (now (inverse .entry))) × (now (witness .exit) ≡ onto (bytes-of (take n (now (vector .entry)))) (now (witness .entry))) ⌝ }
-{
-    buffers::fill_bytes(inverse, 2 * (n * n), 0);
     packing::store(vector, n, witness);
-    numbers::carried(2, f as u64, 0)
+    packing::store(spare, n * n, work);
 }
 
-// Opening over lent words: the weights that the graph needs are unpacked, and what is found is packed. The work buffer is only made 0.
+// Packs what opening answered and left: its number, and unless it is a refusal the bytes of the words.
+fn pack(
+    n: usize,
+    opened: Opening,
+    table: &[u16],
+    vector: &[u16],
+    spare: &[u16],
+    inverse: &mut [u8],
+    witness: &mut [u8],
+    work: &mut [u8],
+) -> u64
+    requires { ⌜ (n * n ≤ length (now table)) × (n ≤ length (now vector)) × (n * n ≤ length (now spare)) ⌝ }
+    requires { ⌜ (2 * (n * n) ≤ length (now inverse)) × (2 * n ≤ length (now witness)) × (2 * (n * n) ≤ length (now work)) ⌝ }
+    requires { ⌜ FitsBits (opening-of opened) ⌝ }
+    ensures { λ r. ⌜ r ≡ opening-number (opening-of opened) ⌝ }
+    ensures { λ _. ⌜ ((new old : List ℕ) → buffers (now (inverse .exit)) new (now (witness .exit)) (now (work .exit)) ≡ after n (opening-of opened) (buffers (now (table .entry)) new (now (vector .entry)) (now (spare .entry))) (buffers (now (inverse .entry)) old (now (witness .entry)) (now (work .entry)))) ⌝ }
+{
+    match opened {
+        Opening::Opened(session) => {
+            store(n, table, vector, spare, inverse, witness, work);
+            numbers::carried(1, 0, session.made as u64)
+        }
+        Opening::Singular(f) => {
+            store(n, table, vector, spare, inverse, witness, work);
+            numbers::carried(2, f as u64, 0)
+        }
+        Opening::Refused(refusal) => numbers::refused(refusal),
+    }
+}
+
+// Opens over lent words: the weights that the graph needs are unpacked, the session is opened on words, and what it leaves is packed.
 fn open_over(
     n: usize,
     adjacency: &[u8],
@@ -42,28 +69,21 @@ fn open_over(
     values: &mut [u16],
     table: &mut [u16],
     vector: &mut [u16],
+    spare: &mut [u16],
     inverse: &mut [u8],
     sequence: &mut [u8],
     witness: &mut [u8],
     work: &mut [u8],
 ) -> u64
     requires { ⌜ Fits n (now adjacency) (now weights) (buffers (now inverse) (now sequence) (now witness) (now work)) ⌝ }
-    requires { ⌜ Lends n (now values) (now table) (now vector) ⌝ }
+    requires { ⌜ Lends n (now values) (now table) (now vector) (now spare) ⌝ }
     ensures { λ r.
         let lent = buffers (now (inverse .entry)) (now (sequence .entry)) (now (witness .entry)) (now (work .entry)) in
-        ⌜ HostOpens modulus n (now (adjacency .entry)) (now (weights .entry)) everything lent r (buffers (now (inverse .exit)) (now (sequence .exit)) (now (witness .exit)) (now (work .exit))) ⌝ }
+        ⌜ HostOpens modulus n (now (adjacency .entry)) (now (weights .entry)) lent r (buffers (now (inverse .exit)) (now (sequence .exit)) (now (witness .exit)) (now (work .exit))) ⌝ }
 {
     packing::unpack(weights, values);
-    let ruling = checks::judge_graph(n, adjacency, values);
-    if let Ruling::Refused(refusal) = ruling {
-        return numbers::refused(refusal);
-    }
-    let outcome = opening::begin_accepted(n, adjacency, values, table, sequence, vector);
-    buffers::fill_bytes(work, 2 * (n * n), 0);
-    match outcome {
-        Outcome::Inverse => store_inverse(n, table, inverse, witness),
-        Outcome::Column(f) => store_witness(n, f, vector, inverse, witness),
-    }
+    let opened = opening::begin(n, adjacency, values, table, sequence, vector, spare);
+    pack(n, opened, table, vector, spare, inverse, witness, work)
 }
 
 // The same, with words of its own. A small graph has fewer, which take less time to clear.
@@ -79,7 +99,7 @@ fn open_words(
     requires { ⌜ Fits n (now adjacency) (now weights) (buffers (now inverse) (now sequence) (now witness) (now work)) ⌝ }
     ensures { λ r.
         let lent = buffers (now (inverse .entry)) (now (sequence .entry)) (now (witness .entry)) (now (work .entry)) in
-        ⌜ HostOpens modulus n (now (adjacency .entry)) (now (weights .entry)) everything lent r (buffers (now (inverse .exit)) (now (sequence .exit)) (now (witness .exit)) (now (work .exit))) ⌝ }
+        ⌜ HostOpens modulus n (now (adjacency .entry)) (now (weights .entry)) lent r (buffers (now (inverse .exit)) (now (sequence .exit)) (now (witness .exit)) (now (work .exit))) ⌝ }
 {
     let count = checks::weights_needed(n);
     let size = n * n;
@@ -88,6 +108,7 @@ fn open_words(
         let mut values = [0u16; 496];
         let mut table = [0u16; 1024];
         let mut vector = [0u16; 32];
+        let mut spare = [0u16; 1024];
         return open_over(
             n,
             adjacency,
@@ -95,6 +116,27 @@ fn open_words(
             &mut values[..count],
             &mut table[..size],
             &mut vector[..n],
+            &mut spare[..size],
+            inverse,
+            sequence,
+            witness,
+            work,
+        );
+    }
+    if n <= 64 {
+        // 64 * 63 / 2, 64 * 64 and 64.
+        let mut values = [0u16; 2016];
+        let mut table = [0u16; 4096];
+        let mut vector = [0u16; 64];
+        let mut spare = [0u16; 4096];
+        return open_over(
+            n,
+            adjacency,
+            weights,
+            &mut values[..count],
+            &mut table[..size],
+            &mut vector[..n],
+            &mut spare[..size],
             inverse,
             sequence,
             witness,
@@ -105,6 +147,7 @@ fn open_words(
     let mut values = [0u16; 4560];
     let mut table = [0u16; 9216];
     let mut vector = [0u16; 96];
+    let mut spare = [0u16; 9216];
     open_over(
         n,
         adjacency,
@@ -112,6 +155,7 @@ fn open_words(
         &mut values[..count],
         &mut table[..size],
         &mut vector[..n],
+        &mut spare[..size],
         inverse,
         sequence,
         witness,
@@ -131,10 +175,10 @@ pub fn begin(
 ) -> u64
     ensures { λ r.
         let lent = buffers (now (inverse .entry)) (now (sequence .entry)) (now (witness .entry)) (now (work .entry)) in
-        ⌜ HostOpens modulus n (now (adjacency .entry)) (now (weights .entry)) everything lent r (buffers (now (inverse .exit)) (now (sequence .exit)) (now (witness .exit)) (now (work .exit))) ⌝ }
+        ⌜ HostOpens modulus n (now (adjacency .entry)) (now (weights .entry)) lent r (buffers (now (inverse .exit)) (now (sequence .exit)) (now (witness .exit)) (now (work .exit))) ⌝ }
     ensures { λ r.
         let lent = buffers (now (inverse .entry)) (now (sequence .entry)) (now (witness .entry)) (now (work .entry)) in
-        ⌜ HostOpenedExactly modulus n (now (adjacency .entry)) (now (weights .entry)) everything lent r ⌝ }
+        ⌜ HostOpenedExactly modulus n (now (adjacency .entry)) (now (weights .entry)) lent r ⌝ }
 {
     let ruling = checks::judge_room(
         n,

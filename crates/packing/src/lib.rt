@@ -2,7 +2,7 @@
 ghost use mathlib.Core.Path.{_≡_};
 ghost use Prim.Native.Nat.{_+_, _*_, _≤_};
 ghost use lib.ListN.{length, take};
-ghost use Rattle.matching.specs.Session.{onto};
+ghost use Rattle.lists.specs.Onto.{onto};
 ghost use Rattle.matching.specs.Host.{words, bytes-of};
 
 // The word of two bytes.

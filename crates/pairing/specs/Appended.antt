@@ -8,18 +8,19 @@ use native.Mathlib.Decide.{decLt}
 use lib.ListN.{length, getD, take, drop, set}
 use Rattle.lists.specs.Values.{list-of, getD-list-of}
 use Rattle.lists.specs.Table.{table, vector, row-below, column-below, index-of}
+use Rattle.lists.specs.Choose.{choose-no}
+use Rattle.lists.specs.Onto.{onto}
 use Rattle.modular.specs.Congruence.{Congruent, equals, flip, _⨾_, _⊖_, _⊛_, linear}
 use Rattle.modular.specs.Prime.{remainder, by-remainders}
 use Rattle.modular.specs.Reciprocal.{Reciprocal}
 use Rattle.residue.specs.Modulus.{modulus, modulus-prime}
-use Rattle.skew.specs.Choose.{choose-no}
 use Rattle.skew.specs.Subset.{Subset, Without}
 use Rattle.skew.specs.Inverse.{column}
 use Rattle.skew.specs.Update.{Update}
 use Rattle.skew.specs.Remove.{inverse-without}
 use Rattle.matching.specs.Graph.{Graph, tutte}
-use Rattle.matching.specs.Pairs.{Pair, pair-of, everything}
-use Rattle.matching.specs.Session.{InverseTable, onto}
+use Rattle.matching.specs.Pairs.{Pair, pair-of}
+use Rattle.matching.specs.Session.{InverseTable}
 use Rattle.matching.specs.Model.{skew}
 use Rattle.laws.specs.Facts.{pair-of-smaller}
 use Rattle.update.specs.Rows.{Updated}
@@ -84,7 +85,7 @@ pub shrunk-inverse : (g : Graph) {L M : Subset} {a b : ℕ} {t t′ : List ℕ} 
 shrunk-inverse g {t′ = t′} s ha hb I d S = record {
   small = small-words (g .n) t′ (S .small);
   is-inverse =
-      inverse-without modulus (g .n) (tutte g modulus) (modulus-prime .odd) (skew modulus-prime g everything) s ha hb (I .is-inverse)
+      inverse-without modulus (g .n) (tutte g modulus) (modulus-prime .odd) (skew modulus-prime g) s ha hb (I .is-inverse)
       (S .factor) (unit (S .reciprocal) d) (S .update);
 }
 

@@ -8,6 +8,7 @@ use native.Mathlib.Omega.{arith}
 use lib.ListN.{length, getD, take, set}
 use Rattle.lists.specs.Values.{list-of, getD-list-of}
 use Rattle.lists.specs.Table.{table, vector}
+use Rattle.lists.specs.Onto.{onto}
 use Rattle.modular.specs.Congruence.{Congruent, equals, _⊕_, _⊖_, _⊛_, linear}
 use Rattle.modular.specs.Sum.{sum, sum-equal, sum-add, sum-vanish}
 use Rattle.modular.specs.Prime.{remainder, below-equal}
@@ -18,8 +19,8 @@ use Rattle.skew.specs.Subset.{Subset, Without}
 use Rattle.skew.specs.Inverse.{Matrix, Vector, apply, Skew, Invertible}
 use Rattle.skew.specs.Add.{Border, inverse-with, invertible-with}
 use Rattle.matching.specs.Graph.{Graph, tutte}
-use Rattle.matching.specs.Pairs.{everything, unused}
-use Rattle.matching.specs.Session.{InverseTable, onto}
+use Rattle.matching.specs.Pairs.{unused}
+use Rattle.matching.specs.Session.{InverseTable}
 use Rattle.matching.specs.Model.{skew}
 use Rattle.border.specs.Column.{Bordered, border-of}
 use Rattle.update.specs.Rows.{Updated}
@@ -61,7 +62,7 @@ module _ (g : Graph) {a b d : ℕ} {t column₁ column₂ x y : List ℕ} (ha : 
   entry : Congruent modulus (apply (g .n) A (vector x) b + d) 0
   entry =
       linear
-      (turned (g .n) A (skew modulus-prime g everything) (vector x) b hb
+      (turned (g .n) A (skew modulus-prime g) (vector x) b hb
       ⊕ equals against
       ⊕ remainder (sum (g .n) (λ k. vector column₂ k * vector x k)))
       (omega (
@@ -77,7 +78,7 @@ module _ (g : Graph) {a b d : ℕ} {t column₁ column₂ x y : List ℕ} (ha : 
     grown = λ L M s I. record {
       held = λ q. absurd (true≢false (sym q));
       none = λ _ J.
-          invertible-with modulus-prime (g .n) A (skew modulus-prime g everything) s ha hb (I .is-inverse) border-x border-y .0 J
+          invertible-with modulus-prime (g .n) A (skew modulus-prime g) s ha hb (I .is-inverse) border-x border-y .0 J
           (linear (entry ⊖ equals e) (omega arith));
     };
   }
@@ -90,7 +91,7 @@ module _ (g : Graph) {a b d : ℕ} {t column₁ column₂ x y : List ℕ} (ha : 
       held = λ _. record {
         small = small-words (g .n) t′ (U .small);
         is-inverse =
-            inverse-with modulus (g .n) A (modulus-prime .odd) (skew modulus-prime g everything) s ha hb (I .is-inverse) border-x border-y
+            inverse-with modulus (g .n) A (modulus-prime .odd) (skew modulus-prime g) s ha hb (I .is-inverse) border-x border-y
             (negative modulus h) factor (U .update);
       };
       none = λ q. absurd (true≢false q);

@@ -1,13 +1,13 @@
 // Which vertices may be matched, by the inverse for the vertices left: causes 7 to 10 of document 01's table, the lowest partner of a vertex,
 // and the row of all its partners. The vertices left are marked: a byte for each vertex, not 0 for those left.
-use checks::Finding;
-use checks::Refusal;
-use checks::Ruling;
+use refusals::Finding;
+use refusals::Refusal;
+use refusals::Ruling;
 ghost use mathlib.Core.Path.{_≡_};
 ghost use Prim.Native.Nat.{_<_};
 ghost use lib.ListN.{length};
 ghost use Rattle.matching.specs.Calls.{bit-of};
-ghost use Rattle.checks.specs.Answers.{ruling-of, Finds};
+ghost use Rattle.refusals.specs.Answers.{ruling-of, Finds};
 ghost use Rattle.partners.specs.Standing.{Tables, Judges, Marked, FindsPartner, ShowsPartners, RowOf};
 
 // Whether a pick of a and b is accepted: causes 7 to 10. For proved callers.
@@ -23,29 +23,26 @@ pub fn judge(
     ensures { λ r. ⌜ Judges n (now (adjacency .entry)) (now (inverse .entry)) (now (marks .entry)) a b r ⌝ }
 {
     if n <= a {
-        return Ruling::Refused(Refusal { cause: 7, place: 0 });
+        return refusals::refuse(7, 0);
     }
     if n <= b {
-        return Ruling::Refused(Refusal { cause: 7, place: 0 });
+        return refusals::refuse(7, 0);
     }
     if a == b {
-        return Ruling::Refused(Refusal { cause: 7, place: 0 });
+        return refusals::refuse(7, 0);
     }
     if marks[a] == 0 {
-        return Ruling::Refused(Refusal { cause: 8, place: 0 });
+        return refusals::refuse(8, 0);
     }
     if marks[b] == 0 {
-        return Ruling::Refused(Refusal { cause: 8, place: 0 });
+        return refusals::refuse(8, 0);
     }
     let at = a * n + b;
     if adjacency[at] != 1 {
-        return Ruling::Refused(Refusal { cause: 9, place: 0 });
+        return refusals::refuse(9, 0);
     }
     if inverse[at] == 0 {
-        return Ruling::Refused(Refusal {
-            cause: 10,
-            place: 0,
-        });
+        return refusals::refuse(10, 0);
     }
     Ruling::Accepted
 }
@@ -115,10 +112,10 @@ pub fn row(
     ensures { λ r. ⌜ RowOf n (now (adjacency .entry)) (now (inverse .entry)) (now (marks .entry)) a (now (row .entry)) (ruling-of r) (now (row .exit)) ⌝ }
 {
     if n <= a {
-        return Ruling::Refused(Refusal { cause: 7, place: 0 });
+        return refusals::refuse(7, 0);
     }
     if marks[a] == 0 {
-        return Ruling::Refused(Refusal { cause: 8, place: 0 });
+        return refusals::refuse(8, 0);
     }
     show(n, adjacency, inverse, marks, a, row);
     Ruling::Accepted

@@ -10,11 +10,11 @@ use lib.Dec.{lit<}
 use lib.ListN.{length, getD}
 use Rattle.lists.specs.Written.{Written, written-at}
 use Rattle.lists.specs.Table.{table, same-place, index-below}
+use Rattle.lists.specs.Choose.{choose, choose-yes, choose-no}
 use Rattle.modular.specs.Congruence.{Congruent, _⊖_, linear}
 use Rattle.modular.specs.Operations.{negative, negative-plus}
 use Rattle.modular.specs.Prime.{remainder, negate}
 use Rattle.residue.specs.Modulus.{modulus, modulus-prime}
-use Rattle.skew.specs.Choose.{choose, choose-yes, choose-no}
 use Rattle.skew.specs.Inverse.{Matrix, Vector}
 use Rattle.skew.specs.Triangle.{mirror, mirror-above, mirror-below}
 

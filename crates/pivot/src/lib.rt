@@ -1,4 +1,4 @@
-// One exchange of two indices of a skew matrix modulo 65521, in a square table of which only the words above the diagonal count. Words are
+// One exchange of two indices of a skew matrix of residues, in a square table of which only the words above the diagonal count. Words are
 // exact up to multiples of the modulus: one is reduced where it is read, and sums are not reduced.
 ghost use mathlib.Core.Path.{_≡_};
 ghost use Prim.Native.Nat.{_+_, _*_, _-_, _%_, _≤_, _<_};
@@ -17,25 +17,14 @@ fn take(t: &mut [u64], n: usize, k: usize, c: usize) -> u64
 {
     if k < c {
         let at = k * n + c;
-        let above = t[at] % Residue::MODULUS;
+        let above = Residue::make(t[at]);
         t[at] = 0;
-        return above;
+        return above.value as u64;
     }
     let at = c * n + k;
-    let below = t[at] % Residue::MODULUS;
+    let below = Residue::make(t[at]);
     t[at] = 0;
-    negative(below as u32) as u64
-}
-
-// The negative of a residue. For proved callers.
-pub fn negative(x: u32) -> u32
-    requires { ⌜ x < modulus ⌝ }
-    ensures { λ r. ⌜ r ≡ (modulus - x) % modulus ⌝ }
-{
-    if x == 0 {
-        return 0;
-    }
-    Residue::MODULUS as u32 - x
+    residue::negative(below.value as u32) as u64
 }
 
 // Column c, whose entries become 0, with those of row c.
@@ -58,7 +47,7 @@ fn scale(x: &mut [u64], h: u16)
 {
     let mut k = 0;
     while k < x.len() {
-        x[k] = x[k] % 65536 * (h as u64) % Residue::MODULUS;
+        x[k] = Residue::make(x[k] % 65536 * (h as u64)).value as u64;
         k += 1;
     }
 }
@@ -91,7 +80,7 @@ fn update(t: &mut [u64], n: usize, x: &[u64], y: &[u64])
         let lo = (i + 1) / 2 * 2;
         let at = i * n + lo;
         let end = i * n + n;
-        let a = negative(y[i] as u32);
+        let a = residue::negative(y[i] as u32);
         let b = x[i] as u32;
         add(&mut t[at..end], lo, x, y, a, b);
         i += 1;
@@ -115,9 +104,9 @@ fn columns(t: &mut [u64], n: usize, c: usize, r: usize, x: &mut [u64], y: &mut [
     take_column(t, n, c, x);
     let h = reciprocal(x[r]);
     take_column(t, n, r, y);
-    x[c] = 65520;
+    x[c] = Residue::MINUS_ONE.value as u64;
     x[r] = 0;
-    y[r] = 65520;
+    y[r] = Residue::MINUS_ONE.value as u64;
     h
 }
 

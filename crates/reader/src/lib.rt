@@ -13,14 +13,14 @@ pub struct Reader<'a> {
 }
 
 impl<'a> Reader<'a> {
-    // A reader at the first byte.
+    // Makes a reader at the first byte of bytes.
     pub fn new(bytes: &'a [u8]) -> Reader<'a>
         ensures { λ r. ⌜ (r .bytes ≡ bytes .entry) × (r .at ≡ 0) ⌝ }
     {
         Reader { bytes, at: 0 }
     }
 
-    // A reader of the same bytes, at another place.
+    // Returns a reader of its bytes at offset at.
     pub fn moved(self, at: usize) -> Reader<'a>
         ensures { λ r. ⌜ (r .bytes ≡ self .entry .bytes) × (r .at ≡ at) ⌝ }
     {
@@ -30,14 +30,14 @@ impl<'a> Reader<'a> {
         }
     }
 
-    // What stands at its place.
+    // Reads what stands at its place.
     pub fn next(self) -> Next
         ensures { λ r. ⌜ Stands (now (self .entry .bytes)) (self .entry .at) r ⌝ }
     {
         records::next_at(self.bytes, self.at)
     }
 
-    // Reads a sheet from its place to the end of the bytes.
+    // Reads a sheet from its place to the end of its bytes into adjacency and weights.
     pub fn fill(self, adjacency: &mut [u8], weights: &mut [u16]) -> Read
         ensures { λ r. ⌜ FillsFrom (now (self .entry .bytes)) (self .entry .at) (now (adjacency .entry)) (now (weights .entry)) (read-of r) (now (adjacency .exit)) (now (weights .exit)) ⌝ }
     {
@@ -45,7 +45,7 @@ impl<'a> Reader<'a> {
     }
 }
 
-// Reads a sheet that is all of the bytes.
+// Reads a sheet that is all of bytes into adjacency and weights.
 pub fn read(bytes: &[u8], adjacency: &mut [u8], weights: &mut [u16]) -> Read
     ensures { λ r. ⌜ Fills (now (bytes .entry)) (now (adjacency .entry)) (now (weights .entry)) (read-of r) (now (adjacency .exit)) (now (weights .exit)) ⌝ }
 {

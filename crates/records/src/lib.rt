@@ -9,7 +9,7 @@ pub struct Ends {
     pub b: usize,
 }
 
-// One of four kinds of record, with its body: the size; two vertices that are adjacent; the seed; the end.
+// A record with its body: the size; two vertices that are adjacent; the seed; the end.
 pub enum Record {
     Size(usize),
     Share(Ends),
@@ -29,21 +29,21 @@ pub enum Next {
     Nothing,
 }
 
-// A byte as a number of vertices or a vertex.
+// Widens byte x to a number of vertices, or to a vertex.
 fn wide(x: u8) -> usize
     ensures { λ r. ⌜ r ≡ x ⌝ }
 {
     x as usize
 }
 
-// Four bytes, low first, as one number.
+// Joins four bytes into one number, a lowest.
 fn joined(a: u8, b: u8, c: u8, d: u8) -> u32
     ensures { λ r. ⌜ r ≡ four a b c d ⌝ }
 {
     (a as u32) + 256 * ((b as u32) + 256 * ((c as u32) + 256 * (d as u32)))
 }
 
-// The record that begins at an offset.
+// Reads what stands at offset at of bytes.
 pub fn next_at(bytes: &[u8], at: usize) -> Next
     ensures { λ r. ⌜ Stands (now (bytes .entry)) at r ⌝ }
 {

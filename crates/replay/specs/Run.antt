@@ -1,37 +1,76 @@
 -- A run of the first calls of a list. Assumes nothing.
-use mathlib.Core.Path.{_≡_, refl, sym, ap, ap₂, subst, _∙_}
+use mathlib.Core.Path.{_≡_, refl, sym, ap, subst, _∙_}
+use mathlib.Core.Bool.{Bool, true, false, true≢false}
 use mathlib.Core.List.{List, [], _∷_, _++_, append-nil}
-use Prim.Native.Nat.{ℕ, zero, suc, _+_, _*_, _≤_, _<_}
+use Prim.Native.Nat.{ℕ, suc, _+_, _*_, _≤_, _<_}
 use native.Mathlib.Numerals.{add-one}
 use native.Mathlib.Omega.{arith}
-use lib.ListN.{length, getD, take, drop, set, replicate, length-append, length-drop}
+use lib.ListN.{length, getD, take, drop, set, length-append}
 use lib.Seq.{set-at, append-snoc, drop-cons, drop-length, length-take-le}
-use Rattle.lists.specs.Values.{list-of, length-list-of, list-of-constant}
-use Rattle.lists.specs.Written.{Written, written-more}
+use Rattle.lists.specs.Onto.{onto}
 use Rattle.residue.specs.Modulus.{modulus, modulus-prime}
-use Rattle.matching.specs.Decision.{Refusal, Ruling, accepted, refused}
-use Rattle.matching.specs.Pairs.{everything, pairs-on}
-use Rattle.matching.specs.Session.{State, graph-of, onto}
-use Rattle.matching.specs.Causes.{session-ruling}
-use Rattle.matching.specs.Model.{Call, Answer}
-use Rattle.matching.specs.Calls.{Returned, state-after, Handles, unsound, refuses, carries, Runs, none, more}
-use Rattle.matching.specs.Host.{refusal-number, answer-number}
-use Rattle.matching.specs.Replay.{call-of, call-count, first-calls, calls-of, list-ruling, numbers-of, Replays, replays, refuses-list, DemandThreeOf}
+use Rattle.matching.specs.Decision.{Refusal, Ruling, accepted, refused, Cause, judge}
+use Rattle.matching.specs.Pairs.{pairs-on}
+use Rattle.matching.specs.Session.{in-play, State, graph-of}
+use Rattle.matching.specs.Causes.{session-causes}
+use Rattle.matching.specs.Model.{Call, Answer, done, denied}
+use Rattle.matching.specs.Calls.{Returned, state-after, Handles, Runs, none, more}
+use Rattle.matching.specs.Host.{answer-number}
+use Rattle.matching.specs.Replay.{call-of, call-count, first-calls, calls-of, lent-answers, list-causes, replay-ruling, numbers-of, Replays, replays, refuses-replay, DemandThreeOf}
 use Rattle.matching.specs.Demand.{FollowsModel}
-use Rattle.laws.specs.Carried.{runs-more}
-use Rattle.laws.specs.Demand.{handles-sound, follows}
+use Rattle.laws.specs.Outcomes.{replay-accepted}
+use Rattle.laws.specs.Carried.{refused-keeps, runs-unique, runs-more}
+use Rattle.laws.specs.Demand.{follows}
+use Rattle.laws.specs.Judge.{judge-first, judge-second}
+
+-- whether a call was accepted, after one more answer
+abbrev pub changed-by : Bool → Answer → Bool
+changed-by changed (done e) = true
+changed-by changed (denied r) = changed
+
+-- whether one of the calls that returned these was
+abbrev pub some-accepted : List Returned → Bool
+some-accepted [] = false
+some-accepted (r ∷ later) = changed-by (some-accepted later) (r .answer)
+
+-- none is where a replay is refused
+abbrev pub changes : Ruling → List Returned → Bool
+changes accepted returned = some-accepted returned
+changes (refused r) returned = false
+
+some-last : (returned : List Returned) (r : Returned) → some-accepted (returned ++ r ∷ []) ≡ changed-by (some-accepted returned) (r .answer)
+some-last [] r = refl
+some-last (x ∷ returned) r = ap (λ b. changed-by b (x .answer)) (some-last returned r) ∙ turned (x .answer) (r .answer)
+  where
+    turned : (a b : Answer) → changed-by (changed-by (some-accepted returned) b) a ≡ changed-by (changed-by (some-accepted returned) a) b
+    turned (done _) (done _) = refl
+    turned (done _) (denied _) = refl
+    turned (denied _) (done _) = refl
+    turned (denied _) (denied _) = refl
+
+-- calls of which none was accepted leave the state as it was
+runs-kept : {s : State} {calls : List Call} {returned : List Returned} → Runs modulus-prime s calls returned → some-accepted returned ≡ false
+    → state-after s returned (length returned) ≡ s
+unfolding state-after
+runs-kept none q = refl
+runs-kept {s} (more {r = r} {later = later} H rest) q = let k = kept (r .answer) refl q in runs-kept rest (k .1) ∙ k .0
+  where
+    kept : (a : Answer) → r .answer ≡ a → changed-by (some-accepted later) a ≡ false → (r .state ≡ s) × (some-accepted later ≡ false)
+    kept (done e) w q = absurd (true≢false q)
+    kept (denied x) w q = (refused-keeps modulus-prime H w, q)
 
 -- the first k calls have led from s to t, and their answers stand over the old ones
-pub record Ran (s : State) (numbers old : List ℕ) (k : ℕ) (t : State) (answers : List ℕ) : Type 0 where
+pub record Ran (s : State) (numbers old : List ℕ) (k : ℕ) (t : State) (answers : List ℕ) (changed : Bool) : Type 0 where
   pub returned : List Returned
   pub counted : length returned ≡ k
-  pub runs : Runs modulus-prime everything s (first-calls numbers k) returned
+  pub runs : Runs modulus-prime s (first-calls numbers k) returned
   pub reached : state-after s returned (length returned) ≡ t
   pub written : answers ≡ numbers-of returned ++ drop k old
+  pub marked : changed ≡ some-accepted returned
 
-pub ran-none : (s : State) (numbers old : List ℕ) → Ran s numbers old 0 s old
+pub ran-none : (s : State) (numbers old : List ℕ) → Ran s numbers old 0 s old false
 unfolding first-calls state-after
-ran-none s numbers old = record { returned = []; counted = refl; runs = none; reached = refl; written = refl }
+ran-none s numbers old = record { returned = []; counted = refl; runs = none; reached = refl; written = refl; marked = refl }
 
 -- the state after one more
 state-last : (s : State) (returned : List Returned) (r : Returned) → state-after s (returned ++ r ∷ []) (length (returned ++ r ∷ [])) ≡ r .state
@@ -48,118 +87,95 @@ numbers-length [] = refl
 numbers-length (x ∷ returned) = ap suc (numbers-length returned)
 
 -- one call more
-pub ran-more : {s t u : State} {numbers old answers : List ℕ} {k x : ℕ} {a : Answer} → Ran s numbers old k t answers → k < length old
-    → Handles modulus-prime everything t (call-of (getD numbers (3 * k) 0) (getD numbers (3 * k + 1) 0) (getD numbers (3 * k + 2) 0)) a u
-    → x ≡ answer-number a (u .session) → Ran s numbers old (k + 1) u (set answers k x)
+pub ran-more : {s t u : State} {numbers old answers : List ℕ} {k x : ℕ} {a : Answer} {b b′ : Bool} → Ran s numbers old k t answers b → k < length old
+    → Handles modulus-prime t (call-of (getD numbers (3 * k) 0) (getD numbers (3 * k + 1) 0) (getD numbers (3 * k + 2) 0)) a u
+    → x ≡ answer-number a (u .session) → b′ ≡ changed-by b a → Ran s numbers old (k + 1) u (set answers k x) b′
 unfolding first-calls
-ran-more {s} {t} {u} {numbers} {old} {answers} {k} {x} {a} R l h e = rw add-one (record {
+ran-more {s} {t} {u} {numbers} {old} {answers} {k} {x} {a} R l h e m = rw add-one (record {
   returned = R .returned ++ last ∷ [];
   counted = length-append (R .returned) (last ∷ []) ∙ omega (arith, R .counted);
-  runs = runs-more modulus-prime everything (R .runs) (rw (R .reached) h);
+  runs = runs-more modulus-prime (R .runs) (rw (R .reached) h);
   reached = state-last s (R .returned) last;
   written =
       ap (λ w. set w k x) (R .written ∙ ap (λ d. numbers-of (R .returned) ++ d) (drop-cons old k 0 l))
       ∙ set-at (numbers-of (R .returned)) (getD old k 0) (drop (suc k) old) x k (numbers-length (R .returned) ∙ R .counted)
       ∙ sym (append-snoc (numbers-of (R .returned)) x (drop (suc k) old))
       ∙ ap (λ w. w ++ drop (suc k) old) (ap (λ y. numbers-of (R .returned) ++ y ∷ []) e ∙ sym (numbers-last (R .returned) last));
+  marked = m ∙ ap (λ b. changed-by b a) (R .marked) ∙ sym (some-last (R .returned) last);
 })
   where
     last : Returned
     last = record { answer = a; state = u }
 
--- on a session that is not sound every call is refused
-pub ran-refused : (s : State) (numbers old : List ℕ) {r : Refusal} → session-ruling modulus everything s ≡ refused r → (k : ℕ) → k ≤ length old
-    → Ran s numbers old k s (list-of k (λ _. refusal-number r) ++ drop k old)
-unfolding list-of
-ran-refused s numbers old e zero l = ran-none s numbers old
-ran-refused s numbers old {r} e (suc k) l =
-    subst (λ m. Ran s numbers old m s (list-of m f ++ drop m old)) (add-one k)
-    (subst (λ w. Ran s numbers old (k + 1) s w) (written-more (refusal-number r) before (omega arith) refl .front)
-    (ran-more (ran-refused s numbers old e k (omega arith)) (omega arith) (unsound r e) refl))
-  where
-    f : ℕ → ℕ
-    f _ = refusal-number r
-
-    before : Written f old (list-of k f ++ drop k old) k
-    before = record {
-      within = omega arith;
-      front = refl;
-      size = length-append (list-of k f) (drop k old) ∙ omega (arith, length-list-of k f, length-drop k old);
-    }
-
-pub ran-filled : (s : State) (numbers old : List ℕ) {r : Refusal} {part : List ℕ} (k x : ℕ) → session-ruling modulus everything s ≡ refused r → length old ≡ k
-    → x ≡ refusal-number r → part ≡ replicate (length old) x → Ran s numbers old k s part
-ran-filled s numbers old {r} k x e l q f =
-    subst (λ w. Ran s numbers old k s w)
-    (ap (λ w. list-of k (λ _. refusal-number r) ++ w) (ap (λ m. drop m old) (sym l) ∙ drop-length old)
-    ∙ append-nil (list-of k (λ _. refusal-number r))
-    ∙ list-of-constant k (refusal-number r)
-    ∙ ap₂ (λ m y. replicate m y) (sym l) (sym q)
-    ∙ sym f)
-    (ran-refused s numbers old e k (omega arith))
-
--- a run keeps a session sound, and leaves one that is not as it was
-pub runs-sound : {s : State} {calls : List Call} {returned : List Returned} → session-ruling modulus everything s ≡ accepted → Runs modulus-prime everything s calls returned
-    → session-ruling modulus everything (state-after s returned (length returned)) ≡ accepted
-unfolding state-after
-runs-sound e none = e
-runs-sound {s} e (more h rest) = runs-sound (handles-sound modulus-prime everything s e (λ x l. refl) h) rest
-
-pub runs-unsound : {s : State} {calls : List Call} {returned : List Returned} (r : Refusal) → session-ruling modulus everything s ≡ refused r
-    → Runs modulus-prime everything s calls returned → state-after s returned (length returned) ≡ s
-unfolding state-after
-runs-unsound r e none = refl
-runs-unsound {s} r e (more {c = c} h rest) = runs-unsound r (rw (stays h) e) rest ∙ stays h
-  where
-    stays : {a : Answer} {t : State} → Handles modulus-prime everything s c a t → t ≡ s
-    stays (unsound _ _) = refl
-    stays (refuses _ _ _) = refl
-    stays (carries _ _ _ q _ _ _) = absurd (let z : _≡_ {A = ℕ} 0 1 = cc in omega arith)
-
--- so a list on such a session is answered, unless it is refused itself
-pub data RefusesAll (q : Refusal) (numbers answers : List ℕ) : Ruling → List ℕ → Type 0 where
-  list-first : (r : Refusal) → list-ruling numbers (length answers) ≡ refused r → RefusesAll q numbers answers (refused r) answers
-  every-call : {part : List ℕ} → list-ruling numbers (length answers) ≡ accepted → call-count numbers ≤ length answers
-      → part ≡ replicate (length (take (call-count numbers) answers)) (refusal-number q)
-      → RefusesAll q numbers answers (refused q) (part ++ drop (call-count numbers) answers)
-
 -- what the parts of a replay make of it
 module _ (s : State) (numbers answers : List ℕ) where
+  -- 1 to 6, and then 12 and 13 of the list
+  abbrev first : List Cause
+  first = session-causes modulus s (lent-answers (call-count numbers) (length answers) ∷ [])
+
+  whole : replay-ruling modulus-prime s numbers answers ≡ judge (first ++ list-causes numbers)
+  unfolding replay-ruling
+  whole = refl
+
   -- demand 3 of it
-  pub replays-follow : {t : State} {v : Ruling} {answers′ : List ℕ} → Replays modulus-prime everything s numbers answers v t answers′
-      → DemandThreeOf modulus-prime everything s numbers answers t answers′
+  pub replays-follow : {t : State} {v : Ruling} {answers′ : List ℕ} → Replays modulus-prime s numbers answers v t answers′
+      → DemandThreeOf modulus-prime s numbers answers t answers′
   unfolding pairs-on
-  replays-follow (refuses-list r e) _ _ ok = absurd (let z : _≡_ {A = ℕ} 0 1 = cc in omega arith)
-  replays-follow (replays returned ok runs) sound unpaired _ = record {
-    returned = returned;
-    runs = runs;
-    left = refl;
-    written = refl;
-    follows =
-        subst (λ ps. FollowsModel modulus-prime (graph-of s) everything ps (calls-of numbers) s returned) (ap (pairs-on (s .sequence)) unpaired)
-        (follows modulus-prime everything s sound (λ x l. refl) (calls-of numbers) returned runs);
-  }
+  replays-follow (refuses-replay r e) ok _ = absurd (let z : _≡_ {A = ℕ} 0 1 = cc in omega arith)
+  replays-follow (replays returned _ runs) ok unpaired =
+      let sound = replay-accepted modulus-prime s numbers answers .0 ok .0 in
+      record {
+        returned = returned;
+        runs = runs;
+        left = refl;
+        written = refl;
+        follows =
+            subst (λ ps. FollowsModel modulus-prime (graph-of s) (in-play s) ps (calls-of numbers) s returned) (ap (pairs-on (s .sequence)) unpaired)
+            (follows modulus-prime s sound (λ x l. refl) (calls-of numbers) returned runs);
+      }
 
-  pub replayed-so : {t : State} {part : List ℕ} {v : Ruling} → list-ruling numbers (length answers) ≡ accepted → call-count numbers ≤ length answers
-      → v ≡ session-ruling modulus everything s → Ran s numbers (take (call-count numbers) answers) (call-count numbers) t part
-      → Replays modulus-prime everything s numbers answers v t (part ++ drop (call-count numbers) answers)
-  replayed-so {t} {part} {v} ok room q R = rw (q, ← R .reached, stored) (replays (R .returned) ok (R .runs))
-    where
-      count : ℕ
-      count = call-count numbers
+  -- all that the contract says of an outcome
+  abbrev pub Outcome : Ruling → State → List ℕ → Bool → Type 0
+  Outcome v t answers′ changed =
+      Replays modulus-prime s numbers answers v t answers′
+      × (DemandThreeOf modulus-prime s numbers answers t answers′
+      × ((returned : List Returned) → Runs modulus-prime s (calls-of numbers) returned → changed ≡ changes v returned))
 
-      over : drop count (take count answers) ≡ []
-      over =
-          ap (λ k. drop k (take count answers)) (sym (length-take-le count answers room)) ∙ drop-length (take count answers)
+  refuses : {r : Refusal} → replay-ruling modulus-prime s numbers answers ≡ refused r → Outcome (refused r) s answers false
+  refuses {r} e = let R = refuses-replay r e in (R, (replays-follow R, λ _ _. refl))
 
-      stored : part ++ drop count answers ≡ onto (numbers-of (R .returned)) answers
-      stored =
-          ap (λ l. l ++ drop count answers) (R .written ∙ ap (λ l. numbers-of (R .returned) ++ l) over ∙ append-nil (numbers-of (R .returned)))
-          ∙ ap (λ k. numbers-of (R .returned) ++ drop k answers) (sym (numbers-length (R .returned) ∙ R .counted))
+  pub session-refused : {r : Refusal} → refused r ≡ judge first → Outcome (refused r) s answers false
+  session-refused e = refuses (whole ∙ judge-first first (list-causes numbers) (sym e))
 
-  pub refused-so : {q : Refusal} {v : Ruling} {answers′ : List ℕ} → session-ruling modulus everything s ≡ refused q → RefusesAll q numbers answers v answers′
-      → Replays modulus-prime everything s numbers answers v s answers′
-  refused-so e (list-first r f) = refuses-list r f
-  refused-so e (every-call {part = part} ok room f) =
-      replayed-so {part = part} ok room (sym e)
-      (ran-filled s numbers (take (call-count numbers) answers) (call-count numbers) _ e (length-take-le (call-count numbers) answers room) refl f)
+  module _ (sound : accepted ≡ judge first) where
+    pub list-refused : {r : Refusal} → refused r ≡ judge (list-causes numbers) → Outcome (refused r) s answers false
+    list-refused e = refuses (whole ∙ judge-second first (list-causes numbers) (sym sound) ∙ sym e)
+
+    pub replayed-so : {t : State} {part : List ℕ} {changed : Bool} → accepted ≡ judge (list-causes numbers) → call-count numbers ≤ length answers
+        → Ran s numbers (take (call-count numbers) answers) (call-count numbers) t part changed
+        → Outcome accepted t (part ++ drop (call-count numbers) answers) changed
+    replayed-so {t} {part} {changed} ok room R =
+        (made, (replays-follow made, λ returned runs. R .marked ∙ ap some-accepted (runs-unique modulus-prime (R .runs) runs)))
+      where
+        count : ℕ
+        count = call-count numbers
+
+        over : drop count (take count answers) ≡ []
+        over =
+            ap (λ k. drop k (take count answers)) (sym (length-take-le count answers room)) ∙ drop-length (take count answers)
+
+        stored : part ++ drop count answers ≡ onto (numbers-of (R .returned)) answers
+        stored =
+            ap (λ l. l ++ drop count answers) (R .written ∙ ap (λ l. numbers-of (R .returned) ++ l) over ∙ append-nil (numbers-of (R .returned)))
+            ∙ ap (λ k. numbers-of (R .returned) ++ drop k answers) (sym (numbers-length (R .returned) ∙ R .counted))
+
+        made : Replays modulus-prime s numbers answers accepted t (part ++ drop count answers)
+        made =
+            rw (← R .reached, stored)
+            (replays (R .returned) (whole ∙ judge-second first (list-causes numbers) (sym sound) ∙ sym ok) (R .runs))
+
+  -- a replay in which no call was accepted leaves the state as it was
+  pub unchanged : {v : Ruling} {t : State} {answers′ : List ℕ} {changed : Bool} → Replays modulus-prime s numbers answers v t answers′
+      → ((returned : List Returned) → Runs modulus-prime s (calls-of numbers) returned → changed ≡ changes v returned) → changed ≡ false → t ≡ s
+  unchanged (refuses-replay r e) C q = refl
+  unchanged (replays returned e runs) C q = runs-kept runs (sym (C returned runs) ∙ q)

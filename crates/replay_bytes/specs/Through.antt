@@ -1,177 +1,162 @@
 -- Replay over lent words, and through the host. Assumes nothing.
-use mathlib.Core.Path.{_≡_, refl, sym, ap, ap₂, subst, _∙_}
-use mathlib.Core.List.{List}
-use Prim.Native.Nat.{ℕ, _*_, _%_, _^_, _≤_, _<_}
+use mathlib.Core.Path.{_≡_, refl, sym, ap, subst, _∙_}
+use mathlib.Core.Bool.{Bool, true, false}
+use mathlib.Core.List.{List, [], _∷_}
+use Prim.Native.Nat.{ℕ, _*_, _^_, _≤_, _<_}
 use native.Mathlib.Omega.{arith}
-use native.Mathlib.Decide.{ℕ-discrete}
 use lib.ListN.{length, take}
 use lib.Seq.{take-all}
+use Rattle.lists.specs.Onto.{onto, onto-front-same}
 use Rattle.residue.specs.Modulus.{modulus, modulus-prime}
-use Rattle.skew.specs.Choose.{choose-yes, choose-no}
 use Rattle.matching.specs.Decision.{Refusal, Ruling, accepted, refused}
-use Rattle.matching.specs.Pairs.{everything}
-use Rattle.matching.specs.Session.{Session, State, onto}
-use Rattle.matching.specs.Causes.{session-ruling}
-use Rattle.matching.specs.Model.{automatic, denied}
-use Rattle.matching.specs.Calls.{state-after, unsound}
-use Rattle.matching.specs.Host.{words, Bytes, bytes-of, number, refusal-number, session-back, unpacked-state}
-use Rattle.matching.specs.Replay.{calls-of, numbers-of, Replays, refuses-list, replays, replay-number, replay-stored, HostReplays, HostDemandThree}
-use Rattle.laws.specs.Sound.{session-accepted}
-use Rattle.laws.specs.Onto.{onto-front-same}
-use Rattle.laws.specs.Numbers.{Small, handles-small, answer-low-byte, made-field}
-use Rattle.numbers.specs.Fits.{FitsNumber}
-use Rattle.soundness.specs.Sound.{state}
-use Rattle.laws.specs.Words.{stored-words}
+use Rattle.matching.specs.Session.{Session, State, state}
+use Rattle.matching.specs.Calls.{state-after}
+use Rattle.matching.specs.Host.{words, Bytes, bytes-of, refusal-number, unpacked-state, handed-back}
+use Rattle.matching.specs.Replay.{call-count, calls-of, lent-answers, list-causes, replay-ruling, Replays, refuses-replay, replays, replay-number, replay-stored, HostReplays, HostDemandThree}
+use Rattle.laws.specs.Numbers.{replays-small, host-replay-session}
+use Rattle.laws.specs.Words.{stored-words, own-front}
+use Rattle.numbers.specs.Fits.{FitsNumber, fits-number}
 use Rattle.crossing.specs.Needed.{needed-weights, needed-agree, needed-counted}
-use Rattle.crossing.specs.Fit.{Fits, needed-inverse, needed-state, table-length, ruling-same}
-use Rattle.crossing.specs.Through.{handed-back}
-use Rattle.call_list.specs.List.{list-small}
-use Rattle.replay.specs.Run.{runs-sound, runs-unsound, RefusesAll, list-first, every-call, refused-so, replays-follow}
+use Rattle.crossing.specs.Fit.{HostFits, needed-inverse, needed-state, room, room-first, table-length, more-same}
+use Rattle.replay.specs.Run.{replays-follow}
 use Rattle.replay_bytes.specs.Wide.{Wide, wide, WideRun, wide-runs}
 
--- none of the words are stored where a replay is refused
-abbrev pub extent : Ruling → ℕ → ℕ
-extent accepted size = size
-extent (refused r) size = 0
+-- none of the words are stored where nothing has changed
+abbrev pub extent : Bool → ℕ → ℕ
+extent true size = size
+extent false size = 0
 
 -- a replay over lent words, where the inverse's bytes are `bytes`
 pub record ReplaysOver (s : State) (numbers answers bytes : List ℕ) (answer : ℕ) (bytes′ sequence′ answers′ : List ℕ) : Type 0 where
   pub verdict : Ruling
   pub left : State
-  pub outcome : Replays modulus-prime everything s numbers answers verdict left answers′
+  pub changed : Bool
+  pub outcome : Replays modulus-prime s numbers answers verdict left answers′
   pub numbered : answer ≡ replay-number verdict (left .session)
-  pub stored : bytes′ ≡ onto (bytes-of (take (extent verdict (length (s .inverse))) (left .inverse))) bytes
+  pub stored : bytes′ ≡ onto (bytes-of (take (extent changed (length (s .inverse))) (left .inverse))) bytes
   pub sequence : sequence′ ≡ left .sequence
+  pub kept : changed ≡ false → left ≡ s
 
--- what a replay leaves fits the number
-abbrev pub SmallRuling : Ruling → Session → Type 0
-SmallRuling accepted s = s .made < 2 ^ 8
-SmallRuling (refused r) s = Small r
+pub extent-small : (changed : Bool) (size : ℕ) → extent changed size ≤ size
+extent-small true size = omega arith
+extent-small false size = omega arith
 
-pub replays-small : {s left : State} {numbers answers answers′ : List ℕ} {v : Ruling} → Replays modulus-prime everything s numbers answers v left answers′
-    → SmallRuling v (left .session)
-replays-small {numbers = numbers} {answers = answers} (refuses-list r e) = list-small numbers (length answers) e
-replays-small {s} (replays returned ok runs) = go (session-ruling modulus everything s) refl
-  where
-    go : (v : Ruling) → session-ruling modulus everything s ≡ v → SmallRuling v (state-after s returned (length returned) .session)
-    go (refused r) e = handles-small modulus-prime everything {s = s} {c = automatic} (unsound r e)
-    go accepted e =
-        let k = session-accepted modulus everything (state-after s returned (length returned)) .0 (runs-sound e runs) .1 in
-        omega (arith, k .well-formed .few, k .in-order .size)
-
-pub extent-small : (v : Ruling) (size : ℕ) → extent v size ≤ size
-extent-small accepted size = omega arith
-extent-small (refused r) size = omega arith
-
-pub fits-number : (v : Ruling) (s : Session) → SmallRuling v s → FitsNumber v (s .made)
-fits-number accepted s h = h
-fits-number (refused r) s h = h .place-below
+pub replays-fit : {s t : State} {numbers answers answers′ : List ℕ} {v : Ruling} → Replays modulus-prime s numbers answers v t answers′
+    → FitsNumber v (t .session .made)
+replays-fit {t = t} {v = v} R = fits-number v (t .session) (replays-small modulus-prime R)
 
 -- a replay over the words that the graph needs is one over all of the host's
 module _ (n made : ℕ) (adjacency weights inverse sequence : List ℕ) (numbers answers : List ℕ) where
   abbrev host : State
   host = state n made adjacency weights inverse sequence
 
-  -- a refusal leaves all as it was
-  refused-back : {r : Refusal} → Small r → session-back (refusal-number r) (host .session) ≡ host .session
-  refused-back {r} h =
-      choose-no (ℕ-discrete (refusal-number r % 2 ^ 8) 0) _ (host .session)
-      (λ z. omega (arith, answer-low-byte (denied r) (host .session) h, h .cause-from))
+  -- what the host has after it: the session is that of the number
+  abbrev after-state : Session → (inverse sequence : List ℕ) → State
+  after-state x i q = record { session = x; adjacency = adjacency; weights = weights; inverse = i; sequence = q }
 
-  pub host-refused : {r : Refusal} {answers′ : List ℕ} {left : State} → Small r → Replays modulus-prime everything (unpacked-state host) numbers answers (refused r) left answers′
-      → HostReplays modulus-prime everything host numbers answers (refusal-number r) (handed-back host (refusal-number r) inverse sequence) answers′
-  host-refused {r} {left = left} h R = record {
-    verdict = refused r;
-    left = left;
-    outcome = R;
-    numbered = refl;
-    stored = ap (λ q. record { session = q; adjacency = adjacency; weights = weights; inverse = inverse; sequence = sequence }) (refused-back h);
-  }
+  handed : {k : ℕ} (x : Session) (i q : List ℕ) {answers′ : List ℕ} → HostReplays modulus-prime host numbers answers k (after-state x i q) answers′
+      → HostReplays modulus-prime host numbers answers k (handed-back host k i q) answers′
+  handed x i q H = rw (← host-replay-session modulus-prime H) H
 
-  -- so does a refusal for the size or the lengths, but for the answers
-  pub host-refuses-all : {q : Refusal} {v : Ruling} {answers′ : List ℕ} → session-ruling modulus everything (unpacked-state host) ≡ refused q → RefusesAll q numbers answers v answers′
-      → FitsNumber v 0
-      × ((k : ℕ) → k ≡ replay-number v (record { size = 0; made = 0 }) → HostReplays modulus-prime everything host numbers answers k (handed-back host k inverse sequence) answers′)
-  host-refuses-all {q} e (list-first r f) =
-      let h = list-small numbers (length answers) f in
-      (h .place-below, λ k w. rw w (host-refused h (refuses-list r f)))
-  host-refuses-all {q} e (every-call {part = part} ok room f) =
-      let h : Small q = handles-small modulus-prime everything {s = unpacked-state host} {c = automatic} (unsound q e) in
-      (h .place-below, λ k w. rw w (host-refused h (refused-so (unpacked-state host) numbers answers e (every-call {part = part} ok room f))))
+  refused-through : {r : Refusal} → replay-ruling modulus-prime (unpacked-state host) numbers answers ≡ refused r
+      → HostReplays modulus-prime host numbers answers (refusal-number r) host answers
+  refused-through {r} e =
+      record { verdict = refused r; left = unpacked-state host; outcome = refuses-replay r e; numbered = refl; stored = refl }
 
-  module _ (B : Bytes inverse) (F : Fits (unpacked-state host)) where
+  -- a refusal for the size or the lengths is the host's
+  module _ {r : Refusal} (e : refused r ≡ room n made adjacency weights inverse sequence) where
+    refuses : replay-ruling modulus-prime (unpacked-state host) numbers answers ≡ refused r
+    unfolding replay-ruling
+    refuses =
+        room-first n made adjacency weights inverse sequence modulus (lent-answers (call-count numbers) (length answers) ∷ []) (list-causes numbers) e
+
+    pub refusal-fits : r .place < 2 ^ 16
+    refusal-fits = replays-small modulus-prime (refuses-replay r refuses) .place-below
+
+    pub host-refuses : HostReplays modulus-prime host numbers answers (refusal-number r) (handed-back host (refusal-number r) inverse sequence) answers
+    host-refuses = handed (host .session) inverse sequence (refused-through refuses)
+
+  module _ (B : Bytes inverse) (F : HostFits (unpacked-state host)) where
     abbrev u : List ℕ
     u = needed-weights n weights
 
     beside : Wide n adjacency u (words weights) (words inverse) (needed-state host) (unpacked-state host)
     beside =
         subst (λ i. Wide n adjacency u (words weights) (words inverse) (needed-state host) (state n made adjacency (words weights) i sequence))
-        (onto-front-same (n * n) (words inverse) (F .1 .1 .1 .0))
-        (wide made (needed-inverse n inverse) sequence (table-length n made adjacency weights inverse sequence F) (F .1 .1 .1 .1 .0))
+        (onto-front-same (n * n) (words inverse) (F .fits .inverse-fits))
+        (wide made (needed-inverse n inverse) sequence (table-length n made adjacency weights inverse sequence F) (F .fits .sequence-fits))
 
-    same : session-ruling modulus everything (unpacked-state host) ≡ session-ruling modulus everything (needed-state host)
-    same = sym (ruling-same n made adjacency weights inverse sequence F modulus everything)
+    same : replay-ruling modulus-prime (unpacked-state host) numbers answers ≡ replay-ruling modulus-prime (needed-state host) numbers answers
+    unfolding replay-ruling
+    same =
+        sym (more-same n made adjacency weights inverse sequence F modulus (lent-answers (call-count numbers) (length answers) ∷ []) (list-causes numbers))
+
+    -- the words that are left, stored
+    abbrev stored-bytes : State → List ℕ
+    stored-bytes left = onto (bytes-of (take (n * n) (left .inverse))) inverse
+
+    -- those that were there are the bytes that were there, and so need not be stored
+    same-bytes : {left : State} → left ≡ needed-state host → stored-bytes left ≡ inverse
+    same-bytes q =
+        ap stored-bytes q
+        ∙ ap (λ w. onto (bytes-of w) inverse) (take-all (n * n) (needed-inverse n inverse) (omega (arith, table-length n made adjacency weights inverse sequence F)))
+        ∙ own-front (n * n) inverse B (F .fits .inverse-fits)
+
+    as-stored : (changed : Bool) (left : State) → (changed ≡ false → left ≡ needed-state host)
+        → onto (bytes-of (take (extent changed (n * n)) (left .inverse))) inverse ≡ stored-bytes left
+    unfolding bytes-of
+    as-stored true left kept = refl
+    as-stored false left kept = sym (same-bytes (kept refl))
 
     -- the last state of both, stored
     record Last (small large : State) : Type 0 where
       sessions : large .session ≡ small .session
-      stored : small .session .made < 2 ^ 8
-          → handed-back host (number 0 5 0 (small .session .made)) (onto (bytes-of (take (n * n) (small .inverse))) inverse) (small .sequence) ≡ replay-stored accepted large host
+      stored : after-state (small .session) (stored-bytes small) (small .sequence) ≡ replay-stored accepted large host
 
     last : {small large : State} → Wide n adjacency u (words weights) (words inverse) small large → Last small large
     last (wide m table order full long) = record {
       sessions = refl;
-      stored = λ h.
-          ap₂ (λ q i. record { session = q; adjacency = adjacency; weights = weights; inverse = i; sequence = order })
-          (choose-yes (ℕ-discrete (number 0 5 0 m % 2 ^ 8) 0) _ (host .session) (omega arith)
-          ∙ ap (λ k. record { size = n; made = k }) (made-field 0 5 0 m (omega arith) (omega arith) (omega arith) h))
-          (ap (λ w. onto (bytes-of w) inverse) (take-all (n * n) table (omega arith)) ∙ sym (stored-words table inverse B (omega (arith, F .1 .1 .1 .0))));
+      stored =
+          ap (λ i. after-state (record { size = n; made = m }) i order)
+          (ap (λ w. onto (bytes-of w) inverse) (take-all (n * n) table (omega arith)) ∙ sym (stored-words table inverse B (omega (arith, F .fits .inverse-fits))));
     }
 
-    through : {v : Ruling} {left : State} {answers′ : List ℕ} → Replays modulus-prime everything (needed-state host) numbers answers v left answers′
-        → SmallRuling v (left .session)
-        → HostReplays modulus-prime everything host numbers answers (replay-number v (left .session)) (handed-back host (replay-number v (left .session)) (onto (bytes-of (take (extent v (n * n)) (left .inverse))) inverse) (left .sequence)) answers′
-    unfolding bytes-of
-    through (refuses-list r e) h = host-refused h (refuses-list r e)
-    through (replays returned ok runs) h = by-ruling (session-ruling modulus everything (needed-state host)) refl h
+    through : {v : Ruling} {left : State} {answers′ : List ℕ} → Replays modulus-prime (needed-state host) numbers answers v left answers′
+        → HostReplays modulus-prime host numbers answers (replay-number v (left .session)) (after-state (left .session) (stored-bytes left) (left .sequence)) answers′
+    through (refuses-replay r e) = rw (same-bytes {left = needed-state host} refl) (refused-through (same ∙ e))
+    through (replays returned ok runs) =
+        let L = last (W .last) in
+        record {
+          verdict = accepted;
+          left = state-after (unpacked-state host) (W .returned′) (length (W .returned′));
+          outcome = rw (← W .numbers) (replays (W .returned′) (same ∙ ok) (W .runs));
+          numbered = ap (replay-number accepted) (sym (L .sessions));
+          stored = L .stored;
+        }
       where
-        end : State
-        end = state-after (needed-state host) returned (length returned)
-
-        W : WideRun n adjacency u (words weights) (words inverse) (needed-agree n weights (F .0)) (F .1 .0) (omega (arith, needed-counted n weights (F .0) (F .1 .1 .0))) (F .1 .1 .0) (unpacked-state host) (calls-of numbers) (needed-state host) returned
-        W = wide-runs n adjacency u (words weights) (words inverse) (needed-agree n weights (F .0)) (F .1 .0) (omega (arith, needed-counted n weights (F .0) (F .1 .1 .0))) (F .1 .1 .0) beside runs
-
-        ran : (v : Ruling) → session-ruling modulus everything (needed-state host) ≡ v
-            → Replays modulus-prime everything (unpacked-state host) numbers answers v (state-after (unpacked-state host) (W .returned′) (length (W .returned′))) (onto (numbers-of returned) answers)
-        ran v e = rw (← W .numbers, ← (same ∙ e)) (replays (W .returned′) ok (W .runs))
-
-        by-ruling : (v : Ruling) → session-ruling modulus everything (needed-state host) ≡ v → SmallRuling v (end .session)
-            → HostReplays modulus-prime everything host numbers answers (replay-number v (end .session)) (handed-back host (replay-number v (end .session)) (onto (bytes-of (take (extent v (n * n)) (end .inverse))) inverse) (end .sequence)) (onto (numbers-of returned) answers)
-        by-ruling (refused r) e h =
-            subst (λ (t : State). HostReplays modulus-prime everything host numbers answers (refusal-number r) (handed-back host (refusal-number r) inverse (t .sequence)) (onto (numbers-of returned) answers))
-            (sym (runs-unsound r e runs)) (host-refused h (ran (refused r) e))
-        by-ruling accepted e h =
-            let L = last (W .last) in
-            record {
-              verdict = accepted;
-              left = state-after (unpacked-state host) (W .returned′) (length (W .returned′));
-              outcome = ran accepted e;
-              numbered = ap (λ (q : Session). number 0 5 0 (q .made)) (sym (L .sessions));
-              stored = L .stored h;
-            }
+        W : WideRun n adjacency u (words weights) (words inverse) (needed-agree n weights (F .size)) (F .fits .graph .cells) (omega (arith, needed-counted n weights (F .size) (F .fits .graph .weights))) (F .fits .graph .weights) (unpacked-state host) (calls-of numbers) (needed-state host) returned
+        W = wide-runs n adjacency u (words weights) (words inverse) (needed-agree n weights (F .size)) (F .fits .graph .cells) (omega (arith, needed-counted n weights (F .size) (F .fits .graph .weights))) (F .fits .graph .weights) beside runs
 
     pub host-replays : {k : ℕ} {inverse′ sequence′ answers′ : List ℕ} → ReplaysOver (needed-state host) numbers answers inverse k inverse′ sequence′ answers′
-        → HostReplays modulus-prime everything host numbers answers k (handed-back host k inverse′ sequence′) answers′
-    host-replays O =
-        rw (O .numbered, O .stored, O .sequence, table-length n made adjacency weights inverse sequence F)
-        (through (O .outcome) (replays-small (O .outcome)))
+        → HostReplays modulus-prime host numbers answers k (handed-back host k inverse′ sequence′) answers′
+    host-replays {inverse′ = inverse′} O =
+        rw (O .numbered, bytes, O .sequence) (handed (O .left .session) (stored-bytes (O .left)) (O .left .sequence) (through (O .outcome)))
+      where
+        bytes : inverse′ ≡ stored-bytes (O .left)
+        bytes =
+            O .stored
+            ∙ ap (λ k. onto (bytes-of (take (extent (O .changed) k) (O .left .inverse))) inverse) (table-length n made adjacency weights inverse sequence F)
+            ∙ as-stored (O .changed) (O .left) (O .kept)
 
 -- demand 3 through the host
-pub host-demand : {s after : State} {numbers answers answers′ : List ℕ} {k : ℕ} → HostReplays modulus-prime everything s numbers answers k after answers′
-    → HostDemandThree modulus-prime everything s numbers answers after answers′
-host-demand {s} {after} {numbers} {answers} {answers′} H sound unpaired ok =
-    (H .left, replays-follow (unpacked-state s) numbers answers (H .outcome) sound unpaired ok, H .stored ∙ ap (λ v. replay-stored v (H .left) s) (verdict (H .outcome)))
+pub host-demand : {s after : State} {numbers answers answers′ : List ℕ} {k : ℕ} → HostReplays modulus-prime s numbers answers k after answers′
+    → HostDemandThree modulus-prime s numbers answers after answers′
+host-demand {s} {numbers = numbers} {answers = answers} H ok unpaired = (
+  H .left,
+  replays-follow (unpacked-state s) numbers answers (H .outcome) ok unpaired,
+  H .stored ∙ ap (λ v. replay-stored v (H .left) s) (verdict (H .outcome)),
+)
   where
-    verdict : {v : Ruling} {left : State} {a : List ℕ} → Replays modulus-prime everything (unpacked-state s) numbers answers v left a → v ≡ accepted
-    verdict (refuses-list r e) = absurd (let z : _≡_ {A = ℕ} 0 1 = cc in omega arith)
-    verdict (replays returned _ _) = sound
+    verdict : {v : Ruling} {left : State} {a : List ℕ} → Replays modulus-prime (unpacked-state s) numbers answers v left a → v ≡ accepted
+    verdict (refuses-replay r e) = absurd (let z : _≡_ {A = ℕ} 0 1 = cc in omega arith)
+    verdict (replays _ _ _) = refl

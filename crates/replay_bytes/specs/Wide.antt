@@ -1,37 +1,23 @@
 -- A run over the words that a graph needs is a run over all that are lent. Assumes nothing.
 use mathlib.Core.Path.{_≡_, refl, sym, ap, ap₂, _∙_}
-use mathlib.Core.List.{List, [], _∷_, _++_, append-nil}
+use mathlib.Core.List.{List, [], _∷_}
 use Prim.Native.Nat.{ℕ, _*_, _≤_}
 use native.Mathlib.Omega.{arith}
-use lib.ListN.{length, drop, length-append, length-drop, List·getD-append}
-use lib.Seq.{drop-length, drop-at}
+use lib.ListN.{length, drop, length-append, List·getD-append}
+use Rattle.lists.specs.Onto.{onto, onto-again, onto-covers, onto-longer}
 use Rattle.residue.specs.Modulus.{modulus, modulus-prime}
 use Rattle.matching.specs.Decision.{accepted}
 use Rattle.matching.specs.Graph.{over, pair-count}
-use Rattle.matching.specs.Pairs.{everything, pairs-on, sequence}
-use Rattle.matching.specs.Session.{State, with-pairs, onto}
+use Rattle.matching.specs.Pairs.{pairs-on, sequence}
+use Rattle.matching.specs.Session.{in-play, State, with-pairs, state}
 use Rattle.matching.specs.Causes.{session-ruling}
 use Rattle.matching.specs.Model.{Call, Answer, step}
 use Rattle.matching.specs.Calls.{Returned, state-after, Handles, unsound, refuses, carries, Runs, none, more}
 use Rattle.matching.specs.Host.{answer-number}
 use Rattle.matching.specs.Replay.{numbers-of}
 use Rattle.laws.specs.Sound.{session-accepted}
-use Rattle.soundness.specs.Sound.{state}
 use Rattle.crossing.specs.Same.{table-same}
 use Rattle.crossing.specs.Steps.{Agree, step-same, session-same}
-
--- words over a list as long as they are
-covers : (new old : List ℕ) → length old ≡ length new → onto new old ≡ new
-covers new old e = ap (λ k. new ++ drop k old) (sym e) ∙ ap (λ l. new ++ l) (drop-length old) ∙ append-nil new
-
--- new words over words over old ones
-again : (new middle old : List ℕ) → length middle ≡ length new → onto new (onto middle old) ≡ onto new old
-again new middle old e =
-    ap (λ l. new ++ l)
-    (ap (λ k. drop k (onto middle old)) (sym e) ∙ drop-at middle (drop (length middle) old) (length middle) refl ∙ ap (λ k. drop k old) e)
-
-onto-longer : (new old : List ℕ) → length old ≤ length (onto new old)
-onto-longer new old = omega (arith, length-append new (drop (length new) old), length-drop (length new) old)
 
 -- a state over the words needed, and the same over all: u are the weights that n vertices need and v all of them; old are all words that the
 -- inverse had
@@ -48,28 +34,28 @@ module _ (n : ℕ) (adjacency u v old : List ℕ) (agree : Agree (pair-count n) 
     abbrev wide-state : State
     wide-state = state n made adjacency v (onto words old) order
 
-    same : session-ruling modulus everything wide-state ≡ session-ruling modulus everything small-state
+    same : session-ruling modulus wide-state ≡ session-ruling modulus small-state
     same =
         sym
-        (session-same modulus everything n made adjacency order u v words (onto words old) agree
+        (session-same modulus n made adjacency order u v words (onto words old) agree
         (λ x l. sym (List·getD-append words (drop (length words) old) 0 x (omega arith)))
-        (cells, (enough, (omega arith, (long, tt))))
-        (cells, (all, (omega (arith, length-append words (drop (length words) old)), (long, tt)))))
+        (record { graph = record { cells = cells; weights = enough }; inverse-fits = omega arith; sequence-fits = long })
+        (record { graph = record { cells = cells; weights = all }; inverse-fits = omega (arith, length-append words (drop (length words) old)); sequence-fits = long }))
 
-    steps : (c : Call) → session-ruling modulus everything small-state ≡ accepted
-        → step modulus-prime (over n adjacency v) everything (pairs-on order made) c ≡ step modulus-prime (over n adjacency u) everything (pairs-on order made) c
+    steps : (c : Call) → session-ruling modulus small-state ≡ accepted
+        → step modulus-prime (over n adjacency v) (in-play small-state) (pairs-on order made) c ≡ step modulus-prime (over n adjacency u) (in-play small-state) (pairs-on order made) c
     steps c e =
-        let I = session-accepted modulus everything small-state .0 e .1 .as-defined .is-inverse in
-        sym (step-same modulus-prime everything n adjacency u v agree (pairs-on order made) c (_, I))
+        let I = session-accepted modulus small-state .0 e .1 .as-defined .is-inverse in
+        sym (step-same modulus-prime (in-play small-state) n adjacency u v agree (pairs-on order made) c (_, I))
 
     -- what a call leaves in both
     pub record WideCall (c : Call) (a : Answer) (s′ : State) : Type 0 where
       pub left : State
-      pub handled : Handles modulus-prime everything wide-state c a left
+      pub handled : Handles modulus-prime wide-state c a left
       pub beside : Wide n adjacency u v old s′ left
       pub session-same : left .session ≡ s′ .session
 
-    pub wide-call : {c : Call} {a : Answer} {s′ : State} → Handles modulus-prime everything small-state c a s′ → WideCall c a s′
+    pub wide-call : {c : Call} {a : Answer} {s′ : State} → Handles modulus-prime small-state c a s′ → WideCall c a s′
     wide-call (unsound r e) = record { left = wide-state; handled = unsound r (same ∙ e); beside = wide made words order full long; session-same = refl }
     wide-call {c} (refuses r e k) = record {
       left = wide-state;
@@ -81,7 +67,7 @@ module _ (n : ℕ) (adjacency u v old : List ℕ) (agree : Agree (pair-count n) 
       left = with-pairs (over n adjacency v) pairs table wide-state;
       handled = carries x pairs table (same ∙ e) (steps c e ∙ k) l (table-same n adjacency u v agree I);
       beside =
-          rw (again table words old (full ∙ sym l), covers table words (full ∙ sym l))
+          rw (onto-again words table old (l ∙ sym full), onto-covers table words (full ∙ sym l))
           (wide (length pairs) table (onto (sequence n pairs) order) l (omega (arith, onto-longer (sequence n pairs) order)));
       session-same = refl;
     }
@@ -89,11 +75,11 @@ module _ (n : ℕ) (adjacency u v old : List ℕ) (agree : Agree (pair-count n) 
   -- and what a list of calls does
   pub record WideRun (t : State) (calls : List Call) (s : State) (returned : List Returned) : Type 0 where
     pub returned′ : List Returned
-    pub runs : Runs modulus-prime everything t calls returned′
+    pub runs : Runs modulus-prime t calls returned′
     pub numbers : numbers-of returned′ ≡ numbers-of returned
     pub last : Wide n adjacency u v old (state-after s returned (length returned)) (state-after t returned′ (length returned′))
 
-  pub wide-runs : {s t : State} {calls : List Call} {returned : List Returned} → Wide n adjacency u v old s t → Runs modulus-prime everything s calls returned → WideRun t calls s returned
+  pub wide-runs : {s t : State} {calls : List Call} {returned : List Returned} → Wide n adjacency u v old s t → Runs modulus-prime s calls returned → WideRun t calls s returned
   unfolding state-after
   wide-runs W none = record { returned′ = []; runs = none; numbers = refl; last = W }
   wide-runs (wide made words order full long) (more {c = c} {calls = calls} {r = r} {later = later} h rest) =

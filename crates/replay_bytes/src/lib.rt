@@ -1,30 +1,27 @@
 // Replay with numbers and byte slices: what the host's entry calls. Words cross as two bytes, low first (docs/HOST.md).
-use checks::Ruling;
+use refusals::Ruling;
 use session::Session;
 ghost use mathlib.Core.Path.{_≡_};
 ghost use Prim.Native.Nat.{_*_, _≤_};
 ghost use lib.ListN.{length};
 ghost use Rattle.residue.specs.Modulus.{modulus-prime};
-ghost use Rattle.matching.specs.Pairs.{everything};
-ghost use Rattle.matching.specs.Host.{unpacked-state};
+ghost use Rattle.matching.specs.Host.{unpacked-state, handed-back};
 ghost use Rattle.matching.specs.Replay.{HostReplays, HostDemandThree};
-ghost use Rattle.checks.specs.Answers.{ruling-of};
-ghost use Rattle.soundness.specs.Sound.{state};
-ghost use Rattle.crossing.specs.Fit.{Fits};
-ghost use Rattle.crossing.specs.Through.{handed-back};
+ghost use Rattle.matching.specs.Session.{state};
+ghost use Rattle.crossing.specs.Fit.{HostFits};
 ghost use Rattle.replay_bytes.specs.Through.{extent, ReplaysOver};
 
-// Whether the words are to be stored, and so how many of them.
-fn extent(ruling: Ruling, size: usize) -> usize
-    ensures { λ r. ⌜ r ≡ extent (ruling-of ruling) size ⌝ }
+// Returns how many words are to be stored: none where nothing has changed.
+fn extent(changed: bool, size: usize) -> usize
+    ensures { λ r. ⌜ r ≡ extent changed size ⌝ }
 {
-    match ruling {
-        Ruling::Accepted => size,
-        Ruling::Refused(_) => 0,
+    if changed {
+        return size;
     }
+    0
 }
 
-// A replay over lent words, answered by one number. Unless it is refused, the words of the table are stored as the inverse's bytes.
+// Replays over lent words, and answers one number. Where a call was accepted, the words of the table are stored as the inverse's bytes.
 fn replay_over(
     n: usize,
     made: usize,
@@ -46,12 +43,13 @@ fn replay_over(
     let replayed = replay::replay(session, adjacency, weights, table, sequence, list, answers);
     let after = replayed.session;
     let ruling = replayed.ruling;
-    let count = extent(ruling, size);
+    let changed = replayed.changed;
+    let count = extent(changed, size);
     packing::store(table, count, inverse);
     numbers::ruled(5, ruling, after.made)
 }
 
-// The same over bytes, of which as many words are read as the graph needs.
+// Replays over bytes, of which as many words are read as the graph needs.
 fn replay_words(
     n: usize,
     made: usize,
@@ -62,10 +60,10 @@ fn replay_words(
     list: &[u64],
     answers: &mut [u64],
 ) -> u64
-    requires { ⌜ Fits (unpacked-state (state n made (now adjacency) (now weights) (now inverse) (now sequence))) ⌝ }
+    requires { ⌜ HostFits (unpacked-state (state n made (now adjacency) (now weights) (now inverse) (now sequence))) ⌝ }
     ensures { λ r.
         let before = state n made (now (adjacency .entry)) (now (weights .entry)) (now (inverse .entry)) (now (sequence .entry)) in
-        ⌜ HostReplays modulus-prime everything before (now (list .entry)) (now (answers .entry)) r (handed-back before r (now (inverse .exit)) (now (sequence .exit))) (now (answers .exit)) ⌝ }
+        ⌜ HostReplays modulus-prime before (now (list .entry)) (now (answers .entry)) r (handed-back before r (now (inverse .exit)) (now (sequence .exit))) (now (answers .exit)) ⌝ }
 {
     let mut values = [0u16; 4560];
     let mut table = [0u16; 9216];
@@ -85,7 +83,7 @@ fn replay_words(
     )
 }
 
-// A replay through the host. Words are taken only where the size and the lengths are in order.
+// Replays through the host. Words are taken only where the size and the lengths are in order.
 pub fn replay(
     n: usize,
     made: usize,
@@ -98,10 +96,10 @@ pub fn replay(
 ) -> u64
     ensures run { λ r.
         let before = state n made (now (adjacency .entry)) (now (weights .entry)) (now (inverse .entry)) (now (sequence .entry)) in
-        ⌜ HostReplays modulus-prime everything before (now (list .entry)) (now (answers .entry)) r (handed-back before r (now (inverse .exit)) (now (sequence .exit))) (now (answers .exit)) ⌝ }
+        ⌜ HostReplays modulus-prime before (now (list .entry)) (now (answers .entry)) r (handed-back before r (now (inverse .exit)) (now (sequence .exit))) (now (answers .exit)) ⌝ }
     ensures demand { λ r.
         let before = state n made (now (adjacency .entry)) (now (weights .entry)) (now (inverse .entry)) (now (sequence .entry)) in
-        ⌜ HostDemandThree modulus-prime everything before (now (list .entry)) (now (answers .entry)) (handed-back before r (now (inverse .exit)) (now (sequence .exit))) (now (answers .exit)) ⌝ }
+        ⌜ HostDemandThree modulus-prime before (now (list .entry)) (now (answers .entry)) (handed-back before r (now (inverse .exit)) (now (sequence .exit))) (now (answers .exit)) ⌝ }
 {
     let lengths = checks::judge_lengths(
         n,
@@ -111,8 +109,7 @@ pub fn replay(
         sequence.len(),
     );
     if let Ruling::Refused(refusal) = lengths {
-        let ruling = replay::refuse(refusal, list, answers);
-        return numbers::ruled(5, ruling, 0);
+        return numbers::refused(refusal);
     }
     replay_words(
         n,

@@ -1,11 +1,10 @@
 // Open row with numbers and byte slices: what the host's entry calls. Words cross as two bytes, low first (docs/HOST.md).
-use checks::Ruling;
+use refusals::Ruling;
 use session::Session;
 ghost use Rattle.residue.specs.Modulus.{modulus-prime};
-ghost use Rattle.matching.specs.Pairs.{everything};
 ghost use Rattle.matching.specs.Host.{unpacked-state, HostShowsRow};
-ghost use Rattle.soundness.specs.Sound.{state};
-ghost use Rattle.crossing.specs.Fit.{Fits};
+ghost use Rattle.matching.specs.Session.{state};
+ghost use Rattle.crossing.specs.Fit.{HostFits};
 ghost use Rattle.row_bytes.specs.Through.{ShowsOver};
 
 // Open row over lent words, answered by one number.
@@ -19,7 +18,6 @@ fn row_over(
     sequence: &[u8],
     row: &mut [u8],
 ) -> u64
-    requires { ⌜ Fits (state n made (now adjacency) (now weights) (now inverse) (now sequence)) ⌝ }
     ensures { λ r. ⌜ ShowsOver (state n made (now (adjacency .entry)) (now (weights .entry)) (now (inverse .entry)) (now (sequence .entry))) a (now (row .entry)) r (now (row .exit)) ⌝ }
 {
     let session = Session { size: n, made };
@@ -39,10 +37,10 @@ fn row_words(
     sequence: &[u8],
     row: &mut [u8],
 ) -> u64
-    requires { ⌜ Fits (unpacked-state (state n made (now adjacency) (now weights) (now inverse) (now sequence))) ⌝ }
+    requires { ⌜ HostFits (unpacked-state (state n made (now adjacency) (now weights) (now inverse) (now sequence))) ⌝ }
     ensures { λ r.
         let before = state n made (now (adjacency .entry)) (now (weights .entry)) (now (inverse .entry)) (now (sequence .entry)) in
-        ⌜ HostShowsRow modulus-prime everything before a (now (row .entry)) r before (now (row .exit)) ⌝ }
+        ⌜ HostShowsRow modulus-prime before a (now (row .entry)) r before (now (row .exit)) ⌝ }
 {
     let mut values = [0u16; 4560];
     let mut table = [0u16; 9216];
@@ -74,7 +72,7 @@ pub fn row(
 ) -> u64
     ensures { λ r.
         let before = state n made (now (adjacency .entry)) (now (weights .entry)) (now (inverse .entry)) (now (sequence .entry)) in
-        ⌜ HostShowsRow modulus-prime everything before a (now (row .entry)) r before (now (row .exit)) ⌝ }
+        ⌜ HostShowsRow modulus-prime before a (now (row .entry)) r before (now (row .exit)) ⌝ }
 {
     let lengths = checks::judge_lengths(
         n,

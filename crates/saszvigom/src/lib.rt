@@ -1,13 +1,11 @@
 // The entries that a host calls with numbers and byte slices. Words cross as two bytes, low first (docs/HOST.md).
 ghost use mathlib.Core.Path.{_≡_};
 ghost use Rattle.residue.specs.Modulus.{modulus, modulus-prime};
-ghost use Rattle.matching.specs.Pairs.{everything};
-ghost use Rattle.matching.specs.Host.{HostOpens, HostOpenedExactly, HostHandles, HostPickedExactly, HostShowsRow, HostReads, HostDraws};
+ghost use Rattle.matching.specs.Host.{HostOpens, HostOpenedExactly, HostHandles, HostPickedExactly, HostShowsRow, HostReads, HostDraws, handed-back};
 ghost use Rattle.matching.specs.Model.{pick, automatic, undo};
 ghost use Rattle.matching.specs.Replay.{HostReplays, HostDemandThree};
-ghost use Rattle.soundness.specs.Sound.{state};
+ghost use Rattle.matching.specs.Session.{state};
 ghost use Rattle.opening.specs.Answers.{buffers};
-ghost use Rattle.crossing.specs.Through.{handed-back};
 ghost use Rattle.saszvigom.specs.Version.{version};
 
 // The version of the library: 0.5.0.
@@ -31,10 +29,10 @@ pub extern "C" fn saszvigom_open(
 ) -> u64
     ensures { λ r.
         let lent = buffers (now (inverse .entry)) (now (sequence .entry)) (now (witness .entry)) (now (work .entry)) in
-        ⌜ HostOpens modulus n (now (adjacency .entry)) (now (weights .entry)) everything lent r (buffers (now (inverse .exit)) (now (sequence .exit)) (now (witness .exit)) (now (work .exit))) ⌝ }
+        ⌜ HostOpens modulus n (now (adjacency .entry)) (now (weights .entry)) lent r (buffers (now (inverse .exit)) (now (sequence .exit)) (now (witness .exit)) (now (work .exit))) ⌝ }
     ensures { λ r.
         let lent = buffers (now (inverse .entry)) (now (sequence .entry)) (now (witness .entry)) (now (work .entry)) in
-        ⌜ HostOpenedExactly modulus n (now (adjacency .entry)) (now (weights .entry)) everything lent r ⌝ }
+        ⌜ HostOpenedExactly modulus n (now (adjacency .entry)) (now (weights .entry)) lent r ⌝ }
 {
     opening_bytes::begin(
         n as usize,
@@ -61,8 +59,8 @@ pub extern "C" fn saszvigom_pick(
 ) -> u64
     ensures handled { λ r.
         let before = state n made (now (adjacency .entry)) (now (weights .entry)) (now (inverse .entry)) (now (sequence .entry)) in
-        ⌜ HostHandles modulus-prime everything before (pick a b) r (handed-back before r (now (inverse .exit)) (now (sequence .exit))) ⌝ }
-    ensures exactly { λ r. ⌜ HostPickedExactly modulus-prime everything (state n made (now (adjacency .entry)) (now (weights .entry)) (now (inverse .entry)) (now (sequence .entry))) a b r ⌝ }
+        ⌜ HostHandles modulus-prime before (pick a b) r (handed-back before r (now (inverse .exit)) (now (sequence .exit))) ⌝ }
+    ensures exactly { λ r. ⌜ HostPickedExactly modulus-prime (state n made (now (adjacency .entry)) (now (weights .entry)) (now (inverse .entry)) (now (sequence .entry))) a b r ⌝ }
 {
     crossing::pick(
         n as usize,
@@ -88,7 +86,7 @@ pub extern "C" fn saszvigom_automatic(
 ) -> u64
     ensures { λ r.
         let before = state n made (now (adjacency .entry)) (now (weights .entry)) (now (inverse .entry)) (now (sequence .entry)) in
-        ⌜ HostHandles modulus-prime everything before automatic r (handed-back before r (now (inverse .exit)) (now (sequence .exit))) ⌝ }
+        ⌜ HostHandles modulus-prime before automatic r (handed-back before r (now (inverse .exit)) (now (sequence .exit))) ⌝ }
 {
     crossing::automatic(
         n as usize,
@@ -112,7 +110,7 @@ pub extern "C" fn saszvigom_undo(
 ) -> u64
     ensures { λ r.
         let before = state n made (now (adjacency .entry)) (now (weights .entry)) (now (inverse .entry)) (now (sequence .entry)) in
-        ⌜ HostHandles modulus-prime everything before undo r (handed-back before r (now (inverse .exit)) (now (sequence .exit))) ⌝ }
+        ⌜ HostHandles modulus-prime before undo r (handed-back before r (now (inverse .exit)) (now (sequence .exit))) ⌝ }
 {
     crossing::undo(
         n as usize,
@@ -138,7 +136,7 @@ pub extern "C" fn saszvigom_row(
 ) -> u64
     ensures { λ r.
         let before = state n made (now (adjacency .entry)) (now (weights .entry)) (now (inverse .entry)) (now (sequence .entry)) in
-        ⌜ HostShowsRow modulus-prime everything before a (now (row .entry)) r before (now (row .exit)) ⌝ }
+        ⌜ HostShowsRow modulus-prime before a (now (row .entry)) r before (now (row .exit)) ⌝ }
 {
     row_bytes::row(
         n as usize,
@@ -166,10 +164,10 @@ pub extern "C" fn saszvigom_replay(
 ) -> u64
     ensures run { λ r.
         let before = state n made (now (adjacency .entry)) (now (weights .entry)) (now (inverse .entry)) (now (sequence .entry)) in
-        ⌜ HostReplays modulus-prime everything before (now (calls .entry)) (now (answers .entry)) r (handed-back before r (now (inverse .exit)) (now (sequence .exit))) (now (answers .exit)) ⌝ }
+        ⌜ HostReplays modulus-prime before (now (calls .entry)) (now (answers .entry)) r (handed-back before r (now (inverse .exit)) (now (sequence .exit))) (now (answers .exit)) ⌝ }
     ensures demand { λ r.
         let before = state n made (now (adjacency .entry)) (now (weights .entry)) (now (inverse .entry)) (now (sequence .entry)) in
-        ⌜ HostDemandThree modulus-prime everything before (now (calls .entry)) (now (answers .entry)) (handed-back before r (now (inverse .exit)) (now (sequence .exit))) (now (answers .exit)) ⌝ }
+        ⌜ HostDemandThree modulus-prime before (now (calls .entry)) (now (answers .entry)) (handed-back before r (now (inverse .exit)) (now (sequence .exit))) (now (answers .exit)) ⌝ }
 {
     replay_bytes::replay(
         n as usize,

@@ -1,15 +1,14 @@
 // The session: its size and the number of pairs made, passed in and handed back by every call. Each call first confirms that the session is
 // sound; the graph's tables are lent to be read, the inverse and the sequence of pairs to be read and written.
 use calls::Answer;
-use checks::Refusal;
-use checks::Ruling;
+use calls::Call;
+use refusals::Ruling;
 ghost use Rattle.residue.specs.Modulus.{modulus-prime};
-ghost use Rattle.matching.specs.Pairs.{everything};
 ghost use Rattle.matching.specs.Model.{pick, automatic, undo};
 ghost use Rattle.matching.specs.Calls.{Handles, PickedExactly, ShowsRow};
-ghost use Rattle.checks.specs.Answers.{ruling-of};
-ghost use Rattle.soundness.specs.Sound.{state};
-ghost use Rattle.calls.specs.Answers.{answer-of};
+ghost use Rattle.matching.specs.Session.{state};
+ghost use Rattle.refusals.specs.Answers.{ruling-of};
+ghost use Rattle.calls.specs.Answers.{call-is, answer-of};
 
 // The size and the number of pairs made.
 pub struct Session {
@@ -30,45 +29,10 @@ pub struct Shown {
 }
 
 impl Session {
-    // Hand pick of a and b.
-    pub fn pick(
+    // Makes a call, if the session is sound.
+    pub fn call(
         self,
-        adjacency: &[u8],
-        weights: &[u16],
-        inverse: &mut [u16],
-        sequence: &mut [u8],
-        a: usize,
-        b: usize,
-    ) -> Returned
-        ensures handled { λ r.
-            let before = state (self .size) (self .made) (now (adjacency .entry)) (now (weights .entry)) (now (inverse .entry)) (now (sequence .entry)) in
-            ⌜ Handles modulus-prime everything before (pick a b) (answer-of (r .answer)) (state (r .session .size) (r .session .made) (now (adjacency .entry)) (now (weights .entry)) (now (inverse .exit)) (now (sequence .exit))) ⌝ }
-        ensures exactly { λ r.
-            let before = state (self .size) (self .made) (now (adjacency .entry)) (now (weights .entry)) (now (inverse .entry)) (now (sequence .entry)) in
-            ⌜ PickedExactly modulus-prime everything before a b (answer-of (r .answer)) ⌝ }
-    {
-        let n = self.size;
-        let made = self.made;
-        let mut marks = [0u8; 96];
-        let ruling = soundness::confirm(n, made, adjacency, weights, inverse, sequence, &mut marks);
-        if let Ruling::Refused(refusal) = ruling {
-            return Returned {
-                session: self,
-                answer: Answer::Denied(refusal),
-            };
-        }
-        let reply = calls::pick(n, made, adjacency, inverse, sequence, &mut marks[..n], a, b);
-        let session = Session {
-            size: n,
-            made: reply.made,
-        };
-        let answer = reply.answer;
-        Returned { session, answer }
-    }
-
-    // Automatic pick: the lowest vertex left, with its lowest partner.
-    pub fn automatic(
-        self,
+        call: Call,
         adjacency: &[u8],
         weights: &[u16],
         inverse: &mut [u16],
@@ -76,7 +40,7 @@ impl Session {
     ) -> Returned
         ensures { λ r.
             let before = state (self .size) (self .made) (now (adjacency .entry)) (now (weights .entry)) (now (inverse .entry)) (now (sequence .entry)) in
-            ⌜ Handles modulus-prime everything before automatic (answer-of (r .answer)) (state (r .session .size) (r .session .made) (now (adjacency .entry)) (now (weights .entry)) (now (inverse .exit)) (now (sequence .exit))) ⌝ }
+            ⌜ Handles modulus-prime before (call-is call) (answer-of (r .answer)) (state (r .session .size) (r .session .made) (now (adjacency .entry)) (now (weights .entry)) (now (inverse .exit)) (now (sequence .exit))) ⌝ }
     {
         let n = self.size;
         let made = self.made;
@@ -88,38 +52,8 @@ impl Session {
                 answer: Answer::Denied(refusal),
             };
         }
-        let reply = calls::automatic(n, made, adjacency, inverse, sequence, &mut marks[..n]);
-        let session = Session {
-            size: n,
-            made: reply.made,
-        };
-        let answer = reply.answer;
-        Returned { session, answer }
-    }
-
-    // Take-back: the newest pair is removed.
-    pub fn undo(
-        self,
-        adjacency: &[u8],
-        weights: &[u16],
-        inverse: &mut [u16],
-        sequence: &mut [u8],
-    ) -> Returned
-        ensures { λ r.
-            let before = state (self .size) (self .made) (now (adjacency .entry)) (now (weights .entry)) (now (inverse .entry)) (now (sequence .entry)) in
-            ⌜ Handles modulus-prime everything before undo (answer-of (r .answer)) (state (r .session .size) (r .session .made) (now (adjacency .entry)) (now (weights .entry)) (now (inverse .exit)) (now (sequence .exit))) ⌝ }
-    {
-        let n = self.size;
-        let made = self.made;
-        let mut marks = [0u8; 96];
-        let ruling = soundness::confirm(n, made, adjacency, weights, inverse, sequence, &mut marks);
-        if let Ruling::Refused(refusal) = ruling {
-            return Returned {
-                session: self,
-                answer: Answer::Denied(refusal),
-            };
-        }
-        let reply = calls::undo(
+        let reply = calls::make(
+            call,
             n,
             made,
             adjacency,
@@ -136,6 +70,56 @@ impl Session {
         Returned { session, answer }
     }
 
+    // Hand pick of a and b.
+    pub fn pick(
+        self,
+        adjacency: &[u8],
+        weights: &[u16],
+        inverse: &mut [u16],
+        sequence: &mut [u8],
+        a: usize,
+        b: usize,
+    ) -> Returned
+        ensures handled { λ r.
+            let before = state (self .size) (self .made) (now (adjacency .entry)) (now (weights .entry)) (now (inverse .entry)) (now (sequence .entry)) in
+            ⌜ Handles modulus-prime before (pick a b) (answer-of (r .answer)) (state (r .session .size) (r .session .made) (now (adjacency .entry)) (now (weights .entry)) (now (inverse .exit)) (now (sequence .exit))) ⌝ }
+        ensures exactly { λ r.
+            let before = state (self .size) (self .made) (now (adjacency .entry)) (now (weights .entry)) (now (inverse .entry)) (now (sequence .entry)) in
+            ⌜ PickedExactly modulus-prime before a b (answer-of (r .answer)) ⌝ }
+    {
+        self.call(Call::Pick(a, b), adjacency, weights, inverse, sequence)
+    }
+
+    // Automatic pick: the lowest vertex left, with its lowest partner.
+    pub fn automatic(
+        self,
+        adjacency: &[u8],
+        weights: &[u16],
+        inverse: &mut [u16],
+        sequence: &mut [u8],
+    ) -> Returned
+        ensures { λ r.
+            let before = state (self .size) (self .made) (now (adjacency .entry)) (now (weights .entry)) (now (inverse .entry)) (now (sequence .entry)) in
+            ⌜ Handles modulus-prime before automatic (answer-of (r .answer)) (state (r .session .size) (r .session .made) (now (adjacency .entry)) (now (weights .entry)) (now (inverse .exit)) (now (sequence .exit))) ⌝ }
+    {
+        self.call(Call::Automatic, adjacency, weights, inverse, sequence)
+    }
+
+    // Take-back: the newest pair is removed.
+    pub fn undo(
+        self,
+        adjacency: &[u8],
+        weights: &[u16],
+        inverse: &mut [u16],
+        sequence: &mut [u8],
+    ) -> Returned
+        ensures { λ r.
+            let before = state (self .size) (self .made) (now (adjacency .entry)) (now (weights .entry)) (now (inverse .entry)) (now (sequence .entry)) in
+            ⌜ Handles modulus-prime before undo (answer-of (r .answer)) (state (r .session .size) (r .session .made) (now (adjacency .entry)) (now (weights .entry)) (now (inverse .exit)) (now (sequence .exit))) ⌝ }
+    {
+        self.call(Call::Undo, adjacency, weights, inverse, sequence)
+    }
+
     // Open row: for each vertex, whether a pick of it with a would be accepted.
     pub fn row(
         self,
@@ -148,31 +132,23 @@ impl Session {
     ) -> Shown
         ensures { λ r.
             let before = state (self .size) (self .made) (now (adjacency .entry)) (now (weights .entry)) (now (inverse .entry)) (now (sequence .entry)) in
-            ⌜ ShowsRow modulus-prime everything before a (now (row .entry)) (ruling-of (r .ruling)) (state (r .session .size) (r .session .made) (now (adjacency .entry)) (now (weights .entry)) (now (inverse .entry)) (now (sequence .entry))) (now (row .exit)) ⌝ }
+            ⌜ ShowsRow modulus-prime before a (now (row .entry)) (ruling-of (r .ruling)) (state (r .session .size) (r .session .made) (now (adjacency .entry)) (now (weights .entry)) (now (inverse .entry)) (now (sequence .entry))) (now (row .exit)) ⌝ }
     {
         let n = self.size;
         let made = self.made;
-        let lengths = checks::judge_lengths(
-            n,
-            adjacency.len(),
-            weights.len(),
-            inverse.len(),
-            sequence.len(),
-        );
-        if let Ruling::Refused(refusal) = lengths {
-            return Shown {
-                session: self,
-                ruling: Ruling::Refused(refusal),
-            };
-        }
-        if row.len() < n {
-            return Shown {
-                session: self,
-                ruling: Ruling::Refused(Refusal { cause: 2, place: 7 }),
-            };
-        }
         let mut marks = [0u8; 96];
-        let sound = soundness::confirm(n, made, adjacency, weights, inverse, sequence, &mut marks);
+        let sound = soundness::confirm_lent(
+            n,
+            made,
+            adjacency,
+            weights,
+            inverse,
+            sequence,
+            7,
+            row.len(),
+            n,
+            &mut marks,
+        );
         if let Ruling::Refused(refusal) = sound {
             return Shown {
                 session: self,

@@ -1,9 +1,9 @@
 -- The answers of this crate in the terms of the definitions: what the contracts of `src/` cite. Assumes nothing.
-use Rattle.matching.specs.Decision.{because}
 use Rattle.matching.specs.Records as definition
+use Rattle.refusals.specs.Answers.{refusal-of}
 use Rattle.sheet.specs.declared.Read.{Read}
 use Rattle.sheet.specs.declared.Read.the-variants.{Graph, Refused}
 
 abbrev pub read-of : Read → definition.Read
 read-of (Graph e) = definition.graph-read (e .size) (e .edges)
-read-of (Refused r) = definition.not-read (because (r .cause) (r .place))
+read-of (Refused r) = definition.not-read (refusal-of r)

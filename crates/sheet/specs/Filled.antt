@@ -3,12 +3,12 @@ use mathlib.Core.Path.{_≡_, sym, ap, _∙_}
 use mathlib.Core.List.{List, _++_}
 use Prim.Native.Nat.{ℕ, _*_, _≤_, _<_}
 use lib.ListN.{length, drop}
+use Rattle.lists.specs.Onto.{onto}
 use Rattle.draws.specs.Draws.{draws}
 use Rattle.draws.specs.Laws.{draws-length}
 use Rattle.matching.specs.Decision.{because, accepted, refused}
 use Rattle.matching.specs.Graph.{pair-count}
 use Rattle.matching.specs.Pairs.{Pair}
-use Rattle.matching.specs.Session.{onto}
 use Rattle.matching.specs.Records.{start, sheet, ReadsFrom, cells, Read, graph-read, not-read, room, FillsFrom, lacks-room, fills}
 use Rattle.laws.specs.Reading.{Fit}
 use Rattle.laws.specs.Cells.{cells-length}

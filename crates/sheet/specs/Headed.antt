@@ -1,17 +1,18 @@
 -- The first two records of a sheet. Assumes nothing.
-use mathlib.Core.Logic.{_≢_}
-use mathlib.Core.List.{List, []}
+use mathlib.Core.List.{List, [], _∷_}
 use Prim.Native.Nat.{ℕ, _+_, _≤_, _<_}
 use Rattle.draws.specs.Draws.{draws}
 use Rattle.matching.specs.Decision.{because}
 use Rattle.matching.specs.Graph.{largest, pair-count}
-use Rattle.matching.specs.Records.{kind, Progress, start, sized, weighted, takes-size, takes-seed, too-large-size, unread}
+use Rattle.matching.specs.Records.{Progress, start, sized, weighted, takes-size, takes-seed, too-large-size, unread}
 use Rattle.matching.specs.Computed.{only-size, only-seed}
-use Rattle.records.specs.Stands.{record-of, Stands}
+use Rattle.records.specs.Stands.{Stands}
 use Rattle.records.specs.declared.Record.{Record}
 use Rattle.records.specs.declared.Record.the-variants.{Size, Seed}
 use Rattle.records.specs.declared.Next.the-variants.{Whole}
+use Rattle.refusals.specs.Answers.{refusal-of}
 use Rattle.due.specs.Follows.{ReadsOn, Follows, taken-here, rejected-here, undue-here}
+use Rattle.due.specs.Others.{Left, other-kind}
 use Rattle.sheet.specs.declared.Start.{Start}
 use Rattle.sheet.specs.declared.Start.the-variants as variants
 
@@ -21,15 +22,15 @@ Behind bytes q at n seed next = Follows bytes q at (weighted n (draws seed (pair
 
 abbrev pub Heads : List ℕ → Progress → ℕ → Start → Type 0
 Heads bytes q at (variants.Headed h) = (h .size ≤ largest) × Behind bytes q at (h .size) (h .seed) (h .next)
-Heads bytes q at (variants.Refused why) = ReadsOn bytes q at (unread (because (why .cause) (why .place)))
+Heads bytes q at (variants.Refused why) = ReadsOn bytes q at (unread (refusal-of why))
 
 module _ {bytes : List ℕ} {at : ℕ} where
   -- another kind than the one due
-  pub not-size : {r : Record} → Stands bytes at (Whole r) → kind (record-of r) ≢ 1 → ReadsOn bytes start at (unread (because 12 at))
-  not-size S d = undue-here S (only-size d)
+  pub not-size : {r : Record} → Stands bytes at (Whole r) → Left (1 ∷ []) r → ReadsOn bytes start at (unread (because 12 at))
+  not-size {r} S left = undue-here S (only-size (other-kind (1 ∷ []) r 1 left tt))
 
-  pub not-seed : {r : Record} {n : ℕ} → Stands bytes at (Whole r) → kind (record-of r) ≢ 3 → ReadsOn bytes (sized n) at (unread (because 12 at))
-  not-seed S d = undue-here S (only-seed d)
+  pub not-seed : {r : Record} {n : ℕ} → Stands bytes at (Whole r) → Left (3 ∷ []) r → ReadsOn bytes (sized n) at (unread (because 12 at))
+  not-seed {r} S left = undue-here S (only-seed (other-kind (3 ∷ []) r 3 left tt))
 
   pub seed-behind : {n s : ℕ} → Stands bytes at (Whole (Seed s)) → Behind bytes (sized n) at n s (at + 5)
   seed-behind S = taken-here S takes-seed

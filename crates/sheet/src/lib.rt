@@ -1,8 +1,9 @@
 // Reading a sheet: the graph that the records of its bytes describe, or a refusal.
-use checks::Refusal;
+use due::Due;
 use due::Found;
 use edges::Edges;
 use records::Record;
+use refusals::Refusal;
 ghost use mathlib.Core.Path.{_≡_};
 ghost use mathlib.Core.List.{[]};
 ghost use Prim.Native.Nat.{_≤_};
@@ -13,7 +14,7 @@ ghost use Rattle.sheet.specs.Answers.{read-of};
 ghost use Rattle.sheet.specs.Headed.{Heads};
 ghost use Rattle.sheet.specs.Filled.{Finishes, Continues};
 
-// How large a graph is: its vertices and its edges.
+// The number of vertices of a graph, and of its edges.
 pub struct Extent {
     pub size: usize,
     pub edges: usize,
@@ -38,60 +39,45 @@ pub enum Start {
     Refused(Refusal),
 }
 
-// Reads the seed record, which is due after the size.
+// Reads the seed record at offset at of bytes, where the seed is due after a size of n.
 fn read_seed(bytes: &[u8], at: usize, n: usize) -> Start
     requires { ⌜ n ≤ largest ⌝ }
     ensures { λ r. ⌜ Heads (now (bytes .entry)) (sized n) at r ⌝ }
 {
-    let undue = Refusal {
-        cause: 12,
-        place: at,
-    };
-    let found = due::found_at(bytes, at, 3, 3);
+    let found = due::found_at(bytes, at, Due::Seed);
     match found {
         Found::Refused(why) => Start::Refused(why),
         Found::Whole(record) => match record {
-            Record::Size(_) => Start::Refused(undue),
-            Record::Share(_) => Start::Refused(undue),
             Record::Seed(seed) => Start::Headed(Head {
                 size: n,
                 seed,
                 next: at + 5,
             }),
-            Record::End => Start::Refused(undue),
+            _ => Start::Refused(refusals::because(12, at)),
         },
     }
 }
 
-// Reads the size record, which is due first, and the seed record.
+// Reads the size record at offset at of bytes, where the size is due, and the seed record behind it.
 fn read_head(bytes: &[u8], at: usize) -> Start
     ensures { λ r. ⌜ Heads (now (bytes .entry)) start at r ⌝ }
 {
-    let undue = Refusal {
-        cause: 12,
-        place: at,
-    };
-    let found = due::found_at(bytes, at, 1, 1);
+    let found = due::found_at(bytes, at, Due::Size);
     match found {
         Found::Refused(why) => Start::Refused(why),
         Found::Whole(record) => match record {
             Record::Size(n) => {
                 if checks::LARGEST < n {
-                    return Start::Refused(Refusal {
-                        cause: 1,
-                        place: at,
-                    });
+                    return Start::Refused(refusals::because(1, at));
                 }
                 read_seed(bytes, at + 2, n)
             }
-            Record::Share(_) => Start::Refused(undue),
-            Record::Seed(_) => Start::Refused(undue),
-            Record::End => Start::Refused(undue),
+            _ => Start::Refused(refusals::because(12, at)),
         },
     }
 }
 
-// Writes a graph that has been read whole, whose cells are in the table, where the lent buffers are long enough.
+// Writes table to adjacency and the draws of seed to weights, if both are long enough for n vertices.
 fn write_graph(
     n: usize,
     seed: u32,
@@ -103,15 +89,15 @@ fn write_graph(
     requires { ⌜ Square n (now table) ⌝ }
     ensures { λ r. ⌜ Finishes n seed count (now (table .entry)) (now (adjacency .entry)) (now (weights .entry)) (read-of r) (now (adjacency .exit)) (now (weights .exit)) ⌝ }
 {
-    let size = n * n;
-    if adjacency.len() < size {
-        return Read::Refused(Refusal { cause: 2, place: 1 });
+    let cells = n * n;
+    if adjacency.len() < cells {
+        return Read::Refused(refusals::because(2, 1));
     }
     let pairs = checks::weights_needed(n);
     if weights.len() < pairs {
-        return Read::Refused(Refusal { cause: 2, place: 2 });
+        return Read::Refused(refusals::because(2, 2));
     }
-    buffers::copy_bytes(table, &mut adjacency[..size]);
+    buffers::copy_bytes(table, &mut adjacency[..cells]);
     draws::fill(&mut weights[..pairs], seed);
     Read::Graph(Extent {
         size: n,
@@ -119,7 +105,8 @@ fn write_graph(
     })
 }
 
-// Reads what follows the first two records, with a table of 0s for the cells.
+// Reads the records from offset next of bytes on, which follow the size n and the seed, into table, where every cell is 0 before, and
+// writes the graph.
 fn read_over(
     bytes: &[u8],
     next: usize,
@@ -139,7 +126,7 @@ fn read_over(
     }
 }
 
-// The same, with a table of its own: the lent one may be too short, and stays as it is where the sheet is refused.
+// Calls read_over with a table of its own: adjacency may be too short, and stays as it is if the sheet is refused.
 fn read_rest(
     bytes: &[u8],
     next: usize,
@@ -153,12 +140,20 @@ fn read_rest(
 {
     // 96 * 96 bytes.
     let mut table = [0u8; 9216];
-    let size = n * n;
-    read_over(bytes, next, n, seed, &mut table[..size], adjacency, weights)
+    let cells = n * n;
+    read_over(
+        bytes,
+        next,
+        n,
+        seed,
+        &mut table[..cells],
+        adjacency,
+        weights,
+    )
 }
 
-// Reads the bytes from an offset to their end. A graph fills the first cells of the adjacency table and the first weights; a refusal
-// leaves both as they were.
+// Reads bytes from offset at to their end. A graph fills the first cells of adjacency and the first of weights; a refusal leaves both
+// as they were.
 pub fn read_at(bytes: &[u8], at: usize, adjacency: &mut [u8], weights: &mut [u16]) -> Read
     ensures { λ r. ⌜ FillsFrom (now (bytes .entry)) at (now (adjacency .entry)) (now (weights .entry)) (read-of r) (now (adjacency .exit)) (now (weights .exit)) ⌝ }
 {

@@ -5,11 +5,11 @@ use Prim.Native.Nat.{ℕ, _≤_, _<_}
 use native.Mathlib.Omega.{arith}
 use native.Mathlib.Decide.{decLt}
 use lib.ListN.{length}
+use Rattle.lists.specs.Choose.{choose}
+use Rattle.lists.specs.Onto.{onto}
 use Rattle.draws.specs.Draws.{draws}
-use Rattle.skew.specs.Choose.{choose}
 use Rattle.matching.specs.Decision.{because, absent, at, when, unless, Ruling, accepted, refused}
 use Rattle.matching.specs.Graph.{largest, pair-count}
-use Rattle.matching.specs.Session.{onto}
 use Rattle.matching.specs.Host.{words, bytes-of, refusal-number, draws-ruling, draws-number, HostDraws}
 
 -- the ruling by its two decisions

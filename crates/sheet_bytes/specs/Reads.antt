@@ -5,10 +5,10 @@ use Prim.Native.Nat.{ℕ, _*_, _≤_, _<_}
 use native.Mathlib.Omega.{arith}
 use native.Mathlib.Decide.{decLt}
 use lib.ListN.{length, take, drop, length-append}
-use Rattle.skew.specs.Choose.{choose}
+use Rattle.lists.specs.Choose.{choose}
+use Rattle.lists.specs.Onto.{onto}
 use Rattle.matching.specs.Decision.{absent, at, unless, accepted}
 use Rattle.matching.specs.Graph.{largest, pair-count}
-use Rattle.matching.specs.Session.{onto}
 use Rattle.matching.specs.Records.{Read, graph-read, not-read, room, Fills, refuses-records, lacks-room, fills}
 use Rattle.matching.specs.Listing.{input-limit}
 use Rattle.matching.specs.Host.{words, Bytes, bytes-of, read-number, HostReads}
@@ -18,23 +18,23 @@ use Rattle.checks.specs.Weights.{needed, needed-all, needed-small}
 use Rattle.sheet.specs.Filled.{drawn-needed}
 use Rattle.laws.specs.Words.{words-length, stored-front}
 
--- how many weights are stored: none where the sheet is refused
+-- how many weights are stored: none if the sheet is refused
 abbrev pub stored-of : Read → ℕ
 stored-of (graph-read n m) = needed n
 stored-of (not-read why) = 0
 
--- as many words as the weights have, or as the largest graph needs; no more bytes of a sheet than are read
+-- values has as many words as weights has room for, or as the largest graph needs; the sheet is not longer than what is read of one
 pub record Room (sheet values weights : List ℕ) : Type 0 where
   pub few : length sheet ≤ input-limit
   pub within : length values ≤ length (words weights)
   pub enough : (k : ℕ) → k ≤ 4560 → k ≤ length (words weights) → k ≤ length values
 
--- reading through the host, for each sheet whose first bytes, as many as are read, are these
+-- reading through the host, for every sheet whose first 16,384 bytes are these
 abbrev pub ReadsFront : List ℕ → (adjacency weights : List ℕ) → ℕ → (adjacency′ weights′ : List ℕ) → Type 0
 ReadsFront front adjacency weights answer adjacency′ weights′ =
     (sheet : List ℕ) → take input-limit sheet ≡ front → HostReads sheet adjacency weights answer adjacency′ weights′
 
--- there is room in some words where there is room in others
+-- two lists of words have room for the same graphs, if they have room for the same number of weights
 room-same : (n : ℕ) (adjacency values ws : List ℕ) → (pair-count n ≤ length values → pair-count n ≤ length ws) → (pair-count n ≤ length ws → pair-count n ≤ length values)
     → room n adjacency values ≡ room n adjacency ws
 room-same n adjacency values ws f g = go (decLt (length values) (pair-count n)) (decLt (length ws) (pair-count n))
@@ -47,7 +47,7 @@ room-same n adjacency values ws f g = go (decLt (length values) (pair-count n)) 
     go (yes c) (no d) = absurd (omega (arith, g (omega arith)))
     go (no c) (yes d) = absurd (omega (arith, f (omega arith)))
 
--- where there is room, the weights have room
+-- if nothing is too short, the weights are not
 room-weights : (n : ℕ) (adjacency ws : List ℕ) → room n adjacency ws ≡ accepted → pair-count n ≤ length ws
 room-weights n adjacency ws = go (decLt (length adjacency) (n * n)) (decLt (length ws) (pair-count n))
   where
@@ -58,7 +58,7 @@ room-weights n adjacency ws = go (decLt (length adjacency) (n * n)) (decLt (leng
     go (no c) (yes d) e = absurd (let z : _≡_ {A = ℕ} 0 1 = cc in omega arith)
 
 module _ {sheet values weights : List ℕ} (R : Room sheet values weights) where
-  -- for a graph within the size
+  -- for a graph of at most 96 vertices
   same : (n : ℕ) (adjacency : List ℕ) → n ≤ largest → room n adjacency values ≡ room n adjacency (words weights)
   same n adjacency h =
       room-same n adjacency values (words weights) (λ l. omega (arith, R .within)) (λ l. R .enough (pair-count n) (omega (arith, needed-small n, needed-all n h)) l)

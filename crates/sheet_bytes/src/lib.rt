@@ -1,18 +1,17 @@
 // Sheets and draws with numbers and byte slices: what the host's entries call. Words cross as two bytes, low first (docs/HOST.md).
-use checks::Refusal;
 use sheet::Read;
 ghost use mathlib.Core.Path.{_≡_};
 ghost use Prim.Native.Nat.{_*_, _≤_};
 ghost use lib.ListN.{length};
+ghost use Rattle.lists.specs.Onto.{onto};
 ghost use Rattle.draws.specs.Draws.{draws};
-ghost use Rattle.matching.specs.Session.{onto};
 ghost use Rattle.matching.specs.Listing.{input-limit};
 ghost use Rattle.matching.specs.Host.{bytes-of, read-number, HostReads, HostDraws};
 ghost use Rattle.laws.specs.Bounds.{Answers};
 ghost use Rattle.sheet.specs.Answers.{read-of};
 ghost use Rattle.sheet_bytes.specs.Reads.{stored-of, Room, ReadsFront};
 
-// The number of what was read.
+// Returns the host's number for read.
 fn number(read: Read) -> u64
     requires { ⌜ Answers (read-of read) input-limit ⌝ }
     ensures { λ r. ⌜ r ≡ read-number (read-of read) ⌝ }
@@ -23,7 +22,7 @@ fn number(read: Read) -> u64
     }
 }
 
-// How many weights are stored: none where the sheet is refused.
+// Counts the weights to store: none if the sheet is refused.
 fn stored(read: Read) -> usize
     ensures { λ r. ⌜ r ≡ stored-of (read-of read) ⌝ }
 {
@@ -33,7 +32,7 @@ fn stored(read: Read) -> usize
     }
 }
 
-// Reads a sheet into an adjacency table and words; the weights that it needs are stored as bytes.
+// Reads sheet into adjacency and values, and stores the weights of its graph in weights as bytes.
 fn read_over(sheet: &[u8], adjacency: &mut [u8], values: &mut [u16], weights: &mut [u8]) -> u64
     requires { ⌜ Room (now sheet) (now values) (now weights) ⌝ }
     ensures { λ r. ⌜ ReadsFront (now (sheet .entry)) (now (adjacency .entry)) (now (weights .entry)) r (now (adjacency .exit)) (now (weights .exit)) ⌝ }
@@ -44,7 +43,7 @@ fn read_over(sheet: &[u8], adjacency: &mut [u8], values: &mut [u16], weights: &m
     number(read)
 }
 
-// The same, with words of its own: as many as the weights have, and no more than the largest graph needs.
+// Calls read_over with words of its own: as many as weights has room for, but at most those that the largest graph needs.
 fn read_words(sheet: &[u8], adjacency: &mut [u8], weights: &mut [u8]) -> u64
     requires { ⌜ length (now sheet) ≤ input-limit ⌝ }
     ensures { λ r. ⌜ ReadsFront (now (sheet .entry)) (now (adjacency .entry)) (now (weights .entry)) r (now (adjacency .exit)) (now (weights .exit)) ⌝ }
@@ -58,7 +57,7 @@ fn read_words(sheet: &[u8], adjacency: &mut [u8], weights: &mut [u8]) -> u64
     read_over(sheet, adjacency, &mut values, weights)
 }
 
-// Reads a sheet, of which at most 16,384 bytes are read.
+// Reads the first 16,384 bytes of sheet, or all of them if it has fewer.
 pub fn read(sheet: &[u8], adjacency: &mut [u8], weights: &mut [u8]) -> u64
     ensures { λ r. ⌜ HostReads (now (sheet .entry)) (now (adjacency .entry)) (now (weights .entry)) r (now (adjacency .exit)) (now (weights .exit)) ⌝ }
 {
@@ -68,7 +67,7 @@ pub fn read(sheet: &[u8], adjacency: &mut [u8], weights: &mut [u8]) -> u64
     read_words(&sheet[..16384], adjacency, weights)
 }
 
-// Writes the first draws of a seed, so many of them, as bytes.
+// Writes the first count draws of seed to weights as bytes.
 fn draw_words(count: usize, seed: u32, weights: &mut [u8])
     requires { ⌜ (count ≤ 4560) × (2 * count ≤ length (now weights)) ⌝ }
     ensures { λ _. ⌜ now (weights .exit) ≡ onto (bytes-of (draws seed count)) (now (weights .entry)) ⌝ }
@@ -79,16 +78,16 @@ fn draw_words(count: usize, seed: u32, weights: &mut [u8])
     packing::store(&values, count, weights);
 }
 
-// The draws of a seed, as the weights of n vertices.
+// Writes the draws of seed to weights as the weights of n vertices.
 pub fn draw(n: usize, seed: u32, weights: &mut [u8]) -> u64
     ensures { λ r. ⌜ HostDraws n seed (now (weights .entry)) r (now (weights .exit)) ⌝ }
 {
     if checks::LARGEST < n {
-        return numbers::refused(Refusal { cause: 1, place: 0 });
+        return numbers::refused(refusals::because(1, 0));
     }
     let count = checks::weights_needed(n);
     if weights.len() / 2 < count {
-        return numbers::refused(Refusal { cause: 2, place: 2 });
+        return numbers::refused(refusals::because(2, 2));
     }
     draw_words(count, seed, weights);
     numbers::carried(7, count as u64, 0)

@@ -10,9 +10,9 @@ use lib.Seq.{getD-take, getD-set-same, getD-set-other}
 use Rattle.lists.specs.Values.{list-of, getD-list-of}
 use Rattle.lists.specs.Part.{length-part}
 use Rattle.lists.specs.Table.{table, row-below, column-below, index-of, index-below, same-place, Square}
+use Rattle.lists.specs.Choose.{choose-yes, choose-no}
 use Rattle.modular.specs.Congruence.{Congruent, equals, _⨾_, linear}
 use Rattle.residue.specs.Modulus.{modulus, modulus-prime}
-use Rattle.skew.specs.Choose.{choose-yes, choose-no}
 use Rattle.skew.specs.Subset.{Subset, _∈_, Member, inside, outside, member?, marked, marked-in}
 use Rattle.skew.specs.Inverse.{Matrix, Skew, Inverse}
 use Rattle.skew.specs.Column.{FirstDependent, Witness}
@@ -84,7 +84,7 @@ module _ (g : Graph) (S : Subset) {t t' : List ℕ} (B : Blank (g .n) t) (F : Fi
   part-skew = record { turn = λ i j hi hj. turn i j hi hj (member? S i) (member? S j) }
     where
       turn : (i j : ℕ) → i < n → j < n → Member S i → Member S j → Congruent modulus (part i j + part j i) 0
-      turn i j hi hj (inside l) (inside m) = rw (l, m) (skew modulus-prime g S .turn i j hi hj)
+      turn i j hi hj (inside l) (inside m) = rw (l, m) (skew modulus-prime g .turn i j hi hj)
       turn i j hi hj (inside l) (outside o) = rw (l, o) (equals (omega arith))
       turn i j hi hj (outside o) (inside m) = rw (o, m) (equals (omega arith))
       turn i j hi hj (outside o) (outside o') = rw (o, o') (equals (omega arith))
@@ -94,7 +94,7 @@ module _ (g : Graph) (S : Subset) {t t' : List ℕ} (B : Blank (g .n) t) (F : Fi
 
   pub filled-holds : Holds n A S t'
   filled-holds = record {
-    skew = skew modulus-prime g S;
+    skew = skew modulus-prime g;
     on = λ i j li lj. same i j (li .below) (lj .below) ⨾ equals (rw (li .inside, lj .inside) refl);
     outer = λ i j hi hj o. same i j hi hj ⨾ equals (rw o refl);
   }

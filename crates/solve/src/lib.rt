@@ -3,7 +3,7 @@
 use exchange::Outcome;
 use residue::Residue;
 ghost use mathlib.Core.Path.{_≡_};
-ghost use Prim.Native.Nat.{ℕ, _+_, _*_, _<_};
+ghost use Prim.Native.Nat.{ℕ, _+_, _*_, _≤_, _<_};
 ghost use lib.ListN.{length};
 ghost use Rattle.lists.specs.Values.{list-of};
 ghost use Rattle.lists.specs.Table.{Square};
@@ -19,7 +19,7 @@ pub fn above(t: &[u64], n: usize, i: usize, j: usize) -> u16
     ensures { λ r. ⌜ r ≡ word n (now (t .entry)) i j ⌝ }
 {
     let at = i * n + j;
-    (t[at] % Residue::MODULUS) as u16
+    Residue::make(t[at]).value
 }
 
 // Any entry.
@@ -31,7 +31,7 @@ fn entry(t: &[u64], n: usize, i: usize, j: usize) -> u16
         return above(t, n, i, j);
     }
     if j < i {
-        return pivot::negative(above(t, n, j, i) as u32) as u16;
+        return residue::negative(above(t, n, j, i) as u32) as u16;
     }
     0
 }
@@ -47,7 +47,7 @@ fn write_cross(t: &[u64], n: usize, m: usize, inverse: &mut [u16])
     while k < n {
         let right = above(t, n, m, k);
         inverse[m * n + k] = right;
-        inverse[k * n + m] = pivot::negative(right as u32) as u16;
+        inverse[k * n + m] = residue::negative(right as u32) as u16;
         k += 1;
     }
 }
@@ -117,9 +117,28 @@ fn solve_over(
     }
 }
 
-// The inverse for a set of vertices, 0 in the other rows and columns; or the witness. What is not found is left as it was. For proved callers,
-// who have accepted the graph. A small graph has a small table, which takes less time to clear.
-pub fn solve(
+// Solves for at most 32 vertices in a small table, which takes less time to clear. It and the next are functions of their own, so that the
+// compiler can put both tables in the same place.
+fn solve_small(
+    n: usize,
+    adjacency: &[u8],
+    weights: &[u16],
+    set: &mut [u8],
+    inverse: &mut [u16],
+    witness: &mut [u16],
+) -> Outcome
+    requires { ⌜ Complete n (now adjacency) (now weights) × (length (now set) ≡ n) × (n ≤ 32) ⌝ }
+    requires { ⌜ (length (now inverse) ≡ n * n) × (length (now witness) ≡ n) ⌝ }
+    ensures { λ o. ⌜ ((S : Subset) → ((i : ℕ) → i < n → S i ≡ marked (now (set .entry)) i) → Solved (over n (now (adjacency .entry)) (now (weights .entry))) S o (now (inverse .entry)) (now (witness .entry)) (now (inverse .exit)) (now (witness .exit))) ⌝ }
+{
+    let size = n * n;
+    // 32 * 32 words.
+    let mut t = [0u64; 1024];
+    solve_over(n, adjacency, weights, set, &mut t[..size], inverse, witness)
+}
+
+// Solves for any graph.
+fn solve_large(
     n: usize,
     adjacency: &[u8],
     weights: &[u16],
@@ -132,12 +151,27 @@ pub fn solve(
     ensures { λ o. ⌜ ((S : Subset) → ((i : ℕ) → i < n → S i ≡ marked (now (set .entry)) i) → Solved (over n (now (adjacency .entry)) (now (weights .entry))) S o (now (inverse .entry)) (now (witness .entry)) (now (inverse .exit)) (now (witness .exit))) ⌝ }
 {
     let size = n * n;
-    if n <= 32 {
-        // 32 * 32 words.
-        let mut t = [0u64; 1024];
-        return solve_over(n, adjacency, weights, set, &mut t[..size], inverse, witness);
-    }
     // 96 * 96 words.
     let mut t = [0u64; 9216];
     solve_over(n, adjacency, weights, set, &mut t[..size], inverse, witness)
+}
+
+// The inverse for a set of vertices, 0 in the other rows and columns; or the witness. What is not found is left as it was. For proved callers,
+// who have accepted the graph.
+pub fn solve(
+    n: usize,
+    adjacency: &[u8],
+    weights: &[u16],
+    set: &mut [u8],
+    inverse: &mut [u16],
+    witness: &mut [u16],
+) -> Outcome
+    requires { ⌜ Complete n (now adjacency) (now weights) × (length (now set) ≡ n) ⌝ }
+    requires { ⌜ (length (now inverse) ≡ n * n) × (length (now witness) ≡ n) ⌝ }
+    ensures { λ o. ⌜ ((S : Subset) → ((i : ℕ) → i < n → S i ≡ marked (now (set .entry)) i) → Solved (over n (now (adjacency .entry)) (now (weights .entry))) S o (now (inverse .entry)) (now (witness .entry)) (now (inverse .exit)) (now (witness .exit))) ⌝ }
+{
+    if n <= 32 {
+        return solve_small(n, adjacency, weights, set, inverse, witness);
+    }
+    solve_large(n, adjacency, weights, set, inverse, witness)
 }

@@ -7,29 +7,20 @@ use lib.ListN.{length}
 use Rattle.residue.specs.Modulus.{modulus}
 use Rattle.matching.specs.Decision.{Refusal, because, Cause, accepted, refused, judge, not?}
 use Rattle.matching.specs.Graph.{over}
-use Rattle.matching.specs.Pairs.{everything, unmatched, pairs-on}
-use Rattle.matching.specs.Session.{State, graph-of, pairs-of, InverseTable, WellFormed}
+use Rattle.matching.specs.Pairs.{unmatched, pairs-on}
+use Rattle.matching.specs.Session.{State, state, in-play, graph-of, pairs-of, InverseTable, WellFormed}
 use Rattle.matching.specs.Decided.{well-formed?, inverse-table?}
 use Rattle.matching.specs.Causes.{lent-always, lent-to-session, opening-causes, ill-formed, not-inverse, session-ruling}
-use Rattle.laws.specs.Sound.{judge-accepted, graph-in-order, judge-first, judge-second, judge-refused, judge-next, when-at, unless-absent}
-use Rattle.checks.specs.Answers.{ruling-of}
-use Rattle.checks.specs.declared.Ruling.{Ruling}
+use Rattle.laws.specs.Sound.{session-fits, graph-in-order}
+use Rattle.laws.specs.Judge.{judge-accepted, judge-first, judge-second, judge-refused, judge-next, when-at, unless-absent}
+use Rattle.refusals.specs.declared.Ruling.{Ruling}
+use Rattle.refusals.specs.Answers.{ruling-of}
 use Rattle.sequence.specs.Formed.{Lent, Left}
 use Rattle.tutte.specs.Table.{Complete}
 
--- a session over lent tables and buffers
-abbrev pub state : (size made : ℕ) (adjacency weights inverse sequence : List ℕ) → State
-state size made adjacency weights inverse sequence = record {
-  session = record { size = size; made = made };
-  adjacency = adjacency;
-  weights = weights;
-  inverse = inverse;
-  sequence = sequence;
-}
-
 -- the ruling of causes 1 to 6, and the marks of the vertices left where none applies
 pub record Confirmed (n made : ℕ) (adjacency weights inverse sequence marks : List ℕ) (r : Ruling) : Type 0 where
-  pub ruled : ruling-of r ≡ session-ruling modulus everything (state n made adjacency weights inverse sequence)
+  pub ruled : ruling-of r ≡ session-ruling modulus (state n made adjacency weights inverse sequence)
   pub left : ruling-of r ≡ accepted → Left n sequence made marks
 
 -- none of the causes 1 to 4 applies
@@ -50,14 +41,15 @@ pub record Ready (n : ℕ) (adjacency weights inverse sequence : List ℕ) : Typ
 
 pub ready : {n : ℕ} {adjacency weights inverse sequence : List ℕ} → Judged n adjacency weights inverse sequence → Ready n adjacency weights inverse sequence
 ready {n} {adjacency} {weights} {inverse} {sequence} J =
-    let g = over n adjacency weights in
-    let buffers = lent-always n (length adjacency) (length weights) (length inverse) (length sequence) in
-    let k = graph-in-order modulus g buffers .0 (judge-accepted (opening-causes modulus g buffers) .0 (J .four)) in
+    let s = state n 0 adjacency weights inverse sequence in
+    let causes = opening-causes modulus (graph-of s) (lent-to-session s []) in
+    let k = graph-in-order modulus (graph-of s) (lent-to-session s []) .0 (judge-accepted causes .0 (J .four)) in
+    let f = session-fits s [] .0 (k .0) .0 in
     record {
-      lent = record { size = k .1 .size; cells = k .0 .0 };
-      complete = record { size = k .1 .size; cells = k .0 .0; weights-enough = k .0 .1 .0 };
-      inverse-fits = k .0 .1 .1 .0;
-      sequence-fits = k .0 .1 .1 .1 .0;
+      lent = record { size = k .1 .size; cells = f .graph .cells };
+      complete = record { size = k .1 .size; cells = f .graph .cells; weights-enough = f .graph .weights };
+      inverse-fits = f .inverse-fits;
+      sequence-fits = f .sequence-fits;
     }
 
 -- the causes in their order
@@ -69,39 +61,39 @@ module _ (s : State) where
   five = ill-formed (graph-of s) (s .session .made) (s .sequence)
 
   abbrev six : Cause
-  six = not-inverse modulus (graph-of s) (unmatched everything (pairs-of s)) (s .inverse)
+  six = not-inverse modulus (graph-of s) (unmatched (in-play s) (pairs-of s)) (s .inverse)
 
-  pub refused-first : {r : Refusal} → judge four ≡ refused r → session-ruling modulus everything s ≡ refused r
+  pub refused-first : {r : Refusal} → judge four ≡ refused r → session-ruling modulus s ≡ refused r
   unfolding session-ruling
   refused-first e = judge-first four (five ∷ six ∷ []) e
 
   module _ (ok : judge four ≡ accepted) where
-    pub refused-five : ¬ WellFormed (graph-of s) (s .session .made) (s .sequence) → session-ruling modulus everything s ≡ refused (because 5 0)
+    pub refused-five : ¬ WellFormed (graph-of s) (s .session .made) (s .sequence) → session-ruling modulus s ≡ refused (because 5 0)
     unfolding session-ruling ill-formed
     refused-five d =
         judge-second four (five ∷ six ∷ []) ok
         ∙ judge-refused five (six ∷ []) 0 (when-at (not? (well-formed? (graph-of s) (s .session .made) (s .sequence))) 0 d)
 
     module _ (W : WellFormed (graph-of s) (s .session .made) (s .sequence)) where
-      rest : session-ruling modulus everything s ≡ judge (six ∷ [])
+      rest : session-ruling modulus s ≡ judge (six ∷ [])
       unfolding session-ruling ill-formed
       rest =
           judge-second four (five ∷ six ∷ []) ok
           ∙ judge-next five (six ∷ []) (unless-absent (well-formed? (graph-of s) (s .session .made) (s .sequence)) 0 .1 W)
 
-      pub refused-six : ¬ InverseTable modulus (graph-of s) (unmatched everything (pairs-of s)) (s .inverse)
-          → session-ruling modulus everything s ≡ refused (because 6 0)
+      pub refused-six : ¬ InverseTable modulus (graph-of s) (unmatched (in-play s) (pairs-of s)) (s .inverse)
+          → session-ruling modulus s ≡ refused (because 6 0)
       unfolding not-inverse
       refused-six d =
           rest
-          ∙ judge-refused six [] 0 (when-at (not? (inverse-table? modulus (graph-of s) (unmatched everything (pairs-of s)) (s .inverse))) 0 d)
+          ∙ judge-refused six [] 0 (when-at (not? (inverse-table? modulus (graph-of s) (unmatched (in-play s) (pairs-of s)) (s .inverse))) 0 d)
 
-      pub confirmed : InverseTable modulus (graph-of s) (unmatched everything (pairs-of s)) (s .inverse)
-          → session-ruling modulus everything s ≡ accepted
+      pub confirmed : InverseTable modulus (graph-of s) (unmatched (in-play s) (pairs-of s)) (s .inverse)
+          → session-ruling modulus s ≡ accepted
       unfolding not-inverse
       confirmed I =
           rest
-          ∙ judge-next six [] (unless-absent (inverse-table? modulus (graph-of s) (unmatched everything (pairs-of s)) (s .inverse)) 0 .1 I)
+          ∙ judge-next six [] (unless-absent (inverse-table? modulus (graph-of s) (unmatched (in-play s) (pairs-of s)) (s .inverse)) 0 .1 I)
 
 -- the answers of the confirmation
 module _ (n made : ℕ) (adjacency weights inverse sequence marks : List ℕ) (J : Judged n adjacency weights inverse sequence) where
@@ -116,14 +108,14 @@ module _ (n made : ℕ) (adjacency weights inverse sequence marks : List ℕ) (J
   }
 
   module _ (W : WellFormed (over n adjacency weights) made sequence) where
-    pub not-confirmed : {r : Ruling} → ruling-of r ≡ refused (because 6 0) → ¬ InverseTable modulus (over n adjacency weights) (unmatched everything (pairs-on sequence made)) inverse
+    pub not-confirmed : {r : Ruling} → ruling-of r ≡ refused (because 6 0) → ¬ InverseTable modulus (over n adjacency weights) (unmatched (in-play lent-state) (pairs-on sequence made)) inverse
         → Confirmed n made adjacency weights inverse sequence marks r
     not-confirmed e d = record {
       ruled = e ∙ sym (refused-six lent-state (J .four) W d);
       left = λ q. absurd (let z : _≡_ {A = ℕ} 0 1 = cc in omega arith);
     }
 
-    pub all-confirmed : {r : Ruling} → ruling-of r ≡ accepted → InverseTable modulus (over n adjacency weights) (unmatched everything (pairs-on sequence made)) inverse
+    pub all-confirmed : {r : Ruling} → ruling-of r ≡ accepted → InverseTable modulus (over n adjacency weights) (unmatched (in-play lent-state) (pairs-on sequence made)) inverse
         → Left n sequence made marks → Confirmed n made adjacency weights inverse sequence marks r
     all-confirmed e I L = record { ruled = e ∙ sym (confirmed lent-state (J .four) W I); left = λ _. L }
 

@@ -1,10 +1,11 @@
 // Whether a session is sound: causes 1 to 6 of document 01's table. For cause 6 the inverse for the vertices left is solved again and compared.
-use checks::Refusal;
-use checks::Ruling;
+use refusals::Refusal;
+use refusals::Ruling;
 ghost use mathlib.Core.Path.{_≡_};
 ghost use Prim.Native.Nat.{_≤_};
 ghost use lib.ListN.{length, take};
 ghost use Rattle.soundness.specs.Sound.{Judged, Confirmed};
+ghost use Rattle.soundness.specs.Lent.{ConfirmedLent};
 
 // Causes 5 and 6, where none of 1 to 4 applies; where these do not either, the marks are those of the vertices left.
 fn confirm_rest(
@@ -21,11 +22,11 @@ fn confirm_rest(
 {
     let formed = sequence::formed(n, adjacency, sequence, made, marks);
     if !formed {
-        return Ruling::Refused(Refusal { cause: 5, place: 0 });
+        return refusals::refuse(5, 0);
     }
     let correct = compact::is_inverse(n, adjacency, weights, marks, inverse);
     if !correct {
-        return Ruling::Refused(Refusal { cause: 6, place: 0 });
+        return refusals::refuse(6, 0);
     }
     Ruling::Accepted
 }
@@ -57,4 +58,37 @@ pub fn confirm(
         sequence,
         &mut marks[..n],
     )
+}
+
+// Confirms a session whose call is lent one more buffer: its number among the lent, its length, and how much of it the call needs. It is judged
+// after buffers 1 to 4, before anything else is looked at.
+pub fn confirm_lent(
+    n: usize,
+    made: usize,
+    adjacency: &[u8],
+    weights: &[u16],
+    inverse: &[u16],
+    sequence: &[u8],
+    buffer: usize,
+    room: usize,
+    needed: usize,
+    marks: &mut [u8],
+) -> Ruling
+    requires { ⌜ 96 ≤ length (now marks) ⌝ }
+    ensures { λ r. ⌜ ConfirmedLent (record { number = buffer; length = room; needed = needed }) n made (now (adjacency .entry)) (now (weights .entry)) (now (inverse .entry)) (now (sequence .entry)) (take n (now (marks .exit))) r ⌝ }
+{
+    let lengths = checks::judge_lengths(
+        n,
+        adjacency.len(),
+        weights.len(),
+        inverse.len(),
+        sequence.len(),
+    );
+    if let Ruling::Refused(refusal) = lengths {
+        return Ruling::Refused(refusal);
+    }
+    if room < needed {
+        return refusals::refuse(2, buffer);
+    }
+    confirm(n, made, adjacency, weights, inverse, sequence, marks)
 }

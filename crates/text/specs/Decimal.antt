@@ -6,7 +6,7 @@ use native.Mathlib.Nat.{pow-suc, div-lt-iff-lt-mul}
 use native.Mathlib.Decide.{decLt}
 use native.Mathlib.Omega.{arith}
 use lib.ListN.{length}
-use Rattle.skew.specs.Choose.{choose-yes, choose-no}
+use Rattle.lists.specs.Choose.{choose-yes, choose-no}
 use Rattle.matching.specs.Listing.{digits, decimal}
 
 -- no room left, a number of one digit, and one of more

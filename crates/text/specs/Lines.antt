@@ -9,7 +9,7 @@ use native.Mathlib.Decide.{ℕ-discrete}
 use native.Mathlib.Omega.{arith}
 use lib.ListN.{length, getD, take, length-append}
 use lib.Seq.{length-take-le, take-suc}
-use Rattle.skew.specs.Choose.{choose, choose-yes, choose-no}
+use Rattle.lists.specs.Choose.{choose, choose-yes, choose-no}
 use Rattle.matching.specs.Decision.{Refusal}
 use Rattle.matching.specs.Pairs.{Pair, pairs-on}
 use Rattle.matching.specs.Listing.{decimal, text-sleeves, text-links, text-pair, text-witness, text-refused, text-at, space, line-feed, first-line, pair-line, pair-lines, witness-lines, refused-line}

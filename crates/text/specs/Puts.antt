@@ -7,7 +7,7 @@ use native.Mathlib.Numerals.{add-one}
 use native.Mathlib.Omega.{arith}
 use lib.ListN.{length, getD, take, drop, set, length-append, length-drop, take-append-drop}
 use lib.Seq.{length-take-le, take-at, drop-append-add, drop-drop, set-split, append-snoc, take-suc}
-use Rattle.matching.specs.Session.{onto}
+use Rattle.lists.specs.Onto.{onto}
 
 -- a buffer with a text in it from a position on, and the rest as it was
 unfoldable pub written : ℕ → List ℕ → List ℕ → List ℕ

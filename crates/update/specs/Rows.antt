@@ -80,7 +80,7 @@ pub record Updated (n : ℕ) (x y : List ℕ) (g : ℕ) (t t' : List ℕ) : Type
   pub small : (i j : ℕ) → i < n → j < n → table n t' i j < modulus
   pub update : Update modulus n (table n t) (vector x) (vector y) g (table n t')
 
-module _ {n : ℕ} {x y u v t t' : List ℕ} (g h : ℕ) (U : UpdatedTo n n x y u v t t') (opposite : h + g ≡ modulus) (eu : u ≡ list-of n (multiple g (vector x)))
+module _ {n : ℕ} {x y u v t t' : List ℕ} (g h : ℕ) (U : UpdatedTo n n x y u v t t') (below : g < modulus) (opposite : h ≡ (modulus - g) % modulus) (eu : u ≡ list-of n (multiple g (vector x)))
     (ev : v ≡ list-of n (multiple h (vector y))) where
   of-u : (j : ℕ) → j < n → Congruent modulus (vector u j) (vector x j * g)
   of-u j l =
@@ -91,7 +91,9 @@ module _ {n : ℕ} {x y u v t t' : List ℕ} (g h : ℕ) (U : UpdatedTo n n x y 
       equals (ap (λ w. getD w j 0) ev ∙ getD-list-of n _ j l) ⨾ linear (remainder (vector y j * h + 0 * 0 + 0)) (omega arith)
 
   whole : Congruent modulus (h + g) 0
-  whole = equals opposite ⨾ record { left = 0; right = 1; equal = omega arith }
+  whole =
+      let once : Congruent modulus modulus 0 = record { left = 0; right = 1; equal = omega arith } in
+      linear (equals opposite ⊕ remainder (modulus - g) ⊕ once) (omega arith)
 
   pub updated : Updated n x y g t t'
   updated = record {

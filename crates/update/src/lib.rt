@@ -13,7 +13,7 @@ fn combine(f: u16, a: u16, h: u16, b: u16, c: u16) -> u16
     ensures { λ r. ⌜ r ≡ combined f a h b c ⌝ }
 {
     let sum = f as u64 * a as u64 + h as u64 * b as u64 + c as u64;
-    (sum % Residue::MODULUS) as u16
+    Residue::make(sum).value
 }
 
 // The words of x times g, reduced.
@@ -82,7 +82,7 @@ fn update_over(t: &mut [u16], n: usize, x: &[u16], y: &[u16], g: u16, u: &mut [u
     requires { ⌜ Updating n (now t) (now x) (now y) (now u) (now v) × (g < modulus) ⌝ }
     ensures { λ _. ⌜ Updated n (now (x .entry)) (now (y .entry)) g (now (t .entry)) (now (t .exit)) ⌝ }
 {
-    let negative = Residue::MODULUS - g as u64;
+    let negative = residue::negative(g as u32);
     multiples(x, g, u);
     multiples(y, negative as u16, v);
     update_rows(t, n, x, y, u, v);

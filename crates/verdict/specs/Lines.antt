@@ -1,26 +1,25 @@
 -- The lines of a graph, and how an opening leads to them. Assumes nothing.
-use mathlib.Core.Path.{_≡_, refl}
+use mathlib.Core.Path.{_≡_, refl, sym, _∙_}
 use mathlib.Core.List.{List, [], _++_}
-use Prim.Native.Nat.{ℕ, _*_}
+use Prim.Native.Nat.{ℕ}
 use native.Mathlib.Omega.{arith}
-use lib.ListN.{length, take, replicate, length-replicate}
+use lib.ListN.{length, take, replicate}
 use Rattle.lists.specs.Table.{square-small}
+use Rattle.lists.specs.Onto.{onto-front}
 use Rattle.residue.specs.Modulus.{modulus, modulus-prime}
-use Rattle.matching.specs.Decision.{accepted}
+use Rattle.matching.specs.Decision.{Refusal, accepted, refused}
 use Rattle.matching.specs.Graph.{Graph, over, InOrder}
 use Rattle.matching.specs.Pairs.{everything, unmatched, pairs-on}
-use Rattle.matching.specs.Causes.{lent-graph, LongEnough, opening-ruling}
-use Rattle.matching.specs.Opening.{Singular, Opens, opens}
+use Rattle.matching.specs.Session.{Session}
+use Rattle.matching.specs.Causes.{opening-ruling}
+use Rattle.matching.specs.Opening.{opened, singular, not-opened, Singular, Buffers, Opens, refuses-opening, opens, finds-singular}
 use Rattle.matching.specs.Model.{automatic, Nonsingular, pairs-after, PicksToCome}
 use Rattle.matching.specs.Listing.{first-line, pair-lines, witness-lines, line-full, line-none}
-use Rattle.laws.specs.Onto.{onto-front}
-use Rattle.laws.specs.Sound.{opening-accepted}
+use Rattle.laws.specs.Sound.{GraphFits, opening-accepted}
 use Rattle.laws.specs.Fresh.{opened-sound}
 use Rattle.sequence.specs.Formed.{left-start}
 use Rattle.calls.specs.Known.{Known}
-use Rattle.exchange.specs.declared.Outcome.the-variants.{Inverse, Column}
 use Rattle.opening.specs.Answers.{buffers}
-use Rattle.opening.specs.Begun.{Begun, leaves-inverse, leaves-witness}
 use Rattle.completion.specs.Completed.{Completed}
 use Rattle.text.specs.Puts.{Puts, puts-then}
 
@@ -52,22 +51,30 @@ abbrev pub FreshFor : (n : ℕ) (adjacency inverse sequence marks : List ℕ) �
 FreshFor n adjacency inverse sequence marks = (weights : List ℕ) × Fresh n adjacency weights inverse sequence marks
 
 -- what opening leaves of a graph
-module _ {n : ℕ} {adjacency weights inverse sequence witness : List ℕ} where
+module _ {n : ℕ} {adjacency weights inverse sequence witness work : List ℕ} where
   -- a session that is opened is known to be sound, and has an inverse
-  pub fresh : {inverse′ sequence′ witness′ marks : List ℕ}
-      → opening-ruling modulus (over n adjacency weights) (length inverse) (length sequence) (length witness) (n * n) ≡ accepted
-      → Begun (over n adjacency weights) inverse sequence witness Inverse inverse′ sequence′ witness′ → marks ≡ replicate n 1 → Fresh n adjacency weights inverse′ sequence′ marks
+  pub fresh : {s : Session} {inverse′ sequence′ witness′ work′ marks : List ℕ}
+      → Opens modulus (over n adjacency weights) everything (buffers inverse sequence witness work) (opened s) (buffers inverse′ sequence′ witness′ work′)
+      → marks ≡ replicate n 1 → Fresh n adjacency weights inverse′ sequence′ marks
   unfolding unmatched
-  fresh ok (leaves-inverse new l I) e =
-      let o : Opens modulus (over n adjacency weights) everything (buffers inverse sequence witness (replicate (n * n) 0)) _ _ =
-      opens new (rw (length-replicate {A = ℕ} (n * n) 0) ok) l I in
-      let k = opened-sound modulus-prime (over n adjacency weights) everything o in
+  fresh (opens new ok l I) e =
+      let o : Opens modulus (over n adjacency weights) everything (buffers inverse sequence witness work) _ _ = opens new ok l I in
+      let k = opened-sound modulus-prime (over n adjacency weights) {b = buffers inverse sequence witness work} o in
       record { known = record { sound = rw (k .1) at (k .0); left = rw e (left-start n _) }; nonsingular = (_, I .is-inverse) }
 
   -- the first words of the witness are the kernel vector
-  pub kernel : {inverse′ sequence′ witness′ : List ℕ} {f : ℕ} → Begun (over n adjacency weights) inverse sequence witness (Column f) inverse′ sequence′ witness′
+  pub kernel : {f : ℕ} {inverse′ sequence′ witness′ work′ : List ℕ}
+      → Opens modulus (over n adjacency weights) everything (buffers inverse sequence witness work) (singular f) (buffers inverse′ sequence′ witness′ work′)
       → (length (take n witness′) ≡ n) × Singular modulus (over n adjacency weights) everything f (take n witness′)
-  kernel (leaves-witness _ new l S) = rw (onto-front new witness n l) (l, S)
+  kernel (finds-singular f new ok l S) = rw (onto-front new witness n l) (l, S)
+
+  -- an accepted graph is not refused
+  pub not-refused : {r : Refusal} {left : Buffers} → opening-ruling modulus (over n adjacency weights) (length inverse) (length sequence) (length witness) (length work) ≡ accepted
+      → Opens modulus (over n adjacency weights) everything (buffers inverse sequence witness work) (not-opened r) left → ⊥
+  not-refused ok (refuses-opening r e) =
+      let both : accepted ≡ refused r = sym ok ∙ e in
+      let z : _≡_ {A = ℕ} 0 1 = cc in
+      omega arith
 
 -- the lines of a completed matching
 pub full-lines : {g : Graph} {made : ℕ} {sequence : List ℕ} → Nonsingular modulus-prime g everything [] → Completed g made sequence
@@ -77,14 +84,20 @@ full-lines I C = rw (C .pairs-are) (full I (C .come))
 -- a graph in order, over tables that are long enough
 pub record Lent (g : Graph) : Type 0 where
   pub in-order : InOrder modulus g
-  pub long : LongEnough (lent-graph g)
+  pub long : GraphFits g
 
 -- opening accepts it, over buffers for the largest graph
-pub accepts : {g : Graph} → Lent g → opening-ruling modulus g 9216 96 96 (g .n * g .n) ≡ accepted
+pub accepts : {g : Graph} → Lent g → opening-ruling modulus g 9216 96 96 9216 ≡ accepted
 accepts {g} L =
     let small = L .in-order .size in
-    opening-accepted modulus g 9216 96 96 (g .n * g .n) .1 (
-      (L .long .0, (L .long .1 .0, (square-small (g .n) small, (small, (small, (omega arith, tt)))))),
+    opening-accepted modulus g 9216 96 96 9216 .1 (
+      record {
+        graph = L .long;
+        inverse-fits = square-small (g .n) small;
+        sequence-fits = small;
+        witness-fits = small;
+        work-fits = square-small (g .n) small;
+      },
       L .in-order,
     )
 

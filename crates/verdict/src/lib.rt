@@ -1,8 +1,8 @@
 // The lines of a graph in the listing: its size and edges, its pairs or its witness, and the verdict.
-use exchange::Outcome;
+use opening::Opening;
 ghost use mathlib.Core.Path.{_≡_};
 ghost use mathlib.Core.List.{List};
-ghost use Prim.Native.Nat.{ℕ, _+_, _*_, _≤_, _<_};
+ghost use Prim.Native.Nat.{ℕ, _+_, _≤_, _<_};
 ghost use lib.ListN.{length, replicate};
 ghost use Rattle.residue.specs.Modulus.{modulus};
 ghost use Rattle.matching.specs.Decision.{accepted};
@@ -36,21 +36,24 @@ fn verdict_lines(
     inverse: &mut [u16],
     sequence: &mut [u8],
     witness: &mut [u16],
+    work: &mut [u16],
     marks: &mut [u8],
     text: &mut [u8],
     at: usize,
 ) -> usize
-    requires { ⌜ opening-ruling modulus (over n (now adjacency) (now weights)) (length (now inverse)) (length (now sequence)) (length (now witness)) (n * n) ≡ accepted ⌝ }
+    requires { ⌜ opening-ruling modulus (over n (now adjacency) (now weights)) (length (now inverse)) (length (now sequence)) (length (now witness)) (length (now work)) ≡ accepted ⌝ }
     requires { ⌜ (n ≤ 96) × (now marks ≡ replicate n 1) × (at + 1642 ≤ length (now text)) ⌝ }
     ensures { λ r. ⌜ Writes (Verdict (over n (now (adjacency .entry)) (now (weights .entry)))) at (now (text .entry)) (now (text .exit)) r ⌝ }
 {
-    let outcome = opening::begin_accepted(n, adjacency, weights, inverse, sequence, witness);
-    match outcome {
-        Outcome::Inverse => full_lines(n, adjacency, inverse, sequence, marks, text, at),
-        Outcome::Column(_) => {
+    let opened = opening::begin(n, adjacency, weights, inverse, sequence, witness, work);
+    match opened {
+        Opening::Opened(_) => full_lines(n, adjacency, inverse, sequence, marks, text, at),
+        Opening::Singular(_) => {
             let next = text::witness_lines(text, at, &witness[..n]);
             text::none_line(text, next)
         }
+        // Never: the graph is accepted.
+        Opening::Refused(_) => at,
     }
 }
 
@@ -69,6 +72,7 @@ pub fn graph_lines(
     let mut inverse = [0u16; 9216];
     let mut sequence = [0u8; 96];
     let mut witness = [0u16; 96];
+    let mut work = [0u16; 9216];
     let mut marks = [1u8; 96];
     let next = text::first_line(text, 0, n, edges);
     verdict_lines(
@@ -78,6 +82,7 @@ pub fn graph_lines(
         &mut inverse,
         &mut sequence,
         &mut witness,
+        &mut work,
         &mut marks[..n],
         text,
         next,

@@ -7,12 +7,6 @@ use Rattle.border.proofs.border.Tie as tie
 image-requires : tie.Need-image-requires
 image-requires c κs = search needs
 
-sub-x : tie.Need-sub-x
-sub-x c = search needs
-
-cast-x : tie.Need-cast-x
-cast-x c = search needs
-
 mul-x : tie.Need-mul-x
 mul-x c = search needs
 
@@ -29,4 +23,4 @@ returns c =
 
 pub border-spec : {M : Type 1} → statement M
 border-spec =
-    tie.close (tie.spec image-requires sub-x cast-x mul-x slice-write-x same-length returns)
+    tie.close (tie.spec image-requires mul-x slice-write-x same-length returns)

@@ -1,14 +1,10 @@
 -- `call_list::judge` meets its contract: each return is a cause of the list. Assumes nothing.
 use mathlib.Core.Path.{sym, ap, _∙_}
-use native.Mathlib.Omega.{arith}
 use borrow.Author.Needs.{needs}
 use Rattle.matching.specs.Decision.{because, refused}
-use Rattle.call_list.specs.List.{answers-short, kind-unknown, list-cut, list-whole}
+use Rattle.call_list.specs.List.{kind-unknown, list-cut, list-whole}
 use Rattle.call_list.proofs.judge.Statement.{statement}
 use Rattle.call_list.proofs.judge.Tie as tie
-
-returns : tie.Need-returns
-returns c = sym (answers-short _ _ (c .if1 .taken))
 
 first-unknown-requires : tie.Need-first-unknown-requires
 first-unknown-requires c κs = search needs
@@ -19,10 +15,11 @@ enum-known-i c = search needs
 place-requires : tie.Need-place-requires
 place-requires c κs = search needs
 
-returns-2 : tie.Need-returns-2
-returns-2 c =
-    ap (λ p. refused (because 12 p)) (c .place .ensures)
-    ∙ sym (kind-unknown _ _ (omega arith) (rw (c .before .before .i .given .1) at (c .before .before .before .before .first-unknown .ensures)))
+returns : tie.Need-returns
+returns c =
+    c .refuse .ensures
+    ∙ ap (λ p. refused (because 12 p)) (c .before .place .ensures)
+    ∙ sym (kind-unknown _ (rw (c .before .before .before .i .given .1) at (c .before .before .before .before .before .first-unknown .ensures)))
 
 enum-told : tie.Need-enum-told
 enum-told c = search needs
@@ -30,24 +27,22 @@ enum-told c = search needs
 place-requires-2 : tie.Need-place-requires-2
 place-requires-2 c κs = search needs
 
-returns-3 : tie.Need-returns-3
-returns-3 c =
-    ap (λ p. refused (because 13 p)) (c .place2 .ensures)
-    ∙ sym (list-cut _ _ (omega arith) (rw (c .before .before .enum-told .given .1) at (c .before .before .before .before .first-unknown .ensures)) (c .before .if2 .taken))
+returns-2 : tie.Need-returns-2
+returns-2 c =
+    c .refuse2 .ensures
+    ∙ ap (λ p. refused (because 13 p)) (c .before .place2 .ensures)
+    ∙ sym (list-cut _ (rw (c .before .before .before .enum-told .given .1) at (c .before .before .before .before .before .first-unknown .ensures)) (c .before .before .if1 .taken))
 
-returns-4 : tie.Need-returns-4
-returns-4 c = sym (list-whole _ _ (omega arith) (rw (c .before .enum-told .given .1) at (c .before .before .before .first-unknown .ensures)) (c .if2 .left))
+returns-3 : tie.Need-returns-3
+returns-3 c = sym (list-whole _ (rw (c .before .enum-told .given .1) at (c .before .before .before .first-unknown .ensures)) (c .if1 .left))
+
+refuse-requires : tie.Need-refuse-requires
+refuse-requires c κs = search needs
+
+refuse-requires-2 : tie.Need-refuse-requires-2
+refuse-requires-2 c κs = search needs
 
 pub judge-spec : {M : Type 1} → statement M
 judge-spec =
     tie.close
-    (tie.spec
-    returns
-    first-unknown-requires
-    enum-known-i
-    place-requires
-    returns-2
-    enum-told
-    place-requires-2
-    returns-3
-    returns-4)
+    (tie.spec first-unknown-requires enum-known-i place-requires refuse-requires returns enum-told place-requires-2 refuse-requires-2 returns-2 returns-3)

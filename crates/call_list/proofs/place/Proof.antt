@@ -2,7 +2,7 @@
 use mathlib.Core.Path.{sym}
 use native.Mathlib.Omega.{arith}
 use native.Mathlib.Decide.{decLt}
-use Rattle.skew.specs.Choose.{choose-yes, choose-no}
+use Rattle.lists.specs.Choose.{choose-yes, choose-no}
 use Rattle.call_list.proofs.place.Statement.{statement}
 use Rattle.call_list.proofs.place.Tie as tie
 

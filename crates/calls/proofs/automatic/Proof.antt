@@ -24,7 +24,7 @@ append-requires c κs =
     let partner = c .before .before .before .before .before .before in
     let start = c .before .before .before .before .before .before .before .before .before .before .before .before .before .before .before .before .before .before in
     let K = start .pre .1 in
-    append-room K _ _ (automatic-allowed K (rw (c .before .before .before .before .partner2 .given .1) at (partner .partner .ensures _ _ (standing K))))
+    append-room K _ _ (automatic-allowed K (rw (c .before .before .before .before .partner2 .given .1) at (partner .partner .ensures _ _ _ (standing K))))
 
 add-more : tie.Need-add-more
 add-more c = let K = c .before .before .before .before .before .before .before .before .before .before .before .before .before .before .before .before .before .before .before .before .before .before .before .before .before .pre .1 in omega (arith, few K, tables K .size)
@@ -45,7 +45,7 @@ returns c = λ weights K.
     let partner = known .before .before in
     let found = partner .before .before .before .before in
     let C = rw (found .lowest2 .given .1) at (found .before .before .lowest .ensures) in
-    let R = rw (known .partner2 .given .1) at (partner .partner .ensures weights _ (standing K)) in
+    let R = rw (known .partner2 .given .1) at (partner .partner .ensures weights _ _ (standing K)) in
     let A = automatic-allowed K R in
     record { handled = appends K _ _ A (appended .append .ensures) _ (automatic-step K C R); left = appends-left K _ _ A (appended .append .ensures) }
 
@@ -66,7 +66,7 @@ returns-2 c = λ weights K.
     let partner = c .before .before in
     let found = partner .before .before .before .before in
     let C = rw (found .lowest2 .given .1) at (found .before .before .lowest .ensures) in
-    absurd (automatic-partner K C (rw (c .enum-told .given .1) at (partner .partner .ensures weights _ (standing K))))
+    absurd (automatic-partner K C (rw (c .enum-told .given .1) at (partner .partner .ensures weights _ _ (standing K))))
 
 same-length-6 : tie.Need-same-length-6
 same-length-6 c = search needs

@@ -20,7 +20,7 @@ same-length-2 c = search needs
 returns : tie.Need-returns
 returns c = λ weights K.
     let judged = c .before .before .before in
-    record { handled = pick-denied K (rw (c .before .ruling .given .1) at (judged .judge .ensures weights _ (standing K))); left = K .left }
+    record { handled = pick-denied K (rw (c .before .ruling .given .1) at (judged .judge .ensures weights _ _ (standing K))); left = K .left }
 
 enum-told : tie.Need-enum-told
 enum-told c = search needs
@@ -31,7 +31,7 @@ append-requires c κs =
     let judged = told .before .before in
     let start = judged .before .before .before .before .before .before .before in
     let K = start .pre .1 in
-    append-room K _ _ (pick-allowed K (rw (told .enum-told .given .1) at (judged .judge .ensures _ _ (standing K))))
+    append-room K _ _ (pick-allowed K (rw (told .enum-told .given .1) at (judged .judge .ensures _ _ _ (standing K))))
 
 add-more : tie.Need-add-more
 add-more c = let K = c .before .before .before .before .before .before .before .before .before .before .before .before .before .before .before .before .before .before .before .pre .1 in omega (arith, few K, tables K .size)
@@ -50,7 +50,7 @@ returns-2 c = λ weights K.
     let appended = c .before .before .before .before .before .before in
     let told = appended .before .before .before .before in
     let judged = told .before .before in
-    let q = rw (told .enum-told .given .1) at (judged .judge .ensures weights _ (standing K)) in
+    let q = rw (told .enum-told .given .1) at (judged .judge .ensures weights _ _ (standing K)) in
     let A = pick-allowed K q in
     record { handled = appends K _ _ A (appended .append .ensures) _ (pick-step K _ _ q); left = appends-left K _ _ A (appended .append .ensures) }
 

@@ -1,6 +1,6 @@
 -- `checks::judge_graph` meets its contract: each return is a case of the definition.
 -- Assumes nothing.
-use mathlib.Core.Path.{sym}
+use mathlib.Core.Path.{sym, _∙_}
 use native.Mathlib.Nat.{mul-le-mul}
 use native.Mathlib.Omega.{arith}
 use borrow.Author.Needs.{needs}
@@ -38,11 +38,11 @@ add-place c =
 
 returns : tie.Need-returns
 returns c =
-    let at = c .before .before .before in
+    let at = c .before .before .before .before in
     let found = at .before .before in
     let start = found .before .before .before in
     let located = rw (at .fault .given .1) at (found .first-fault .ensures (start .args .weights .now)) in
-    sym (cell-refused _ _ _ (located .place))
+    c .refuse .ensures ∙ sym (cell-refused _ _ _ (located .place))
 
 enum-told : tie.Need-enum-told
 enum-told c = search needs
@@ -55,14 +55,15 @@ enum-known-place c = search needs
 
 returns-2 : tie.Need-returns-2
 returns-2 c =
-    let outside = c .before .before .before in
+    let outside = c .before .before .before .before in
     let cells = outside .before in
     let found = cells .before .before in
     let args = found .before .before .before .args in
-    sym
+    c .refuse2 .ensures
+    ∙ sym
     (weight-refused _ _ _
     (rw (cells .enum-told .given .1) at (found .first-fault .ensures (args .weights .now)))
-    (rw (c .before .place .given .1) at (outside .first-outside .ensures (args .adjacency .now))))
+    (rw (c .before .before .place .given .1) at (outside .first-outside .ensures (args .adjacency .now))))
 
 enum-told-2 : tie.Need-enum-told-2
 enum-told-2 c = search needs
@@ -78,18 +79,13 @@ returns-3 c =
     (rw (cells .enum-told .given .1) at (found .first-fault .ensures (args .weights .now)))
     (rw (c .enum-told2 .given .1) at (outside .first-outside .ensures (args .adjacency .now))))
 
+refuse-requires : tie.Need-refuse-requires
+refuse-requires c κs = search needs
+
+refuse-requires-2 : tie.Need-refuse-requires-2
+refuse-requires-2 c κs = search needs
+
 pub judge-graph-spec : {M : Type 1} → statement M
 judge-graph-spec =
     tie.close
-    (tie.spec
-    first-fault-requires
-    enum-known-fault
-    mul-place
-    add-place
-    returns
-    enum-told
-    first-outside-requires
-    enum-known-place
-    returns-2
-    enum-told-2
-    returns-3)
+    (tie.spec first-fault-requires enum-known-fault mul-place add-place refuse-requires returns enum-told first-outside-requires enum-known-place refuse-requires-2 returns-2 enum-told-2 returns-3)

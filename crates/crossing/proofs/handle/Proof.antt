@@ -2,17 +2,16 @@
 use mathlib.Core.Path.{_≡_}
 use Rattle.residue.specs.Modulus.{modulus, modulus-prime}
 use Rattle.matching.specs.Decision.{because, refused}
-use Rattle.matching.specs.Pairs.{everything}
-use Rattle.matching.specs.Session.{State}
+use Rattle.matching.specs.Session.{State, state}
 use Rattle.matching.specs.Causes.{session-ruling}
 use Rattle.matching.specs.Calls.{unsound}
 use Rattle.matching.specs.Host.{unpacked-state}
 use Rattle.laws.specs.Numbers.{handles-small}
-use Rattle.checks.specs.declared.Refusal.{Refusal}
-use Rattle.checks.specs.declared.Ruling.the-variants.{Refused}
-use Rattle.soundness.specs.Sound.{state}
+use Rattle.refusals.specs.declared.Refusal.{Refusal}
+use Rattle.refusals.specs.declared.Ruling.the-variants.{Refused}
 use Rattle.crossing.specs.Fit.{room-refused, room-accepted}
-use Rattle.crossing.specs.Through.{call-of, host-refuses}
+use Rattle.calls.specs.Answers.{call-is}
+use Rattle.crossing.specs.Through.{host-refuses}
 use borrow.Author.Needs.{needs}
 use Rattle.crossing.proofs.handle.Statement.{statement}
 use Rattle.crossing.proofs.handle.Tie as tie
@@ -24,10 +23,10 @@ abbrev host : tie.After-judge-lengths → State
 host at = let a = start at .args in state (a .n) (a .made) (a .adjacency .now) (a .weights .now) (a .inverse .now) (a .sequence .now)
 
 refuses : (at : tie.After-judge-lengths) {why : Refusal} → at .judge-lengths .result ≡ Refused why
-    → session-ruling modulus everything (unpacked-state (host at)) ≡ refused (because (why .cause) (why .place))
+    → session-ruling modulus (unpacked-state (host at)) ≡ refused (because (why .cause) (why .place))
 refuses at e =
     let a = start at .args in
-    room-refused (a .n) (a .made) (a .adjacency .now) (a .weights .now) (a .inverse .now) (a .sequence .now) modulus everything (rw e at (at .judge-lengths .ensures))
+    room-refused (a .n) (a .made) (a .adjacency .now) (a .weights .now) (a .inverse .now) (a .sequence .now) modulus (rw e at (at .judge-lengths .ensures))
 
 judge-lengths-requires : tie.Need-judge-lengths-requires
 judge-lengths-requires c κs = search needs
@@ -38,14 +37,14 @@ enum-known-ruling c = search needs
 refused-requires : tie.Need-refused-requires
 refused-requires c κs =
     let at = c .before .before .before in
-    handles-small modulus-prime everything {s = unpacked-state (host at)} {c = call-of (start at .args .request)} (unsound _ (refuses at (c .before .ruling .given .1))) .place-below
+    handles-small modulus-prime {s = unpacked-state (host at)} {c = call-is (start at .args .call)} (unsound _ (refuses at (c .before .ruling .given .1))) .place-below
 
 returns : tie.Need-returns
 returns c =
     let at = c .before .before .before .before in
     let a = start at .args in
     rw (c .refused .ensures)
-    (host-refuses (a .n) (a .made) (a .adjacency .now) (a .weights .now) (a .inverse .now) (a .sequence .now) (call-of (a .request)) (refuses at (c .before .before .ruling .given .1)))
+    (host-refuses (a .n) (a .made) (a .adjacency .now) (a .weights .now) (a .inverse .now) (a .sequence .now) (call-is (a .call)) (refuses at (c .before .before .ruling .given .1)))
 
 enum-told : tie.Need-enum-told
 enum-told c = search needs

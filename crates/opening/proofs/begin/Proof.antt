@@ -12,11 +12,11 @@ use Rattle.matching.specs.Graph.{over}
 use Rattle.matching.specs.Pairs.{everything}
 use Rattle.matching.specs.Opening.{ruling, Opens, OpenedExactly, refuses-opening}
 use Rattle.laws.specs.Determined.{opened-exactly}
-use Rattle.checks.specs.Answers.{ruling-of}
 use Rattle.exchange.specs.declared.Outcome.{Outcome}
 use Rattle.opening.specs.Answers.{found, buffers}
 use Rattle.opening.specs.Begun.{Ready, ready, Cleared, begun-whole}
 use borrow.Author.Needs.{needs}
+use Rattle.refusals.specs.Answers.{ruling-of}
 use Rattle.opening.proofs.begin.Statement.{statement}
 use Rattle.opening.proofs.begin.Tie as tie
 

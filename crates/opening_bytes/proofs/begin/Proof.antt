@@ -5,11 +5,10 @@ use Rattle.residue.specs.Modulus.{modulus, modulus-prime}
 use Rattle.matching.specs.Decision.{because, refused}
 use Rattle.matching.specs.Graph.{over}
 use Rattle.matching.specs.Opening.{Buffers, ruling}
-use Rattle.matching.specs.Pairs.{everything}
 use Rattle.matching.specs.Host.{words, unpacked, HostOpens}
 use Rattle.laws.specs.Determined.{host-opened-exactly}
-use Rattle.checks.specs.declared.Refusal.{Refusal}
-use Rattle.checks.specs.declared.Ruling.the-variants.{Refused}
+use Rattle.refusals.specs.declared.Refusal.{Refusal}
+use Rattle.refusals.specs.declared.Ruling.the-variants.{Refused}
 use Rattle.opening.specs.Answers.{buffers}
 use Rattle.opening_bytes.specs.Opened.{room-refused, room-accepted, host-refuses, refusal-small}
 use borrow.Author.Needs.{needs}
@@ -41,9 +40,9 @@ returns : tie.Need-returns
 returns c =
     let at = c .before .before .before .before in
     let a = c .before .before .before .before .before .before .before .before .before .before .before .args in
-    let o : HostOpens modulus (a .n) (a .adjacency .now) (a .weights .now) everything (host at) (c .refused .result) (host at) =
+    let o : HostOpens modulus (a .n) (a .adjacency .now) (a .weights .now) (host at) (c .refused .result) (host at) =
     rw (c .refused .ensures) (host-refuses (a .n) (a .adjacency .now) (a .weights .now) (host at) (refuses at (c .before .before .ruling .given .1))) in
-    (o, host-opened-exactly modulus-prime _ o)
+    (o, host-opened-exactly modulus-prime o)
 
 enum-told : tie.Need-enum-told
 enum-told c = search needs
@@ -68,7 +67,7 @@ same-length-4 c = search needs
 
 returns-2 : tie.Need-returns-2
 returns-2 c =
-    (c .before .before .before .before .before .before .before .before .open-words .ensures, host-opened-exactly modulus-prime _ (c .before .before .before .before .before .before .before .before .open-words .ensures))
+    (c .before .before .before .before .before .before .before .before .open-words .ensures, host-opened-exactly modulus-prime (c .before .before .before .before .before .before .before .before .open-words .ensures))
 
 pub begin-spec : {M : Type 1} → statement M
 begin-spec =

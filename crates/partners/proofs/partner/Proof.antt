@@ -10,7 +10,8 @@ use Rattle.residue.specs.Modulus.{modulus-prime}
 use Rattle.matching.specs.Decision.{Every, Refusal, refused, Accepted}
 use Rattle.matching.specs.Decision as decision
 use Rattle.matching.specs.Graph.{over}
-use Rattle.matching.specs.Pairs.{Pairs, everything}
+use Rattle.skew.specs.Subset.{Subset}
+use Rattle.matching.specs.Pairs.{Pairs}
 use Rattle.matching.specs.Model.{OpenPartner}
 use Rattle.partners.specs.Standing.{Standing}
 use Rattle.partners.proofs.partner.Statement.{statement}
@@ -18,8 +19,8 @@ use Rattle.partners.proofs.partner.Tie as tie
 
 abbrev NoneBefore : (n : ℕ) (adjacency inverse marks : List ℕ) (c r : ℕ) → Type 0
 NoneBefore n adjacency inverse marks c r =
-    (weights : List ℕ) (pairs : Pairs) → Standing (over n adjacency weights) pairs inverse marks
-    → Every r (λ k. ¬ OpenPartner modulus-prime (over n adjacency weights) everything pairs c k)
+    (weights : List ℕ) (S : Subset) (pairs : Pairs) → Standing (over n adjacency weights) S pairs inverse marks
+    → Every r (λ k. ¬ OpenPartner modulus-prime (over n adjacency weights) S pairs c k)
 
 is-accepted : {v : decision.Ruling} → v ≡ decision.accepted → Accepted v
 is-accepted e = rw e tt
@@ -34,7 +35,7 @@ abbrev μ-loop : tie.MeasureT-loop
 μ-loop n adjacency inverse marks c r₀ r = n - r
 
 loop-holds : tie.Need-loop-holds Inv-loop μ-loop
-loop-holds c = (omega arith, λ weights pairs K. below-none _)
+loop-holds c = (omega arith, λ weights S pairs K. below-none _)
 
 judge-requires : tie.Need-judge-requires Inv-loop μ-loop
 judge-requires c κs = search needs
@@ -43,12 +44,12 @@ enum-told : tie.Need-enum-told Inv-loop μ-loop
 enum-told c = search needs
 
 returns : tie.Need-returns Inv-loop μ-loop
-returns c = λ weights pairs K.
+returns c = λ weights S pairs K.
     let at = c .before .before .before .before in
     record {
       below = omega arith;
-      holds = is-accepted (sym (rw (c .enum-told .given .1) at (c .before .before .judge .ensures weights pairs K)));
-      none-before = at .loop .inv .1 weights pairs K;
+      holds = is-accepted (sym (rw (c .enum-told .given .1) at (c .before .before .judge .ensures weights S pairs K)));
+      none-before = at .loop .inv .1 weights S pairs K;
     }
 
 enum-told-2 : tie.Need-enum-told-2 Inv-loop μ-loop
@@ -63,14 +64,14 @@ loop-less c = omega arith
 loop-again : tie.Need-loop-again Inv-loop μ-loop
 loop-again c = (
   omega arith,
-  λ weights pairs K.
+  λ weights S pairs K.
       let at = c .before .before .before .before in
-      below-more _ _ (at .loop .inv .1 weights pairs K)
-      (not-accepted (sym (rw (c .enum-told2 .given .1) at (c .before .before .judge .ensures weights pairs K)))),
+      below-more _ _ (at .loop .inv .1 weights S pairs K)
+      (not-accepted (sym (rw (c .enum-told2 .given .1) at (c .before .before .judge .ensures weights S pairs K)))),
 )
 
 returns-2 : tie.Need-returns-2 Inv-loop μ-loop
-returns-2 c = λ weights pairs K k l. c .before .loop .inv .1 weights pairs K k (omega arith)
+returns-2 c = λ weights S pairs K k l. c .before .loop .inv .1 weights S pairs K k (omega arith)
 
 pub partner-spec : {M : Type 1} → statement M
 partner-spec =

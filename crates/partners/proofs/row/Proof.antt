@@ -6,13 +6,13 @@ use Rattle.partners.proofs.row.Statement.{statement}
 use Rattle.partners.proofs.row.Tie as tie
 
 returns : tie.Need-returns
-returns c = λ weights pairs K. row-outside K _ _ (c .if1 .taken)
+returns c = λ weights S pairs K. rw (c .refuse .ensures) (row-outside K _ _ (c .before .if1 .taken))
 
 shared-slice-read-if2 : tie.Need-shared-slice-read-if2
 shared-slice-read-if2 c = search needs
 
 returns-2 : tie.Need-returns-2
-returns-2 c = λ weights pairs K. row-matched K _ _ (omega arith) (c .if2 .taken)
+returns-2 c = λ weights S pairs K. rw (c .refuse2 .ensures) (row-matched K _ _ (omega arith) (c .before .if2 .taken))
 
 show-requires : tie.Need-show-requires
 show-requires c κs = search needs
@@ -21,9 +21,15 @@ same-length : tie.Need-same-length
 same-length c = search needs
 
 returns-3 : tie.Need-returns-3
-returns-3 c = λ weights pairs K. row-shown K _ _ (omega arith) (c .before .before .before .before .if2 .left) (c .before .before .show .ensures weights pairs K)
+returns-3 c = λ weights S pairs K. row-shown K _ _ (omega arith) (c .before .before .before .before .if2 .left) (c .before .before .show .ensures weights S pairs K)
+
+refuse-requires : tie.Need-refuse-requires
+refuse-requires c κs = search needs
+
+refuse-requires-2 : tie.Need-refuse-requires-2
+refuse-requires-2 c κs = search needs
 
 pub row-spec : {M : Type 1} → statement M
 row-spec =
     tie.close
-    (tie.spec returns shared-slice-read-if2 returns-2 show-requires same-length returns-3)
+    (tie.spec refuse-requires returns shared-slice-read-if2 refuse-requires-2 returns-2 show-requires same-length returns-3)

@@ -29,6 +29,9 @@ reciprocal-requires c κs =
 take-column-requires-2 : tie.Need-take-column-requires-2
 take-column-requires-2 c κs = search needs
 
+cast-x : tie.Need-cast-x
+cast-x c = search needs
+
 mul-x : tie.Need-mul-x
 mul-x c = search needs
 
@@ -40,9 +43,12 @@ mul-x-2 c = search needs
 
 slice-write-x-2 : tie.Need-slice-write-x-2
 slice-write-x-2 c =
-    let s = c .before .before .before .before .before .before .before .before .before .before .before .before .before .before .before .before .before .before .before in
-    let l = c .before .before .before .before .before .before .before .before .before .before .before .before .before .take-column .kept .1 .1 .1 .0 in
+    let s = c .before .before .before .before .before .before .before .before .before .before .before .before .before .before .before .before .before .before .before .before in
+    let l = c .before .before .before .before .before .before .before .before .before .before .before .before .before .before .take-column .kept .1 .1 .1 .0 in
     simp length-set (omega arith)
+
+cast-y : tie.Need-cast-y
+cast-y c = search needs
 
 mul-y : tie.Need-mul-y
 mul-y c = search needs
@@ -61,9 +67,9 @@ same-length-3 c = search needs
 
 returns : tie.Need-returns
 returns c =
-    let s = c .before .before .before .before .before .before .before .before .before .before .before .before .before .before .before .before .before .before .before in
-    let k = c .before .before .before .before .before .before .before .before .before .before .before .before .before .take-column in
-    let m = c .before .before .before .before .take-column2 in
+    let s = c .before .before .before .before .before .before .before .before .before .before .before .before .before .before .before .before .before .before .before .before .before in
+    let k = c .before .before .before .before .before .before .before .before .before .before .before .before .before .before .before .take-column in
+    let m = c .before .before .before .before .before .before .take-column2 in
     let order : s .args .c < s .args .r = s .pre .0 .order in
     let hr : s .args .r < s .args .n = s .pre .0 .below in
     let T = k .ensures .0 in
@@ -72,7 +78,7 @@ returns c =
     let D' = m .ensures .1 in
     let lx = k .kept .1 .1 .1 .0 ∙ s .pre .1 in
     let ly = m .kept .1 .1 .1 .0 ∙ s .pre .2 in
-    let h = c .before .before .before .before .before .before .before .reciprocal .ensures in
+    let h = c .before .before .before .before .before .before .before .before .before .reciprocal .ensures in
     record {
       size = U .size ∙ T .size;
       clear = taken-clear order hr T U;
@@ -96,10 +102,12 @@ columns-spec =
     slice-read-reciprocal
     reciprocal-requires
     take-column-requires-2
+    cast-x
     mul-x
     slice-write-x
     mul-x-2
     slice-write-x-2
+    cast-y
     mul-y
     slice-write-y
     same-length

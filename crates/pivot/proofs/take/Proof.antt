@@ -1,7 +1,9 @@
 -- `pivot::take` meets its contract.
 -- Assumes nothing.
 use mathlib.Core.Path.{sym, refl, _∙_}
+use native.Mathlib.Nat.{mod-lt}
 use native.Mathlib.Omega.{arith}
+use lib.Dec.{lit<}
 use Rattle.lists.specs.Table.{Room, row-room}
 use Rattle.pivot.specs.Words.{place-above, place-below, residue-above, residue-below}
 use borrow.Author.Needs.{needs}
@@ -17,26 +19,32 @@ mul-at c = let h = room (c .before .before) in omega arith
 add-at : tie.Need-add-at
 add-at c = let h = room (c .before .before) in omega arith
 
-mul-above : tie.Need-mul-above
-mul-above c = let h = room (c .before .before) in omega arith
+mul-make : tie.Need-mul-make
+mul-make c = let h = room (c .before .before) in omega arith
 
-slice-read-above : tie.Need-slice-read-above
-slice-read-above c = let h = room (c .before .before .before) in omega arith
+slice-read-make : tie.Need-slice-read-make
+slice-read-make c = let h = room (c .before .before .before) in omega arith
+
+make-requires : tie.Need-make-requires
+make-requires c κs = search needs
 
 mul-t : tie.Need-mul-t
-mul-t c = let h = room (c .before .before .before) in omega arith
+mul-t c = let h = room (c .before .before .before .before) in omega arith
 
 slice-write-t : tie.Need-slice-write-t
-slice-write-t c = let h = room (c .before .before .before) in omega arith
+slice-write-t c = let h = room (c .before .before .before .before) in omega arith
+
+cast-result : tie.Need-cast-result
+cast-result c = search needs
 
 same-length : tie.Need-same-length
 same-length c = search needs
 
 returns : tie.Need-returns
 returns c =
-    let l = c .before .if1 .taken in
-    let s = c .before .before .before in
-    rw (place-above (s .args .n) (s .args .k) (s .args .c) l) (sym (residue-above _ _ _ l), refl)
+    let l = c .before .before .before .if1 .taken in
+    let s = c .before .before .before .before .before in
+    rw (place-above (s .args .n) (s .args .k) (s .args .c) l) (c .before .make .ensures ∙ sym (residue-above _ _ _ l), refl)
 
 mul-at-2 : tie.Need-mul-at-2
 mul-at-2 c = let h = room (c .before .before) in omega arith
@@ -44,35 +52,39 @@ mul-at-2 c = let h = room (c .before .before) in omega arith
 add-at-2 : tie.Need-add-at-2
 add-at-2 c = let h = room (c .before .before) in omega arith
 
-mul-below : tie.Need-mul-below
-mul-below c = let h = room (c .before .before) in omega arith
+mul-make-2 : tie.Need-mul-make-2
+mul-make-2 c = let h = room (c .before .before) in omega arith
 
-slice-read-below : tie.Need-slice-read-below
-slice-read-below c = let h = room (c .before .before .before) in omega arith
+slice-read-make-2 : tie.Need-slice-read-make-2
+slice-read-make-2 c = let h = room (c .before .before .before) in omega arith
+
+make-requires-2 : tie.Need-make-requires-2
+make-requires-2 c κs = search needs
 
 mul-t-2 : tie.Need-mul-t-2
-mul-t-2 c = let h = room (c .before .before .before) in omega arith
+mul-t-2 c = let h = room (c .before .before .before .before) in omega arith
 
 slice-write-t-2 : tie.Need-slice-write-t-2
-slice-write-t-2 c = let h = room (c .before .before .before) in omega arith
+slice-write-t-2 c = let h = room (c .before .before .before .before) in omega arith
 
 cast-negative : tie.Need-cast-negative
 cast-negative c = search needs
 
 negative-requires : tie.Need-negative-requires
-negative-requires c κs = search needs
+negative-requires c κs = rw (c .before .make2 .ensures) (mod-lt _ (lit< tt))
 
-cast-result : tie.Need-cast-result
-cast-result c = search needs
+cast-result-2 : tie.Need-cast-result-2
+cast-result-2 c = search needs
 
 same-length-2 : tie.Need-same-length-2
 same-length-2 c = search needs
 
 returns-2 : tie.Need-returns-2
 returns-2 c =
-    let s = c .before .before .before .before in
-    let l = c .before .before .if1 .left in
-    rw (place-below (s .args .n) (s .args .k) (s .args .c) l) (c .negative .ensures ∙ sym (residue-below _ _ _ l), refl)
+    let s = c .before .before .before .before .before .before in
+    let l = c .before .before .before .before .if1 .left in
+    rw (place-below (s .args .n) (s .args .k) (s .args .c) l)
+    (c .negative .ensures ∙ rw (c .before .before .make2 .ensures) (sym (residue-below _ _ _ l)), refl)
 
 pub take-spec : {M : Type 1} → statement M
 take-spec =
@@ -80,20 +92,23 @@ take-spec =
     (tie.spec
     mul-at
     add-at
-    mul-above
-    slice-read-above
+    mul-make
+    slice-read-make
+    make-requires
     mul-t
     slice-write-t
+    cast-result
     same-length
     returns
     mul-at-2
     add-at-2
-    mul-below
-    slice-read-below
+    mul-make-2
+    slice-read-make-2
+    make-requires-2
     mul-t-2
     slice-write-t-2
     cast-negative
     negative-requires
-    cast-result
+    cast-result-2
     same-length-2
     returns-2)

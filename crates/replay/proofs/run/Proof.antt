@@ -4,7 +4,8 @@ use mathlib.Core.Path.{_≡_, refl, _∙_}
 use Prim.Native.Nat.{_-_, _≤_}
 use native.Mathlib.Omega.{arith}
 use lib.ListN.{length, length-set}
-use Rattle.soundness.specs.Sound.{state}
+use borrow.Author.Needs.{needs}
+use Rattle.matching.specs.Session.{state}
 use Rattle.calls.specs.Answers.{handles-fit}
 use Rattle.calls.specs.Known.{Known, called-known}
 use Rattle.replay.specs.Run.{Ran, ran-none, ran-more}
@@ -12,17 +13,18 @@ use Rattle.replay.proofs.run.Statement.{statement}
 use Rattle.replay.proofs.run.Tie as tie
 
 abbrev Inv-loop : tie.InvT-loop
-Inv-loop n start adjacency weights inverse₀ sequence₀ marks₀ list answers₀ made₀ i₀ inverse sequence marks answers made i =
+Inv-loop n start adjacency weights inverse₀ sequence₀ marks₀ list answers₀ made₀ changed₀ i₀ inverse sequence marks answers made changed i =
     (i ≤ length answers₀)
     × (length inverse ≡ length inverse₀)
     × (length sequence ≡ length sequence₀)
     × (length marks ≡ length marks₀)
     × (length answers ≡ length answers₀)
     × Known n made adjacency weights inverse sequence marks
-    × Ran (state n start adjacency weights inverse₀ sequence₀) list answers₀ i (state n made adjacency weights inverse sequence) answers
+    × Ran (state n start adjacency weights inverse₀ sequence₀) list answers₀ i (state n made adjacency weights inverse sequence) answers changed
 
 abbrev μ-loop : tie.MeasureT-loop
-μ-loop n start adjacency weights inverse₀ sequence₀ marks₀ list answers₀ made₀ i₀ inverse sequence marks answers made i = length answers₀ - i
+μ-loop n start adjacency weights inverse₀ sequence₀ marks₀ list answers₀ made₀ changed₀ i₀ inverse sequence marks answers made changed i =
+    length answers₀ - i
 
 loop-holds : tie.Need-loop-holds Inv-loop μ-loop
 loop-holds c = (omega arith, refl, refl, refl, refl, c .before .before .before .before .before .before .before .pre .0, ran-none _ _ _)
@@ -55,34 +57,40 @@ shared-slice-read-b : tie.Need-shared-slice-read-b Inv-loop μ-loop
 shared-slice-read-b c = omega arith
 
 call-requires : tie.Need-call-requires Inv-loop μ-loop
-call-requires c κs = c .before .before .before .before .before .before .before .loop .inv .5
+call-requires c κs = search needs
+
+make-requires : tie.Need-make-requires Inv-loop μ-loop
+make-requires c κs = c .before .before .before .before .before .before .before .before .loop .inv .5
+
+accepts-requires : tie.Need-accepts-requires Inv-loop μ-loop
+accepts-requires c κs = search needs
 
 number-requires : tie.Need-number-requires Inv-loop μ-loop
-number-requires c κs = handles-fit (c .before .before .before .before .before .before .call .result .answer) (c .before .before .before .before .before .before .call .ensures .handled)
+number-requires c κs = handles-fit (c .before .before .before .before .before .before .before .make .result .answer) (c .before .before .before .before .before .before .before .make .ensures .handled)
 
 mul-answers : tie.Need-mul-answers Inv-loop μ-loop
-mul-answers c = let inside = c .before .before .before .before .before .before .before .before .before .before .before .before .before .before in omega (arith, inside .loop-test .taken, inside .before .loop .inv .4, inside .before .before .before .before .before .before .before .before .before .good, inside .before .before .before .before .before .before .before .before .before .pre .1)
+mul-answers c = let inside = c .before .before .before .before .before .before .before .before .before .before .before .before .before .before .before .before in omega (arith, inside .loop-test .taken, inside .before .loop .inv .4, inside .before .before .before .before .before .before .before .before .before .good, inside .before .before .before .before .before .before .before .before .before .pre .1)
 
 slice-write-answers : tie.Need-slice-write-answers Inv-loop μ-loop
 slice-write-answers c = omega arith
 
 add-i : tie.Need-add-i Inv-loop μ-loop
-add-i c = let inside = c .before .before .before .before .before .before .before .before .before .before .before .before .before .before in omega (arith, inside .loop-test .taken, inside .before .loop .inv .4, inside .before .before .before .before .before .before .before .before .before .good, inside .before .before .before .before .before .before .before .before .before .pre .1)
+add-i c = let inside = c .before .before .before .before .before .before .before .before .before .before .before .before .before .before .before .before in omega (arith, inside .loop-test .taken, inside .before .loop .inv .4, inside .before .before .before .before .before .before .before .before .before .good, inside .before .before .before .before .before .before .before .before .before .pre .1)
 
 loop-less : tie.Need-loop-less Inv-loop μ-loop
 loop-less c = omega arith
 
 loop-again : tie.Need-loop-again Inv-loop μ-loop
 loop-again c =
-    let called = c .before .before .before .before .before .before .before .call in
-    let inv = c .before .before .before .before .before .before .before .before .before .before .before .before .before .before .before .loop .inv in (
+    let called = c .before .before .before .before .before .before .before .before .make in
+    let inv = c .before .before .before .before .before .before .before .before .before .before .before .before .before .before .before .before .before .loop .inv in (
       omega arith,
-      called .kept .1 .1 .1 .1 .0 ∙ inv .1,
-      called .kept .1 .1 .1 .1 .1 .0 ∙ inv .2,
-      called .kept .1 .1 .1 .1 .1 .1 .0 ∙ inv .3,
+      called .kept .1 .1 .1 .1 .1 .0 ∙ inv .1,
+      called .kept .1 .1 .1 .1 .1 .1 .0 ∙ inv .2,
+      called .kept .1 .1 .1 .1 .1 .1 .1 .0 ∙ inv .3,
       simp length-set (inv .4),
       called-known (inv .5) (called .ensures),
-      ran-more (inv .6) (omega arith) (called .ensures .handled) (c .number .ensures _),
+      ran-more (inv .6) (omega arith) (rw (c .before .before .before .before .before .before .before .before .before .before .before .before .call .ensures) at (called .ensures .handled)) (c .number .ensures _) (c .before .accepts .ensures),
     )
 
 same-length : tie.Need-same-length Inv-loop μ-loop
@@ -121,6 +129,8 @@ run-spec =
     mul-b
     shared-slice-read-b
     call-requires
+    make-requires
+    accepts-requires
     number-requires
     mul-answers
     slice-write-answers

@@ -3,8 +3,8 @@ use mathlib.Core.Path.{refl}
 use native.Mathlib.Omega.{arith}
 use lib.ListN.{length}
 use borrow.Author.Needs.{needs}
-use Rattle.checks.specs.Answers.{ruling-of}
-use Rattle.replay_bytes.specs.Through.{extent-small, fits-number, replays-small}
+use Rattle.replay.specs.Run.{unchanged}
+use Rattle.replay_bytes.specs.Through.{extent-small, replays-fit}
 use Rattle.replay_bytes.proofs.replay_over.Statement.{statement}
 use Rattle.replay_bytes.proofs.replay_over.Tie as tie
 
@@ -18,13 +18,13 @@ store-requires : tie.Need-store-requires
 store-requires c κs =
     let told = c .before .before .extent in
     let replayed = c .before .before .before .before .before .before .before .before .before .before .replay in
-    let small = extent-small (ruling-of (replayed .result .ruling)) (length (c .before .before .before .before .before .before .before .before .before .before .before .before .before .before .before .before .before .before .before .before .before .args .table .now)) in
+    let small = extent-small (replayed .result .changed) (length (c .before .before .before .before .before .before .before .before .before .before .before .before .before .before .before .before .before .before .before .before .before .args .table .now)) in
     (omega (arith, told .ensures, small, replayed .kept .1 .1 .1 .0), omega (arith, told .ensures, small, c .before .before .before .before .before .before .before .before .before .before .before .before .before .before .before .before .before .before .before .before .before .pre))
 
 ruled-requires : tie.Need-ruled-requires
 ruled-requires c κs =
     let replayed = c .before .before .before .before .before .before .before .before .before .before .before .before .before .replay in
-    (omega arith, fits-number (ruling-of (replayed .result .ruling)) (record { size = replayed .result .session .size; made = replayed .result .session .made }) (replays-small (replayed .ensures .0)))
+    (omega arith, replays-fit (replayed .ensures .0))
 
 same-length : tie.Need-same-length
 same-length c = search needs
@@ -44,10 +44,12 @@ returns c =
     record {
       verdict = _;
       left = _;
+      changed = _;
       outcome = replayed .ensures .0;
       numbered = c .ruled .ensures (replayed .result .session .size);
       stored = rw (c .before .before .before .before .before .before .extent .ensures) at (c .before .before .before .store .ensures);
       sequence = refl;
+      kept = unchanged _ _ _ (replayed .ensures .0) (replayed .ensures .1 .1);
     }
 
 pub replay-over-spec : {M : Type 1} → statement M

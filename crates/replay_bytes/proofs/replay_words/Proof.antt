@@ -23,7 +23,7 @@ counted at =
 
 squared : (at : tie.After-weights-needed) → start at .args .n * start at .args .n ≤ length (at .before .before .before .unpack .last .1 .1 .1 .1 .0)
 squared at =
-    omega (arith, square-small (start at .args .n) (start at .pre .0), at .before .before .before .unpack .kept .1 .1 .1 .1 .0, length-replicate {A = ℕ} 9216 0)
+    omega (arith, square-small (start at .args .n) (start at .pre .size), at .before .before .before .unpack .kept .1 .1 .1 .1 .0, length-replicate {A = ℕ} 9216 0)
 
 values-length : (at : tie.After-weights-needed) → length (take (at .weights-needed .result) (at .before .before .before .unpack .last .1 .1 .1 .0)) ≡ at .weights-needed .result
 values-length at = length-take-le _ (at .before .before .before .unpack .last .1 .1 .1 .0) (counted at)

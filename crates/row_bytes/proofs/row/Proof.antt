@@ -1,16 +1,12 @@
 -- `row_bytes::row` meets its contract: a refusal for the size or the lengths writes nothing, and else words are lent. Assumes nothing.
-use mathlib.Core.Path.{sym, _∙_}
 use borrow.Author.Needs.{needs}
 use Rattle.residue.specs.Modulus.{modulus, modulus-prime}
-use Rattle.matching.specs.Pairs.{everything}
-use Rattle.matching.specs.Session.{State}
+use Rattle.matching.specs.Session.{State, state}
 use Rattle.matching.specs.Model.{automatic}
 use Rattle.matching.specs.Calls.{unsound}
 use Rattle.matching.specs.Host.{unpacked-state}
 use Rattle.laws.specs.Numbers.{handles-small}
-use Rattle.soundness.specs.Sound.{state}
-use Rattle.session.specs.Row.{lengths-refuse}
-use Rattle.crossing.specs.Fit.{in-words, room-refused, room-accepted}
+use Rattle.crossing.specs.Fit.{room-refused, room-accepted}
 use Rattle.row_bytes.specs.Through.{host-refuses}
 use Rattle.row_bytes.proofs.row.Statement.{statement}
 use Rattle.row_bytes.proofs.row.Tie as tie
@@ -31,17 +27,16 @@ refused-requires : tie.Need-refused-requires
 refused-requires c κs =
     let at = c .before .before .before in
     let a = start at .args in
-    handles-small modulus-prime everything {s = unpacked-state (host at)} {c = automatic}
-    (unsound _ (room-refused (a .n) (a .made) (a .adjacency .now) (a .weights .now) (a .inverse .now) (a .sequence .now) modulus everything (rw (c .before .lengths .given .1) at (at .judge-lengths .ensures)))) .place-below
+    handles-small modulus-prime {s = unpacked-state (host at)} {c = automatic}
+    (unsound _ (room-refused (a .n) (a .made) (a .adjacency .now) (a .weights .now) (a .inverse .now) (a .sequence .now) modulus (rw (c .before .lengths .given .1) at (at .judge-lengths .ensures)))) .place-below
 
 returns : tie.Need-returns
 returns c =
     let at = c .before .before .before .before in
     let a = start at .args in
     rw (c .refused .ensures)
-    (host-refuses (host at) (a .a) (a .row .now)
-    (lengths-refuse (unpacked-state (host at)) (a .a) (a .row .now)
-    (rw (c .before .before .lengths .given .1) at (at .judge-lengths .ensures) ∙ sym (in-words (a .n) (a .made) (a .adjacency .now) (a .weights .now) (a .inverse .now) (a .sequence .now)))))
+    (host-refuses (a .n) (a .made) (a .adjacency .now) (a .weights .now) (a .inverse .now) (a .sequence .now) (a .a) (a .row .now)
+    (rw (c .before .before .lengths .given .1) at (at .judge-lengths .ensures)))
 
 enum-told : tie.Need-enum-told
 enum-told c = search needs

@@ -9,7 +9,7 @@ row-requires : tie.Need-row-requires
 row-requires c κs = search needs
 
 ruled-requires : tie.Need-ruled-requires
-ruled-requires c κs = (omega arith, shown-fits _ (c .before .before .before .before .before .before .before .before .before .pre) _ _ (c .before .before .row .ensures))
+ruled-requires c κs = (omega arith, shown-fits (c .before .before .row .ensures))
 
 same-length : tie.Need-same-length
 same-length c = search needs

@@ -9,7 +9,7 @@ use Rattle.lists.specs.Table.{square-small}
 use Rattle.checks.specs.Weights.{needed-small}
 use Rattle.crossing.specs.Needed.{needed-weights}
 use Rattle.crossing.specs.Fit.{needed-words}
-use Rattle.row_bytes.specs.Through.{needed-fits, host-shows}
+use Rattle.row_bytes.specs.Through.{host-shows}
 use Rattle.row_bytes.proofs.row_words.Statement.{statement}
 use Rattle.row_bytes.proofs.row_words.Tie as tie
 
@@ -23,7 +23,7 @@ counted at =
 
 squared : (at : tie.After-weights-needed) → start at .args .n * start at .args .n ≤ length (at .before .before .before .unpack .last .1 .1 .1 .1 .0)
 squared at =
-    omega (arith, square-small (start at .args .n) (start at .pre .0), at .before .before .before .unpack .kept .1 .1 .1 .1 .0, length-replicate {A = ℕ} 9216 0)
+    omega (arith, square-small (start at .args .n) (start at .pre .size), at .before .before .before .unpack .kept .1 .1 .1 .1 .0, length-replicate {A = ℕ} 9216 0)
 
 values-length : (at : tie.After-weights-needed) → length (take (at .weights-needed .result) (at .before .before .before .unpack .last .1 .1 .1 .0)) ≡ at .weights-needed .result
 values-length at = length-take-le _ (at .before .before .before .unpack .last .1 .1 .1 .0) (counted at)
@@ -65,11 +65,7 @@ slice-aggregate-row-over-2 : tie.Need-slice-aggregate-row-over-2
 slice-aggregate-row-over-2 c = sym (table-length (c .before .before))
 
 row-over-requires : tie.Need-row-over-requires
-row-over-requires c κs =
-    let at = c .before .before .before in
-    let a = start at .args in
-    rw (values-are at, at .before .before .before .unpack .ensures .1)
-    (needed-fits (a .n) (a .made) (a .adjacency .now) (a .weights .now) (a .inverse .now) (a .sequence .now) (a .a) (a .row .now) (start at .pre))
+row-over-requires c κs = search needs
 
 same-length : tie.Need-same-length
 same-length c = search needs

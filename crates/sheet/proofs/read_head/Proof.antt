@@ -19,11 +19,15 @@ enum-known-found-2 c = search needs
 enum-known-record : tie.Need-enum-known-record
 enum-known-record c = search needs
 
+because-requires : tie.Need-because-requires
+because-requires c κs = search needs
+
 returns : tie.Need-returns
 returns c =
-    let part = c .before .before in
+    let part = c .before .before .before in
     let known = part .before .before .before in
-    size-rejected (rw (part .«record» .given .1) at (rw (known .found2 .given .1) at (known .before .before .found-at .ensures))) (c .if1 .taken)
+    rw (c .because .ensures)
+    (size-rejected (rw (part .«record» .given .1) at (rw (known .found2 .given .1) at (known .before .before .found-at .ensures))) (c .before .if1 .taken))
 
 add-read-seed : tie.Need-add-read-seed
 add-read-seed c =
@@ -34,17 +38,11 @@ add-read-seed c =
 read-seed-requires : tie.Need-read-seed-requires
 read-seed-requires c κs = search needs
 
-enum-told : tie.Need-enum-told
-enum-told c = search needs
-
-enum-told-2 : tie.Need-enum-told-2
-enum-told-2 c = search needs
-
-enum-told-3 : tie.Need-enum-told-3
-enum-told-3 c = search needs
+because-requires-2 : tie.Need-because-requires-2
+because-requires-2 c κs = search needs
 
 returns-2 : tie.Need-returns-2
-returns-2 c = missing-reads awaits-size (rw (c .before .found .given .1) at (c .before .before .before .found-at .ensures))
+returns-2 c = missing-reads awaits-size ((rw (c .before .found .given .1) at (c .before .before .before .found-at .ensures)) _ awaits-size)
 
 returns-3 : tie.Need-returns-3
 returns-3 c =
@@ -55,17 +53,7 @@ returns-3 c =
 returns-4 : tie.Need-returns-4
 returns-4 c =
     let known = c .before .before .before in
-    not-size (rw (c .enum-told .given .1) at (rw (known .found2 .given .1) at (known .before .before .found-at .ensures))) (λ e. omega arith)
-
-returns-5 : tie.Need-returns-5
-returns-5 c =
-    let known = c .before .before .before in
-    not-size (rw (c .enum-told2 .given .1) at (rw (known .found2 .given .1) at (known .before .before .found-at .ensures))) (λ e. omega arith)
-
-returns-6 : tie.Need-returns-6
-returns-6 c =
-    let known = c .before .before .before in
-    not-size (rw (c .enum-told3 .given .1) at (rw (known .found2 .given .1) at (known .before .before .found-at .ensures))) (λ e. omega arith)
+    rw (c .because2 .ensures) (not-size (rw (known .found2 .given .1) at (known .before .before .found-at .ensures)) (c .before .match2 .keys2))
 
 pub read-head-spec : {M : Type 1} → statement M
 read-head-spec =
@@ -75,14 +63,11 @@ read-head-spec =
     enum-known-found
     enum-known-found-2
     enum-known-record
+    because-requires
     returns
     add-read-seed
     read-seed-requires
-    enum-told
-    enum-told-2
-    enum-told-3
+    because-requires-2
     returns-2
     returns-3
-    returns-4
-    returns-5
-    returns-6)
+    returns-4)

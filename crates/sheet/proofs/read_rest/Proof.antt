@@ -9,8 +9,8 @@ use borrow.Author.Needs.{needs}
 use Rattle.sheet.proofs.read_rest.Statement.{statement}
 use Rattle.sheet.proofs.read_rest.Tie as tie
 
-mul-size : tie.Need-mul-size
-mul-size c = let s = c .before .before .before in omega (arith, square-small (s .args .n) (s .pre))
+mul-cells : tie.Need-mul-cells
+mul-cells c = let s = c .before .before .before in omega (arith, square-small (s .args .n) (s .pre))
 
 array-borrow-prefix-table : tie.Need-array-borrow-prefix-table
 array-borrow-prefix-table c = square-small _ (c .before .before .before .pre)
@@ -37,7 +37,7 @@ pub read-rest-spec : {M : Type 1} → statement M
 read-rest-spec =
     tie.close
     (tie.spec
-    mul-size
+    mul-cells
     array-borrow-prefix-table
     slice-aggregate-read-over
     read-over-requires

@@ -8,19 +8,27 @@ use borrow.Author.Needs.{needs}
 use Rattle.sheet.proofs.write_graph.Statement.{statement}
 use Rattle.sheet.proofs.write_graph.Tie as tie
 
-mul-size : tie.Need-mul-size
-mul-size c = search needs
+mul-cells : tie.Need-mul-cells
+mul-cells c = search needs
+
+because-requires : tie.Need-because-requires
+because-requires c κs = search needs
 
 returns : tie.Need-returns
-returns c = lacks-adjacency _ _ (c .if1 .taken)
+returns c = rw (c .because .ensures) (lacks-adjacency _ _ (c .before .if1 .taken))
 
 weights-needed-requires : tie.Need-weights-needed-requires
 weights-needed-requires c κs = search needs
 
+because-requires-2 : tie.Need-because-requires-2
+because-requires-2 c κs = search needs
+
 returns-2 : tie.Need-returns-2
 returns-2 c =
-    let s = c .before .before .before .before .before .before in
-    lacks-weights _ _ (c .before .before .if1 .left) (rw (c .before .weights-needed .ensures ∙ needed-all (s .args .n) (s .pre .small)) at (c .if2 .taken))
+    let count = c .before .before in
+    let s = count .before .before .before .before .before in
+    rw (c .because2 .ensures)
+    (lacks-weights _ _ (count .before .if1 .left) (rw (count .weights-needed .ensures ∙ needed-all (s .args .n) (s .pre .small)) at (c .before .if2 .taken)))
 
 slice-relend-prefix-copy-bytes : tie.Need-slice-relend-prefix-copy-bytes
 slice-relend-prefix-copy-bytes c = search needs
@@ -67,9 +75,11 @@ pub write-graph-spec : {M : Type 1} → statement M
 write-graph-spec =
     tie.close
     (tie.spec
-    mul-size
+    mul-cells
+    because-requires
     returns
     weights-needed-requires
+    because-requires-2
     returns-2
     slice-relend-prefix-copy-bytes
     slice-aggregate-copy-bytes

@@ -6,8 +6,8 @@ use native.Mathlib.Omega.{arith}
 use borrow.Author.Needs.{needs}
 use lib.ListN.{length, drop, replicate, length-append, length-drop, length-replicate}
 use Rattle.lists.specs.Part.{length-part, part-filled}
+use Rattle.lists.specs.Onto.{onto}
 use Rattle.draws.specs.Draws.{draws}
-use Rattle.matching.specs.Session.{onto}
 use Rattle.matching.specs.Host.{bytes-of}
 use Rattle.sheet_bytes.proofs.draw_words.Statement.{statement}
 use Rattle.sheet_bytes.proofs.draw_words.Tie as tie

@@ -18,9 +18,9 @@ same-length c = search needs
 
 returns : tie.Need-returns
 returns c =
-    let formed = c .before .before .before .formed .ensures in
-    let start = c .before .before .before .before .before .before .before .before .before .before in
-    not-formed _ _ _ _ _ _ _ (start .pre .0) refl (formed .well (start .args .weights .now) .when-false (not-true _ (c .if1 .taken)))
+    let formed = c .before .before .before .before .formed .ensures in
+    let start = c .before .before .before .before .before .before .before .before .before .before .before in
+    not-formed _ _ _ _ _ _ _ (start .pre .0) (c .refuse .ensures) (formed .well (start .args .weights .now) .when-false (not-true _ (c .before .if1 .taken)))
 
 is-inverse-requires : tie.Need-is-inverse-requires
 is-inverse-requires c κs =
@@ -33,12 +33,12 @@ same-length-2 c = search needs
 
 returns-2 : tie.Need-returns-2
 returns-2 c =
-    let formed = c .before .before .before .before .before .before .formed .ensures in
-    let start = c .before .before .before .before .before .before .before .before .before .before .before .before .before in
-    let well = not-false _ (c .before .before .before .if1 .left) in
+    let formed = c .before .before .before .before .before .before .before .formed .ensures in
+    let start = c .before .before .before .before .before .before .before .before .before .before .before .before .before .before in
+    let well = not-false _ (c .before .before .before .before .if1 .left) in
     let L = formed .left well in
-    let told = c .before .is-inverse .ensures (unmatched everything (pairs-on (start .args .sequence .now) (start .args .made))) (λ i h. sym (L .same i h)) in
-    not-confirmed _ _ _ _ _ _ _ (start .pre .0) (formed .well (start .args .weights .now) .when-true well) refl (told .when-false (not-true _ (c .if2 .taken)))
+    let told = c .before .before .is-inverse .ensures (unmatched everything (pairs-on (start .args .sequence .now) (start .args .made))) (λ i h. sym (L .same i h)) in
+    not-confirmed _ _ _ _ _ _ _ (start .pre .0) (formed .well (start .args .weights .now) .when-true well) (c .refuse2 .ensures) (told .when-false (not-true _ (c .before .if2 .taken)))
 
 same-length-3 : tie.Need-same-length-3
 same-length-3 c = search needs
@@ -52,15 +52,13 @@ returns-3 c =
     let told = c .before .is-inverse .ensures (unmatched everything (pairs-on (start .args .sequence .now) (start .args .made))) (λ i h. sym (L .same i h)) in
     all-confirmed _ _ _ _ _ _ _ (start .pre .0) (formed .well (start .args .weights .now) .when-true well) refl (told .when-true (not-false _ (c .if2 .left))) L
 
+refuse-requires : tie.Need-refuse-requires
+refuse-requires c κs = search needs
+
+refuse-requires-2 : tie.Need-refuse-requires-2
+refuse-requires-2 c κs = search needs
+
 pub confirm-rest-spec : {M : Type 1} → statement M
 confirm-rest-spec =
     tie.close
-    (tie.spec
-    formed-requires
-    same-length
-    returns
-    is-inverse-requires
-    same-length-2
-    returns-2
-    same-length-3
-    returns-3)
+    (tie.spec formed-requires refuse-requires same-length returns is-inverse-requires refuse-requires-2 same-length-2 returns-2 same-length-3 returns-3)

@@ -5,7 +5,7 @@ use lib.ListN.{getD}
 use native.Mathlib.Decide.{ℕ-discrete}
 use native.Mathlib.Omega.{arith}
 use borrow.Author.Needs.{needs}
-use Rattle.skew.specs.Choose.{choose-yes, choose-no}
+use Rattle.lists.specs.Choose.{choose-yes, choose-no}
 use Rattle.matching.specs.Graph.{upper, weight, over}
 use Rattle.laws.specs.Weights.{index-closed}
 use Rattle.tutte.specs.Table.{row-small, numerator-small, cell-within, weight-within}

@@ -21,11 +21,11 @@ add-sum c = record { fits = omega (arith, product (c .args .f) (c .args .a) (ome
 add-sum-2 : tie.Need-add-sum-2
 add-sum-2 c = record { fits = omega (arith, product (c .args .f) (c .args .a) (omega arith) (omega arith), product (c .args .h) (c .args .b) (omega arith) (omega arith)) }
 
-cast-result : tie.Need-cast-result
-cast-result c = search needs
+make-requires : tie.Need-make-requires
+make-requires c κs = search needs
 
 returns : tie.Need-returns
 returns c = search needs
 
 pub combine-spec : {M : Type 1} → statement M
-combine-spec = tie.close (tie.spec mul-sum mul-sum-2 add-sum add-sum-2 cast-result returns)
+combine-spec = tie.close (tie.spec mul-sum mul-sum-2 add-sum add-sum-2 make-requires returns)

@@ -1,14 +1,11 @@
 -- `update::update_over` meets its contract: the multiples of x and y make the rows the update. Assumes nothing.
-use Prim.Native.Nat.{_-_}
-use native.Mathlib.Omega.{arith}
-use Rattle.residue.specs.Modulus.{modulus}
 use Rattle.update.specs.Rows.{updated}
 use borrow.Author.Needs.{needs}
 use Rattle.update.proofs.update_over.Statement.{statement}
 use Rattle.update.proofs.update_over.Tie as tie
 
-sub-negative : tie.Need-sub-negative
-sub-negative c = search needs
+negative-requires : tie.Need-negative-requires
+negative-requires c κs = search needs
 
 multiples-requires : tie.Need-multiples-requires
 multiples-requires c κs = search needs
@@ -33,16 +30,17 @@ same-length-3 c = search needs
 
 returns : tie.Need-returns
 returns c =
-    let start = c .before .before .before .before .before .before .before .before .before .before .before .before .before .before .before .before .before .before .before in
+    let called = c .before .before .before .before .before .before .before .before .before .before .before .before .before .before in
+    let start = called .before .before .before .before .before .before in
     let lent = start .pre .0 in
-    updated (start .args .g) (modulus - start .args .g) (c .before .before .update-rows .ensures) (omega arith)
+    updated (start .args .g) _ (c .before .before .update-rows .ensures) (start .pre .1) (called .negative .ensures)
     (rw (lent .u-size) at (c .before .before .before .before .before .before .before .before .before .before .before .before .multiples .ensures)) (rw (lent .v-size) at (c .before .before .before .before .before .before .before .before .multiples2 .ensures))
 
 pub update-over-spec : {M : Type 1} → statement M
 update-over-spec =
     tie.close
     (tie.spec
-    sub-negative
+    negative-requires
     multiples-requires
     cast-multiples
     multiples-requires-2

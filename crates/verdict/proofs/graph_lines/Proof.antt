@@ -25,17 +25,20 @@ slice-aggregate-verdict-lines-2 c = search needs
 slice-aggregate-verdict-lines-3 : tie.Need-slice-aggregate-verdict-lines-3
 slice-aggregate-verdict-lines-3 c = search needs
 
-array-borrow-prefix-marks : tie.Need-array-borrow-prefix-marks
-array-borrow-prefix-marks c = let start = c .before .before .before .before .before .before .before .before .before .before in omega (arith, start .pre .0 .in-order .size)
-
 slice-aggregate-verdict-lines-4 : tie.Need-slice-aggregate-verdict-lines-4
-slice-aggregate-verdict-lines-4 c =
-    let start = c .before .before .before .before .before .before .before .before .before .before .before in
+slice-aggregate-verdict-lines-4 c = search needs
+
+array-borrow-prefix-marks : tie.Need-array-borrow-prefix-marks
+array-borrow-prefix-marks c = let start = c .before .before .before .before .before .before .before .before .before .before .before in omega (arith, start .pre .0 .in-order .size)
+
+slice-aggregate-verdict-lines-5 : tie.Need-slice-aggregate-verdict-lines-5
+slice-aggregate-verdict-lines-5 c =
+    let start = c .before .before .before .before .before .before .before .before .before .before .before .before in
     sym (length-part (start .args .n) 96 1 (start .pre .0 .in-order .size))
 
 verdict-lines-requires : tie.Need-verdict-lines-requires
 verdict-lines-requires c κs =
-    let written = c .before .before .before .before .before .before .before in
+    let written = c .before .before .before .before .before .before .before .before in
     let start = written .before .before .before .before .before in
     let small = start .pre .0 .in-order .size in (
       rw (length-replicate {A = ℕ} 9216 0, length-replicate {A = ℕ} 96 0) (accepts (start .pre .0)),
@@ -51,8 +54,8 @@ same-length c = search needs
 
 returns : tie.Need-returns
 returns c =
-    let last = c .before .before .before .before .before .before in
-    graph-lines (last .before .before .before .before .before .before .before .before .first-line .ensures) (last .verdict-lines .ensures)
+    let last = c .before .before .before .before .before .before .before in
+    graph-lines (last .before .before .before .before .before .before .before .before .before .first-line .ensures) (last .verdict-lines .ensures)
 
 pub graph-lines-spec : {M : Type 1} → statement M
 graph-lines-spec =
@@ -62,8 +65,9 @@ graph-lines-spec =
     slice-aggregate-verdict-lines
     slice-aggregate-verdict-lines-2
     slice-aggregate-verdict-lines-3
-    array-borrow-prefix-marks
     slice-aggregate-verdict-lines-4
+    array-borrow-prefix-marks
+    slice-aggregate-verdict-lines-5
     verdict-lines-requires
     same-length
     returns)

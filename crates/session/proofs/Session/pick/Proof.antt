@@ -1,21 +1,12 @@
--- `session::Session::pick` meets its contract: a sound session's call, or a refusal. Assumes nothing.
-use mathlib.Core.Path.{sym}
+-- `session::Session::pick` meets its contract. Assumes nothing.
 use borrow.Author.Needs.{needs}
 use Rattle.residue.specs.Modulus.{modulus-prime}
-use Rattle.matching.specs.Pairs.{everything}
 use Rattle.laws.specs.Carried.{picked-exactly}
-use Rattle.calls.specs.Known.{known, not-sound, tables}
 use Rattle.session.proofs.Session.pick.Statement.{statement}
 use Rattle.session.proofs.Session.pick.Tie as tie
 
-slice-aggregate-confirm : tie.Need-slice-aggregate-confirm
-slice-aggregate-confirm c = search needs
-
-confirm-requires : tie.Need-confirm-requires
-confirm-requires c κs = search needs
-
-enum-known-ruling : tie.Need-enum-known-ruling
-enum-known-ruling c = search needs
+call-requires : tie.Need-call-requires
+call-requires c κs = search needs
 
 same-length : tie.Need-same-length
 same-length c = search needs
@@ -24,43 +15,7 @@ same-length-2 : tie.Need-same-length-2
 same-length-2 c = search needs
 
 returns : tie.Need-returns
-returns c = let h = not-sound (c .before .before .before .before .confirm .ensures) _ (c .before .ruling .given .1) in (h, picked-exactly modulus-prime everything h)
-
-enum-told : tie.Need-enum-told
-enum-told c = search needs
-
-array-borrow-prefix-marks : tie.Need-array-borrow-prefix-marks
-array-borrow-prefix-marks c = let small = tables (known (c .before .before .before .before .before .confirm .ensures) (c .before .before .enum-told .given .1)) .size in search needs
-
-slice-aggregate-pick : tie.Need-slice-aggregate-pick
-slice-aggregate-pick c = sym ((known (c .before .before .before .before .before .before .confirm .ensures) (c .before .before .before .enum-told .given .1)) .left .size)
-
-pick-requires : tie.Need-pick-requires
-pick-requires c κs = (_, known (c .before .before .before .before .before .before .confirm .ensures) (c .before .before .before .enum-told .given .1))
-
-same-length-3 : tie.Need-same-length-3
-same-length-3 c = search needs
-
-same-length-4 : tie.Need-same-length-4
-same-length-4 c = search needs
-
-returns-2 : tie.Need-returns-2
-returns-2 c = let h = c .before .before .before .before .before .pick .ensures _ (known (c .before .before .before .before .before .before .before .before .before .before .before .before .confirm .ensures) (c .before .before .before .before .before .before .before .before .before .enum-told .given .1)) .handled in (h, picked-exactly modulus-prime everything h)
+returns c = let h = c .before .before .before .before .call .ensures in (h, picked-exactly modulus-prime h)
 
 pub pick-spec : {M : Type 1} → statement M
-pick-spec =
-    tie.close
-    (tie.spec
-    slice-aggregate-confirm
-    confirm-requires
-    enum-known-ruling
-    same-length
-    same-length-2
-    returns
-    enum-told
-    array-borrow-prefix-marks
-    slice-aggregate-pick
-    pick-requires
-    same-length-3
-    same-length-4
-    returns-2)
+pick-spec = tie.close (tie.spec call-requires same-length same-length-2 returns)

@@ -1,0 +1,36 @@
+// A refusal, a ruling and a finding: what every check of the library answers. A refusal is made here alone.
+ghost use mathlib.Core.Path.{_≡_};
+ghost use Rattle.matching.specs.Decision.{because, refused};
+ghost use Rattle.refusals.specs.Answers.{refusal-of, ruling-of};
+
+// Why a call is refused: the number of the cause, and the place returned with it.
+pub struct Refusal {
+    pub cause: u8,
+    pub place: usize,
+}
+
+// A call is refused, or no cause applies.
+pub enum Ruling {
+    Accepted,
+    Refused(Refusal),
+}
+
+// Whether a cause applies, and its place.
+pub enum Finding {
+    Absent,
+    At(usize),
+}
+
+// Returns the refusal for a cause at a place.
+pub fn because(cause: u8, place: usize) -> Refusal
+    ensures { λ r. ⌜ refusal-of r ≡ because cause place ⌝ }
+{
+    Refusal { cause, place }
+}
+
+// Refuses for a cause at a place.
+pub fn refuse(cause: u8, place: usize) -> Ruling
+    ensures { λ r. ⌜ ruling-of r ≡ refused (because cause place) ⌝ }
+{
+    Ruling::Refused(Refusal { cause, place })
+}
