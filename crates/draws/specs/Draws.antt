@@ -15,7 +15,8 @@ unfoldable pub stateAfter : ℕ → ℕ → ℕ
 stateAfter seed zero = seed
 stateAfter seed (suc k) = next (stateAfter seed k)
 
--- the first k draws from the seed, in order; the first is that of the state after the seed, not of the seed
-unfoldable pub draws : ℕ → ℕ → List ℕ
-draws seed zero = []
-draws seed (suc k) = draw (next seed) ∷ draws (next seed) k
+-- the first k draws from the seed, in order, where draw-of gives the draw of a state; the first is that of the state after the seed, not of
+-- the seed
+unfoldable pub draws : (draw-of : ℕ → ℕ) (seed k : ℕ) → List ℕ
+draws draw-of seed zero = []
+draws draw-of seed (suc k) = draw-of (next seed) ∷ draws draw-of (next seed) k

@@ -27,20 +27,23 @@ unfolding stateAfter
 stateAfter-next seed zero = refl
 stateAfter-next seed (suc k) = ap next (stateAfter-next seed k)
 
--- the draw at index i is that of the state after i + 1 steps
-pub draws-values : (seed k : ℕ) → draws seed k ≡ list-of k (λ i. draw (stateAfter seed (i + 1)))
-unfolding draws stateAfter list-of
-draws-values seed zero = refl
-draws-values seed (suc k) =
-    ap (λ (l : List ℕ). draw (next seed) ∷ l)
-    (draws-values (next seed) k
-    ∙ list-of-same k (λ i. draw (stateAfter (next seed) (i + 1))) (λ i. draw (stateAfter seed (suc i + 1)))
-    (λ i _. ap draw (stateAfter-next seed (i + 1) ∙ simp add-one)))
+module _ (draw-of : ℕ → ℕ) where
+  -- the draw at index i is that of the state after i + 1 steps
+  pub draws-values : (seed k : ℕ) → draws draw-of seed k ≡ list-of k (λ i. draw-of (stateAfter seed (i + 1)))
+  unfolding draws stateAfter list-of
+  draws-values seed zero = refl
+  draws-values seed (suc k) =
+      ap (λ (l : List ℕ). draw-of (next seed) ∷ l)
+      (draws-values (next seed) k
+      ∙ list-of-same k (λ i. draw-of (stateAfter (next seed) (i + 1))) (λ i. draw-of (stateAfter seed (suc i + 1)))
+      (λ i _. ap draw-of (stateAfter-next seed (i + 1) ∙ simp add-one)))
 
--- as many draws as are asked for
-pub draws-length : (seed k : ℕ) → length (draws seed k) ≡ k
-draws-length seed k = rw (draws-values seed k) (length-list-of k _)
+  -- as many draws as are asked for
+  pub draws-length : (seed k : ℕ) → length (draws draw-of seed k) ≡ k
+  draws-length seed k = rw (draws-values seed k) (length-list-of k _)
 
--- each draw is from 1 to 65520
-pub draws-range : (seed k i : ℕ) → i < k → (1 ≤ getD (draws seed k) i 0) × (getD (draws seed k) i 0 < 65521)
-draws-range seed k i h = rw (draws-values seed k, getD-list-of k (λ i. draw (stateAfter seed (i + 1))) i h) (draw-range (stateAfter seed (i + 1)))
+  -- what holds of every state's draw holds of each
+  pub draws-range : {p : ℕ} → ((s : ℕ) → (1 ≤ draw-of s) × (draw-of s < p)) → (seed k i : ℕ) → i < k
+      → (1 ≤ getD (draws draw-of seed k) i 0) × (getD (draws draw-of seed k) i 0 < p)
+  draws-range range seed k i h =
+      rw (draws-values seed k, getD-list-of k (λ i. draw-of (stateAfter seed (i + 1))) i h) (range (stateAfter seed (i + 1)))

@@ -6,7 +6,7 @@ use native.Mathlib.Omega.{arith}
 use Rattle.draws.specs.Draws.{draw, stateAfter, draws}
 
 -- what the paper prints for the seed 0, after 1 and 2 steps: the state, and the draws so far
-pub printed : map {B = ℕ × List ℕ} (λ (k : ℕ). (stateAfter 0 k, draws 0 k)) (1 ∷ 2 ∷ []) ≡ (1013904223, 15471 ∷ []) ∷ (1196435762, 15471 ∷ 18257 ∷ []) ∷ []
+pub printed : map {B = ℕ × List ℕ} (λ (k : ℕ). (stateAfter 0 k, draws draw 0 k)) (1 ∷ 2 ∷ []) ≡ (1013904223, 15471 ∷ []) ∷ (1196435762, 15471 ∷ 18257 ∷ []) ∷ []
 unfolding stateAfter draws
 printed = refl
 

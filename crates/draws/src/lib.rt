@@ -28,7 +28,7 @@ pub fn draw(state: u32) -> u16
 
 // Puts the first draws from seed into words, in order, one in each word.
 pub fn fill(words: &mut [u16], seed: u32)
-    ensures { λ _. ⌜ now (words .exit) ≡ draws seed (length (now (words .entry))) ⌝ }
+    ensures { λ _. ⌜ now (words .exit) ≡ draws draw seed (length (now (words .entry))) ⌝ }
 {
     let mut state = seed;
     let mut i = 0;

@@ -7,6 +7,7 @@ use native.Mathlib.Decide.{decLt}
 use lib.ListN.{length}
 use Rattle.lists.specs.Choose.{choose}
 use Rattle.matching.specs.Decision.{Refusal, because, absent, at, unless, accepted, refused}
+use Rattle.matching.specs.Edition.{Edition}
 use Rattle.matching.specs.Graph.{largest, pair-count}
 use Rattle.matching.specs.Pairs.{Pair}
 use Rattle.matching.specs.Records.{Record, Progress, start, sized, weighted, ended, Takes, takes-size, takes-seed, takes-share, takes-end, Rejects, too-large-size, not-two, stood-already, Reading, sheet, unread, Reads, whole, not-due, stops, cut, rejected, goes-on, width, Read, graph-read, not-read, room, Fills, refuses-records, lacks-room, fills}
@@ -28,12 +29,12 @@ rejects-within (not-two _) = (omega arith, omega arith)
 rejects-within (stood-already _ _) = (omega arith, omega arith)
 
 -- a place is at most the number of bytes
-pub reads-within : {len : ℕ} {q : Progress} {x : ℕ} {bytes : List ℕ} {r : Reading} {why : Refusal} → Reads len q x bytes r → r ≡ unread why
+pub reads-within : {E : Edition} {len : ℕ} {q : Progress} {x : ℕ} {bytes : List ℕ} {r : Reading} {why : Refusal} → Reads E len q x bytes r → r ≡ unread why
     → x + length bytes ≤ len → Within len why
 reads-within whole e h = absurd (let z : _≡_ {A = ℕ} 0 1 = cc in omega arith)
 reads-within {x = x} (not-due d) e h = given-within (because 12 x) e (record { cause-from = omega arith; cause-below = omega arith; place-within = omega arith })
-reads-within {len} (stops d) e h = given-within (because 13 len) e (record { cause-from = omega arith; cause-below = omega arith; place-within = omega arith })
-reads-within {len} (cut d f) e h = given-within (because 13 len) e (record { cause-from = omega arith; cause-below = omega arith; place-within = omega arith })
+reads-within {len = len} (stops d) e h = given-within (because 13 len) e (record { cause-from = omega arith; cause-below = omega arith; place-within = omega arith })
+reads-within {len = len} (cut d f) e h = given-within (because 13 len) e (record { cause-from = omega arith; cause-below = omega arith; place-within = omega arith })
 reads-within {x = x} (rejected {cause = k} b j) e h =
     let c = rejects-within j in given-within (because k x) e (record { cause-from = c .0; cause-below = c .1; place-within = omega arith })
 reads-within (goes-on b t R) e h = reads-within R e (omega (arith, begins-width b))
@@ -45,14 +46,14 @@ so-far (sized n) = 0
 so-far (weighted n weights edges) = length edges
 so-far (ended n weights edges) = length edges
 
-one-edge : {q next : Progress} {r : Record} → Takes q r next → so-far next + 1 ≤ so-far q + width r
+one-edge : {E : Edition} {q next : Progress} {r : Record} → Takes E q r next → so-far next + 1 ≤ so-far q + width r
 one-edge (takes-size _) = omega arith
 one-edge takes-seed = omega arith
 one-edge (takes-share _ _) = omega arith
 one-edge takes-end = omega arith
 
 -- there are no more edges than bytes
-pub reads-edges : {len : ℕ} {q : Progress} {at : ℕ} {bytes : List ℕ} {r : Reading} {n : ℕ} {weights : List ℕ} {edges : List Pair} → Reads len q at bytes r
+pub reads-edges : {E : Edition} {len : ℕ} {q : Progress} {at : ℕ} {bytes : List ℕ} {r : Reading} {n : ℕ} {weights : List ℕ} {edges : List Pair} → Reads E len q at bytes r
     → r ≡ sheet n weights edges → length edges ≤ so-far q + length bytes
 reads-edges {edges = edges} (whole {edges = es}) e = let w : es ≡ edges = cc in omega (arith, ap length w)
 reads-edges (not-due _) e = absurd (let z : _≡_ {A = ℕ} 0 1 = cc in omega arith)
@@ -82,7 +83,7 @@ Answers (not-read why) len = Within (len + 2) why
 pub more-within : {k len : ℕ} {why : Refusal} → k ≤ len → Within k why → Within len why
 more-within h w = record { cause-from = w .cause-from; cause-below = w .cause-below; place-within = omega (arith, w .place-within) }
 
-pub fills-answer : {bytes adjacency weights adjacency′ weights′ : List ℕ} {given : Read} → Fills bytes adjacency weights given adjacency′ weights′
+pub fills-answer : {E : Edition} {bytes adjacency weights adjacency′ weights′ : List ℕ} {given : Read} → Fills E bytes adjacency weights given adjacency′ weights′
     → Answers given (length bytes)
 fills-answer (refuses-records R) = more-within (omega arith) (reads-within R refl (omega arith))
 fills-answer {adjacency = adjacency} {weights = weights} (lacks-room {n = n} R e) = more-within (omega arith) (room-within n adjacency weights e)

@@ -19,6 +19,7 @@ use Rattle.skew.specs.Column.{FirstDependent, Witness, witness-unique}
 use Rattle.skew.specs.Same.{inverse-same, witness-same}
 use Rattle.skew.specs.Decide.{Outcome, inverse, column, outcome, witness-singular, first-unique}
 use Rattle.matching.specs.Decision.{Every, Ruling, accepted, refused}
+use Rattle.matching.specs.Edition.{Edition}
 use Rattle.matching.specs.Graph.{Graph, over, tutte}
 use Rattle.matching.specs.Pairs.{everything}
 use Rattle.matching.specs.Model.{skew}
@@ -135,12 +136,12 @@ module _ {p : ℕ} (P : OddPrime p) (g : Graph) (S : Subset) where
   opens-unique {b} (finds-singular f w e l s) (finds-singular f′ w′ e′ l′ s′) =
       let u = singular-unique l l′ s s′ in (ap singular (u .0), ap (λ words. with-witness (g .n) words b) (u .1))
 
-pub host-opens-unique : {p : ℕ} (P : OddPrime p) {n k k′ : ℕ} {adjacency weights : List ℕ} {b a a′ : Buffers}
-    → HostOpens p n adjacency weights b k a → HostOpens p n adjacency weights b k′ a′ → (k ≡ k′) × (a ≡ a′)
-host-opens-unique P {b = b} H H′ =
-    let u = opens-unique P _ _ (H .outcome) (H′ .outcome) in (
+pub host-opens-unique : (E : Edition) {n k k′ : ℕ} {adjacency weights : List ℕ} {b a a′ : Buffers}
+    → HostOpens E n adjacency weights b k a → HostOpens E n adjacency weights b k′ a′ → (k ≡ k′) × (a ≡ a′)
+host-opens-unique E {b = b} H H′ =
+    let u = opens-unique (E .prime) _ _ (H .outcome) (H′ .outcome) in (
       H .numbered ∙ ap opening-number (u .0) ∙ sym (H′ .numbered),
-      H .stored ∙ ap₂ (λ o left. stored-after o left b) (u .0) (u .1) ∙ sym (H′ .stored),
+      H .stored ∙ ap₂ (λ o left. stored-after E o left b) (u .0) (u .1) ∙ sym (H′ .stored),
     )
 
 -- demand 2: a graph that is not refused is opened exactly when its matrix has an inverse
@@ -153,18 +154,19 @@ module _ {p : ℕ} (P : OddPrime p) (g : Graph) (S : Subset) where
     λ I. absurd (witness-singular P (g .n) (tutte g p) (skew P g) S (s .kernel) I),
   )
 
-pub host-opened-exactly : {p : ℕ} (P : OddPrime p) {n answer : ℕ} {adjacency weights : List ℕ} {b after : Buffers}
-    → HostOpens p n adjacency weights b answer after → HostOpenedExactly p n adjacency weights b answer
-host-opened-exactly {p} P {n} {answer} {adjacency} {weights} {b} H ok = rw (H .numbered) (go (H .outcome))
+pub host-opened-exactly : (E : Edition) {n answer : ℕ} {adjacency weights : List ℕ} {b after : Buffers}
+    → HostOpens E n adjacency weights b answer after → HostOpenedExactly E n adjacency weights b answer
+host-opened-exactly E {n} {answer} {adjacency} {weights} {b} H ok = rw (H .numbered) (go (H .outcome))
   where
     g : Graph
-    g = over n adjacency (words weights)
+    g = over n adjacency (words (E .width) weights)
 
-    go : {o : Opening} {a : Buffers} → Opens p g (players n (unpacked b)) (unpacked b) o a → (opening-number o / 2 ^ 8 % 2 ^ 8 ≡ 1) ↔ Invertible p n (tutte g p) (players n (unpacked b))
+    go : {o : Opening} {a : Buffers} → Opens (E .modulus) g (players n (unpacked E b)) (unpacked E b) o a
+        → (opening-number o / 2 ^ 8 % 2 ^ 8 ≡ 1) ↔ Invertible (E .modulus) n (tutte g (E .modulus)) (players n (unpacked E b))
     go (refuses-opening r e) = absurd (let z : _≡_ {A = ℕ} 0 1 = cc in omega arith)
     go (opens entries e l h) = (λ _. (_, h .is-inverse), λ _. refl)
     go (finds-singular f w e l s) =
-        (λ q. absurd (omega arith), λ I. absurd (witness-singular P n (tutte g p) (skew P g) (players n (unpacked b)) (s .kernel) I))
+        (λ q. absurd (omega arith), λ I. absurd (witness-singular (E .prime) n (tutte g (E .modulus)) (skew (E .prime) g) (players n (unpacked E b)) (s .kernel) I))
 
 module _ {p : ℕ} (P : OddPrime p) (g : Graph) where
   -- an odd number of vertices never opens

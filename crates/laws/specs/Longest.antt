@@ -9,6 +9,7 @@ use native.Mathlib.Decide.{ℕ-discrete, decLe, decLt}
 use lib.ListN.{length, take, drop, take-append-drop, length-append}
 use lib.Seq.{length-take-le, take-all}
 use Rattle.lists.specs.Choose.{choose, choose-yes, choose-no}
+use Rattle.matching.specs.Edition.{Edition}
 use Rattle.matching.specs.Graph.{largest}
 use Rattle.matching.specs.Pairs.{Pair, pair-of}
 use Rattle.matching.specs.Records.{Record, size, share, seed, end, width, four, Begins, begins-size, begins-share, begins-seed, begins-end, Same, same?, among, Progress, start, sized, weighted, ended, Due, size-due, seed-due, share-due, end-due, Takes, takes-size, takes-seed, takes-share, takes-end, Reading, sheet, Reads, whole, not-due, stops, cut, rejected, goes-on, ReadsAs}
@@ -117,17 +118,17 @@ listed-more n e edges l h F z =
     (λ i d. choose-no (ℕ-discrete i (coded e)) 1 _ d)
 
 -- each edge has its own number
-record Few (n : ℕ) (weights : List ℕ) (edges : List Pair) : Type 0 where
-  fit : Fit n weights edges
+record Few (E : Edition) (n : ℕ) (weights : List ℕ) (edges : List Pair) : Type 0 where
+  fit : Fit E n weights edges
   own : total (below n) (listed edges) ≡ length edges
 
-abbrev Own : Progress → Type 0
-Own start = Unit {0}
-Own (sized n) = n ≤ largest
-Own (weighted n weights edges) = Few n weights edges
-Own (ended n weights edges) = Few n weights edges
+abbrev Own : Edition → Progress → Type 0
+Own E start = Unit {0}
+Own E (sized n) = n ≤ largest
+Own E (weighted n weights edges) = Few E n weights edges
+Own E (ended n weights edges) = Few E n weights edges
 
-takes-own : {q next : Progress} {r : Record} → Takes q r next → Own q → Own next
+takes-own : {E : Edition} {q next : Progress} {r : Record} → Takes E q r next → Own E q → Own E next
 unfolding listed
 takes-own (takes-size l) _ = l
 takes-own (takes-seed {n = n} {s = s}) l =
@@ -147,26 +148,26 @@ spent (sized n) = 2
 spent (weighted n weights edges) = 7 + 3 * length edges
 spent (ended n weights edges) = 8 + 3 * length edges
 
-takes-spent : {q next : Progress} {r : Record} → Takes q r next → spent next ≡ spent q + width r
+takes-spent : {E : Edition} {q next : Progress} {r : Record} → Takes E q r next → spent next ≡ spent q + width r
 takes-spent (takes-size _) = omega arith
 takes-spent takes-seed = omega arith
 takes-spent (takes-share _ _) = omega arith
 takes-spent takes-end = omega arith
 
-few-edges : {n : ℕ} {weights : List ℕ} {edges : List Pair} → Few n weights edges → length edges ≤ 4560
-few-edges {n} {edges = edges} F =
+few-edges : {E : Edition} {n : ℕ} {weights : List ℕ} {edges : List Pair} → Few E n weights edges → length edges ≤ 4560
+few-edges {n = n} {edges = edges} F =
     omega
     (arith, total-most (below n) (listed edges) (listed-small edges), F .own, below-mono n largest (F .fit .small), below-all)
 
-spent-most : (q : Progress) → Own q → spent q ≤ 13688
-spent-most start F = omega arith
-spent-most (sized n) F = omega arith
-spent-most (weighted n weights edges) F = omega (arith, few-edges F)
-spent-most (ended n weights edges) F = omega (arith, few-edges F)
+spent-most : (E : Edition) (q : Progress) → Own E q → spent q ≤ 13688
+spent-most E start F = omega arith
+spent-most E (sized n) F = omega arith
+spent-most E (weighted n weights edges) F = omega (arith, few-edges F)
+spent-most E (ended n weights edges) F = omega (arith, few-edges F)
 
-reads-bytes : {len : ℕ} {q : Progress} {at : ℕ} {bytes : List ℕ} {r : Reading} {n : ℕ} {weights : List ℕ} {edges : List Pair} → Reads len q at bytes r
-    → r ≡ sheet n weights edges → Own q → spent q + length bytes ≤ 13688
-reads-bytes (whole {n = n} {weights = weights} {edges = edges}) e F = omega (arith, spent-most (ended n weights edges) F)
+reads-bytes : {E : Edition} {len : ℕ} {q : Progress} {at : ℕ} {bytes : List ℕ} {r : Reading} {n : ℕ} {weights : List ℕ} {edges : List Pair} → Reads E len q at bytes r
+    → r ≡ sheet n weights edges → Own E q → spent q + length bytes ≤ 13688
+reads-bytes {E} (whole {n = n} {weights = weights} {edges = edges}) e F = omega (arith, spent-most E (ended n weights edges) F)
 reads-bytes (not-due _) e F = absurd (let z : _≡_ {A = ℕ} 0 1 = cc in omega arith)
 reads-bytes (stops _) e F = absurd (let z : _≡_ {A = ℕ} 0 1 = cc in omega arith)
 reads-bytes (cut _ _) e F = absurd (let z : _≡_ {A = ℕ} 0 1 = cc in omega arith)
@@ -174,7 +175,7 @@ reads-bytes (rejected _ _) e F = absurd (let z : _≡_ {A = ℕ} 0 1 = cc in ome
 reads-bytes (goes-on b t R) e F = omega (arith, reads-bytes R e (takes-own t F), takes-spent t, begins-width b)
 
 -- a good sheet has at most 13,688 bytes
-pub sheet-bytes : {bytes : List ℕ} {n : ℕ} {weights : List ℕ} {edges : List Pair} → ReadsAs bytes (sheet n weights edges) → length bytes ≤ 13688
+pub sheet-bytes : {E : Edition} {bytes : List ℕ} {n : ℕ} {weights : List ℕ} {edges : List Pair} → ReadsAs E bytes (sheet n weights edges) → length bytes ≤ 13688
 sheet-bytes R = omega (arith, reads-bytes R refl tt)
 
 -- bytes behind those that a record was read from
@@ -199,22 +200,22 @@ not-cut (a ∷ b ∷ c ∷ []) d l f = absurd (omega arith)
 not-cut (a ∷ b ∷ c ∷ e ∷ rest) d l f = let s = begins-some d a b c e rest in f (s .0) (s .1) (s .2)
 
 -- where there are more bytes than a good sheet has, the reading ends before the last of them, and so before any that follow
-reads-longer : {len : ℕ} {q : Progress} {at : ℕ} {bytes : List ℕ} {r : Reading} (more : List ℕ) → Reads len q at bytes r → Own q → spent q ≡ at
-    → at + length bytes ≡ len → 13692 < len → Reads (len + length more) q at (bytes ++ more) r
-reads-longer more (whole {n = n} {weights = weights} {edges = edges}) F s l h = absurd (omega (arith, spent-most (ended n weights edges) F))
+reads-longer : {E : Edition} {len : ℕ} {q : Progress} {at : ℕ} {bytes : List ℕ} {r : Reading} (more : List ℕ) → Reads E len q at bytes r → Own E q → spent q ≡ at
+    → at + length bytes ≡ len → 13692 < len → Reads E (len + length more) q at (bytes ++ more) r
+reads-longer {E} more (whole {n = n} {weights = weights} {edges = edges}) F s l h = absurd (omega (arith, spent-most E (ended n weights edges) F))
 reads-longer more (not-due d) F s l h = not-due d
-reads-longer {q = q} more (stops d) F s l h = absurd (omega (arith, spent-most q F))
-reads-longer {q = q} more (cut {body = body} d f) F s l h = absurd (not-cut body d (omega (arith, spent-most q F)) f)
+reads-longer {E} {q = q} more (stops d) F s l h = absurd (omega (arith, spent-most E q F))
+reads-longer {E} {q = q} more (cut {body = body} d f) F s l h = absurd (not-cut body d (omega (arith, spent-most E q F)) f)
 reads-longer more (rejected b j) F s l h = rejected (begins-longer more b) j
 reads-longer more (goes-on b t R) F s l h =
     goes-on (begins-longer more b) t
     (reads-longer more R (takes-own t F) (omega (arith, takes-spent t)) (omega (arith, begins-width b)) h)
 
 -- the first 16,384 bytes are read as all of them are
-pub limit-unseen : (bytes : List ℕ) {r : Reading} → ReadsAs (take input-limit bytes) r → ReadsAs bytes r
-limit-unseen bytes {r} R = go (decLe (length bytes) input-limit)
+pub limit-unseen : {E : Edition} (bytes : List ℕ) {r : Reading} → ReadsAs E (take input-limit bytes) r → ReadsAs E bytes r
+limit-unseen {E} bytes {r} R = go (decLe (length bytes) input-limit)
   where
-    go : Dec (length bytes ≤ input-limit) → ReadsAs bytes r
+    go : Dec (length bytes ≤ input-limit) → ReadsAs E bytes r
     go (yes h) = rw (take-all input-limit bytes h) at R
     go (no h) =
         let l : length (take input-limit bytes) ≡ input-limit = length-take-le input-limit bytes (omega arith) in

@@ -13,6 +13,7 @@ use Rattle.lists.specs.Choose.{choose, choose-yes, choose-no}
 use Rattle.modular.specs.Prime.{OddPrime}
 use Rattle.skew.specs.Subset.{Subset}
 use Rattle.matching.specs.Decision.{Refusal, because, First, nowhere, first-at, Finding, absent, at, when, found, not?, Cause, Ruling, accepted, refused, unless, judge}
+use Rattle.matching.specs.Edition.{Edition}
 use Rattle.matching.specs.Graph.{Graph, largest, pair-count}
 use Rattle.matching.specs.Pairs.{Pair, Pairs, unmatched, in?, pairs-on}
 use Rattle.matching.specs.Session.{Session, State, in-play, graph-of, pairs-of}
@@ -295,19 +296,6 @@ module _ {p : ℕ} (P : OddPrime p) where
           let h = newest-below s I (s .session .made) refl y earlier w in below y (h .0) (h .1) q
       go _ (unchanged m) q = absurd (let z : _≡_ {A = ℕ} 0 1 = cc in omega arith)
 
-  -- every session call through the host has an outcome, and no other
-  pub host-handles-some : (s : State) (c : Call) → (k : ℕ) × (t : State) × HostHandles P s c k t
-  host-handles-some s c =
-      let h = handles-some P (unpacked-state s) c in
-      (_, _, record { given = h .0; left = h .1; outcome = h .2; numbered = refl; stored = refl })
-
-  pub host-handles-unique : {s t t′ : State} {c : Call} {k k′ : ℕ} → HostHandles P s c k t → HostHandles P s c k′ t′ → (k ≡ k′) × (t ≡ t′)
-  host-handles-unique {s} H H′ =
-      let u = handles-unique P (H .outcome) (H′ .outcome) in (
-        H .numbered ∙ ap₂ (λ a left. answer-number a (left .session)) (u .0) (u .1) ∙ sym (H′ .numbered),
-        H .stored ∙ ap₂ (λ a left. state-stored a left s) (u .0) (u .1) ∙ sym (H′ .stored),
-      )
-
   -- the pairs made after an accepted call fit their bits
   pub made-small : {s t : State} {c : Call} {e : Pair} → Handles P s c (done e) t → t .session .made < 2 ^ 8
   made-small {s} {c = c} (carries x ps words e k l i) =
@@ -323,37 +311,6 @@ module _ {p : ℕ} (P : OddPrime p) where
           grown (grows _ q) = rw q (omega arith)
           grown (shrinks _ q) = omega (arith, ap length q)
           grown (stays q) = rw q (omega arith)
-
-  -- the session handed back is the one that the number says
-  pub host-session : {s t : State} {c : Call} {k : ℕ} → HostHandles P s c k t → t .session ≡ session-back k (s .session)
-  host-session {s} {c = c} H = rw (H .stored, H .numbered) (go (H .given) (H .left) (H .outcome) (handles-small (H .outcome)))
-    where
-      size-same : {e : Pair} {left : State} → Handles P (unpacked-state s) c (done e) left → left .session .size ≡ s .session .size
-      size-same (carries _ _ _ _ _ _ _) = refl
-
-      go : (a : Answer) (left : State) → Handles P (unpacked-state s) c a left → SmallAnswer a
-          → state-stored a left s .session ≡ session-back (answer-number a (left .session)) (s .session)
-      go (denied r) left h f =
-          sym (choose-no (ℕ-discrete (answer-number (denied r) (left .session) % 2 ^ 8) 0) _ (s .session) (λ z. omega (arith, answer-low-byte (denied r) (left .session) f, f .cause-from)))
-      go (done e) left h f =
-          sym
-          (choose-yes (ℕ-discrete (answer-number (done e) (left .session) % 2 ^ 8) 0) _ (s .session) (answer-low-byte (done e) (left .session) f)
-          ∙ ap₂ (λ x y. record { size = x; made = y }) (sym (size-same h)) (made-field 0 3 (e .smaller + 2 ^ 8 * e .larger) (left .session .made) (omega arith) (omega arith) (omega arith) (made-small h)))
-
-  -- demand 2, second half, through the host
-  pub host-picked-exactly : {s t : State} {a b k : ℕ} → HostHandles P s (pick a b) k t → HostPickedExactly P s a b k
-  host-picked-exactly {s} {a = a} {b = b} H ok = rw (H .numbered) (go (H .given) (H .outcome) (handles-small (H .outcome)) (picked-exactly P (H .outcome) ok))
-    where
-      t : State
-      t = unpacked-state s
-
-      go : (x : Answer) → Handles P t (pick a b) x (H .left) → SmallAnswer x → ((e : Pair) × (x ≡ done e)) ↔ Allowed P (graph-of t) (in-play t) (pairs-of t) a b
-          → (answer-number x (H .left .session) % 2 ^ 8 ≡ 0) ↔ Allowed P (graph-of t) (in-play t) (pairs-of t) a b
-      go (done e) h f d = (λ _. d .0 (e, refl), λ _. answer-low-byte (done e) (H .left .session) f)
-      go (denied r) h f d = (
-        λ z. absurd (omega (arith, answer-low-byte (denied r) (H .left .session) f, f .cause-from)),
-        λ w. absurd (let q = d .1 w .1 in let z : _≡_ {A = ℕ} 0 1 = cc in omega arith),
-      )
 
   -- the pairs made are few on a sound session, and after calls; the size is the same
   made-few : (s : State) → session-ruling p s ≡ accepted → s .session .made < 2 ^ 8
@@ -416,46 +373,91 @@ module _ {p : ℕ} (P : OddPrime p) where
   replays-small {s} {numbers = numbers} {answers = answers} (replays returned e runs) =
       run-made runs (made-few s (replay-accepted P s numbers answers .0 e .0))
 
-  -- open row through the host has an outcome, and no other
-  pub host-row-some : (s : State) (a : ℕ) (row : List ℕ) → (k : ℕ) × (t : State) × (after : List ℕ) × HostShowsRow P s a row k t after
-  host-row-some s a row = go (row-ruling P (unpacked-state s) a row) refl
+module _ (E : Edition) where
+  -- every session call through the host has an outcome, and no other
+  pub host-handles-some : (s : State) (c : Call) → (k : ℕ) × (t : State) × HostHandles E s c k t
+  host-handles-some s c =
+      let h = handles-some (E .prime) (unpacked-state E s) c in
+      (_, _, record { given = h .0; left = h .1; outcome = h .2; numbered = refl; stored = refl })
+
+  pub host-handles-unique : {s t t′ : State} {c : Call} {k k′ : ℕ} → HostHandles E s c k t → HostHandles E s c k′ t′ → (k ≡ k′) × (t ≡ t′)
+  host-handles-unique {s} H H′ =
+      let u = handles-unique (E .prime) (H .outcome) (H′ .outcome) in (
+        H .numbered ∙ ap₂ (λ a left. answer-number a (left .session)) (u .0) (u .1) ∙ sym (H′ .numbered),
+        H .stored ∙ ap₂ (λ a left. state-stored E a left s) (u .0) (u .1) ∙ sym (H′ .stored),
+      )
+
+  -- the session handed back is the one that the number says
+  pub host-session : {s t : State} {c : Call} {k : ℕ} → HostHandles E s c k t → t .session ≡ session-back k (s .session)
+  host-session {s} {c = c} H = rw (H .stored, H .numbered) (go (H .given) (H .left) (H .outcome) (handles-small (E .prime) (H .outcome)))
     where
-      go : (v : Ruling) → row-ruling P (unpacked-state s) a row ≡ v → (k : ℕ) × (t : State) × (after : List ℕ) × HostShowsRow P s a row k t after
+      size-same : {e : Pair} {left : State} → Handles (E .prime) (unpacked-state E s) c (done e) left → left .session .size ≡ s .session .size
+      size-same (carries _ _ _ _ _ _ _) = refl
+
+      go : (a : Answer) (left : State) → Handles (E .prime) (unpacked-state E s) c a left → SmallAnswer a
+          → state-stored E a left s .session ≡ session-back (answer-number a (left .session)) (s .session)
+      go (denied r) left h f =
+          sym (choose-no (ℕ-discrete (answer-number (denied r) (left .session) % 2 ^ 8) 0) _ (s .session) (λ z. omega (arith, answer-low-byte (denied r) (left .session) f, f .cause-from)))
+      go (done e) left h f =
+          sym
+          (choose-yes (ℕ-discrete (answer-number (done e) (left .session) % 2 ^ 8) 0) _ (s .session) (answer-low-byte (done e) (left .session) f)
+          ∙ ap₂ (λ x y. record { size = x; made = y }) (sym (size-same h)) (made-field 0 3 (e .smaller + 2 ^ 8 * e .larger) (left .session .made) (omega arith) (omega arith) (omega arith) (made-small (E .prime) h)))
+
+  -- demand 2, second half, through the host
+  pub host-picked-exactly : {s t : State} {a b k : ℕ} → HostHandles E s (pick a b) k t → HostPickedExactly E s a b k
+  host-picked-exactly {s} {a = a} {b = b} H ok = rw (H .numbered) (go (H .given) (H .outcome) (handles-small (E .prime) (H .outcome)) (picked-exactly (E .prime) (H .outcome) ok))
+    where
+      t : State
+      t = unpacked-state E s
+
+      go : (x : Answer) → Handles (E .prime) t (pick a b) x (H .left) → SmallAnswer x → ((e : Pair) × (x ≡ done e)) ↔ Allowed (E .prime) (graph-of t) (in-play t) (pairs-of t) a b
+          → (answer-number x (H .left .session) % 2 ^ 8 ≡ 0) ↔ Allowed (E .prime) (graph-of t) (in-play t) (pairs-of t) a b
+      go (done e) h f d = (λ _. d .0 (e, refl), λ _. answer-low-byte (done e) (H .left .session) f)
+      go (denied r) h f d = (
+        λ z. absurd (omega (arith, answer-low-byte (denied r) (H .left .session) f, f .cause-from)),
+        λ w. absurd (let q = d .1 w .1 in let z : _≡_ {A = ℕ} 0 1 = cc in omega arith),
+      )
+
+  -- open row through the host has an outcome, and no other
+  pub host-row-some : (s : State) (a : ℕ) (row : List ℕ) → (k : ℕ) × (t : State) × (after : List ℕ) × HostShowsRow E s a row k t after
+  host-row-some s a row = go (row-ruling (E .prime) (unpacked-state E s) a row) refl
+    where
+      go : (v : Ruling) → row-ruling (E .prime) (unpacked-state E s) a row ≡ v → (k : ℕ) × (t : State) × (after : List ℕ) × HostShowsRow E s a row k t after
       go accepted e = (_, s, _, record { verdict = accepted; outcome = shows e; numbered = refl; same = refl })
       go (refused r) e = (_, s, row, record { verdict = refused r; outcome = row-refused r e; numbered = refl; same = refl })
 
-  pub host-row-unique : {s t t′ : State} {a k k′ : ℕ} {row after after′ : List ℕ} → HostShowsRow P s a row k t after → HostShowsRow P s a row k′ t′ after′
+  pub host-row-unique : {s t t′ : State} {a k k′ : ℕ} {row after after′ : List ℕ} → HostShowsRow E s a row k t after → HostShowsRow E s a row k′ t′ after′
       → (k ≡ k′) × (t ≡ t′) × (after ≡ after′)
   host-row-unique {s} H H′ =
-      let u = row-unique P (H .outcome) (H′ .outcome) in
+      let u = row-unique (E .prime) (H .outcome) (H′ .outcome) in
       (H .numbered ∙ ap (λ v. row-number v (s .session)) (u .0) ∙ sym (H′ .numbered), H .same ∙ sym (H′ .same), u .2)
 
   -- and so has a replay
-  pub host-replays-some : (s : State) (numbers answers : List ℕ) → (k : ℕ) × (t : State) × (after : List ℕ) × HostReplays P s numbers answers k t after
+  pub host-replays-some : (s : State) (numbers answers : List ℕ) → (k : ℕ) × (t : State) × (after : List ℕ) × HostReplays E s numbers answers k t after
   host-replays-some s numbers answers =
-      let h = replays-some P (unpacked-state s) numbers answers in
+      let h = replays-some (E .prime) (unpacked-state E s) numbers answers in
       (_, _, h .2, record { verdict = h .0; left = h .1; outcome = h .3; numbered = refl; stored = refl })
 
-  pub host-replays-unique : {s t t′ : State} {k k′ : ℕ} {numbers answers after after′ : List ℕ} → HostReplays P s numbers answers k t after
-      → HostReplays P s numbers answers k′ t′ after′ → (k ≡ k′) × (t ≡ t′) × (after ≡ after′)
+  pub host-replays-unique : {s t t′ : State} {k k′ : ℕ} {numbers answers after after′ : List ℕ} → HostReplays E s numbers answers k t after
+      → HostReplays E s numbers answers k′ t′ after′ → (k ≡ k′) × (t ≡ t′) × (after ≡ after′)
   host-replays-unique {s} H H′ =
-      let u = replays-unique P (H .outcome) (H′ .outcome) in (
+      let u = replays-unique (E .prime) (H .outcome) (H′ .outcome) in (
         H .numbered ∙ ap₂ (λ v (left : State). replay-number v (left .session)) (u .0) (u .1) ∙ sym (H′ .numbered),
-        H .stored ∙ ap₂ (λ v left. replay-stored v left s) (u .0) (u .1) ∙ sym (H′ .stored),
+        H .stored ∙ ap₂ (λ v left. replay-stored E v left s) (u .0) (u .1) ∙ sym (H′ .stored),
         u .2,
       )
 
   -- the session handed back is the one that the number says
-  pub host-replay-session : {s t : State} {k : ℕ} {numbers answers after : List ℕ} → HostReplays P s numbers answers k t after → t .session ≡ session-back k (s .session)
+  pub host-replay-session : {s t : State} {k : ℕ} {numbers answers after : List ℕ} → HostReplays E s numbers answers k t after → t .session ≡ session-back k (s .session)
   host-replay-session {s} {numbers = numbers} {answers = answers} H =
-      rw (H .stored, H .numbered) (go (H .verdict) (H .left) (H .outcome) (replays-small (H .outcome)))
+      rw (H .stored, H .numbered) (go (H .verdict) (H .left) (H .outcome) (replays-small (E .prime) (H .outcome)))
     where
-      size-same : {v : Ruling} {left : State} {after : List ℕ} → Replays P (unpacked-state s) numbers answers v left after → left .session .size ≡ s .session .size
+      size-same : {v : Ruling} {left : State} {after : List ℕ} → Replays (E .prime) (unpacked-state E s) numbers answers v left after → left .session .size ≡ s .session .size
       size-same (refuses-replay _ _) = refl
-      size-same (replays _ _ runs) = run-size runs
+      size-same (replays _ _ runs) = run-size (E .prime) runs
 
-      go : (v : Ruling) (left : State) {after : List ℕ} → Replays P (unpacked-state s) numbers answers v left after → SmallRuling v (left .session)
-          → replay-stored v left s .session ≡ session-back (replay-number v (left .session)) (s .session)
+      go : (v : Ruling) (left : State) {after : List ℕ} → Replays (E .prime) (unpacked-state E s) numbers answers v left after → SmallRuling v (left .session)
+          → replay-stored E v left s .session ≡ session-back (replay-number v (left .session)) (s .session)
       go (refused r) left R h =
           sym (choose-no (ℕ-discrete (refusal-number r % 2 ^ 8) 0) _ (s .session) (λ z. omega (arith, ruled-low-byte 5 (refused r) (left .session) (omega arith) h, h .cause-from)))
       go accepted left R h =

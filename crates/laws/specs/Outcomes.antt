@@ -7,10 +7,10 @@ use native.Mathlib.Omega.{arith}
 use lib.ListN.{length, take, replicate}
 use Rattle.lists.specs.Onto.{onto}
 use Rattle.modular.specs.Prime.{OddPrime}
-use Rattle.residue.specs.Modulus.{modulus, modulus-prime}
 use Rattle.skew.specs.Decide.{Outcome, inverse, column, outcome, witness-singular}
 use Rattle.skew.specs.Matching.{invertible-even}
 use Rattle.matching.specs.Decision.{Refusal, Ruling, accepted, refused, judge}
+use Rattle.matching.specs.Edition.{Edition}
 use Rattle.matching.specs.Graph.{Graph, tutte}
 use Rattle.matching.specs.Pairs.{Pair, everything, unmatched}
 use Rattle.matching.specs.Session.{State}
@@ -70,14 +70,14 @@ module _ {p : ℕ} (P : OddPrime p) where
       let q : a ≡ b = runs-unique P R R′ in
       (refl, ap (λ l. state-after s l (length l)) q, ap (λ l. onto (numbers-of l) answers) q)
 
-pub fills-some : (bytes : List ℕ) (at : ℕ) (adjacency weights : List ℕ) → (o : Read) × (a : List ℕ) × (w : List ℕ) × FillsFrom bytes at adjacency weights o a w
-fills-some bytes at adjacency weights = by-reading (read-from bytes at .reading) (read-from bytes at .reads)
+pub fills-some : (E : Edition) (bytes : List ℕ) (at : ℕ) (adjacency weights : List ℕ) → (o : Read) × (a : List ℕ) × (w : List ℕ) × FillsFrom E bytes at adjacency weights o a w
+fills-some E bytes at adjacency weights = by-reading (read-from E bytes at .reading) (read-from E bytes at .reads)
   where
-    by-reading : (r : Reading) → ReadsFrom bytes at r → (o : Read) × (a : List ℕ) × (w : List ℕ) × FillsFrom bytes at adjacency weights o a w
+    by-reading : (r : Reading) → ReadsFrom E bytes at r → (o : Read) × (a : List ℕ) × (w : List ℕ) × FillsFrom E bytes at adjacency weights o a w
     by-reading (unread why) R = (not-read why, adjacency, weights, refuses-records R)
     by-reading (sheet n drawn edges) R = go (room n adjacency weights) refl
       where
-        go : (v : Ruling) → room n adjacency weights ≡ v → (o : Read) × (a : List ℕ) × (w : List ℕ) × FillsFrom bytes at adjacency weights o a w
+        go : (v : Ruling) → room n adjacency weights ≡ v → (o : Read) × (a : List ℕ) × (w : List ℕ) × FillsFrom E bytes at adjacency weights o a w
         go accepted e = (graph-read n (length edges), _, _, fills R e)
         go (refused why) e = (not-read why, adjacency, weights, lacks-room R e)
 
@@ -86,7 +86,7 @@ sheets : {n n′ : ℕ} {drawn drawn′ : List ℕ} {edges edges′ : List Pair}
     → (n ≡ n′) × (drawn ≡ drawn′) × (edges ≡ edges′)
 sheets e = (cc, cc, cc)
 
-pub fills-unique : {bytes adjacency weights a a′ w w′ : List ℕ} {at : ℕ} {o o′ : Read} → FillsFrom bytes at adjacency weights o a w → FillsFrom bytes at adjacency weights o′ a′ w′
+pub fills-unique : {E : Edition} {bytes adjacency weights a a′ w w′ : List ℕ} {at : ℕ} {o o′ : Read} → FillsFrom E bytes at adjacency weights o a w → FillsFrom E bytes at adjacency weights o′ a′ w′
     → (o ≡ o′) × (a ≡ a′) × (w ≡ w′)
 fills-unique (refuses-records R) (refuses-records R′) = let q = reads-unique R R′ in (cc, refl, refl)
 fills-unique (refuses-records R) (lacks-room R′ f′) = let q = reads-unique R R′ in never (cc)
@@ -102,63 +102,63 @@ fills-unique (fills R f) (lacks-room R′ f′) =
 fills-unique (fills R f) (fills R′ f′) =
     let q = sheets (reads-unique R R′) in rw (q .0, q .1, q .2) (refl, refl, refl)
 
-pub lists-some : (input : List ℕ) → (text : List ℕ) × Lists input text
+pub lists-some : (E : Edition) (input : List ℕ) → (text : List ℕ) × Lists E input text
 unfolding graph unmatched
-lists-some input = go (read (take input-limit input) .reading) (read (take input-limit input) .reads)
+lists-some E input = go (read E (take input-limit input) .reading) (read E (take input-limit input) .reads)
   where
-    go : (r : Reading) → ReadsAs (take input-limit input) r → (text : List ℕ) × Lists input text
+    go : (r : Reading) → ReadsAs E (take input-limit input) r → (text : List ℕ) × Lists E input text
     go (unread why) R = (_, refuses-sheet R)
     go (sheet n weights edges) R =
-        ends (outcome modulus-prime (g .n) (tutte g modulus) (skew modulus-prime g) everything)
+        ends (outcome (E .prime) (g .n) (tutte g (E .modulus)) (skew (E .prime) g) everything)
       where
         g : Graph
         g = graph n weights edges
 
-        ends : Outcome modulus (g .n) (tutte g modulus) everything → (text : List ℕ) × Lists input text
+        ends : Outcome (E .modulus) (g .n) (tutte g (E .modulus)) everything → (text : List ℕ) × Lists E input text
         ends (inverse T I) =
-            let J : Nonsingular modulus-prime g everything [] = (T, I) in
-            let m = invertible-even modulus-prime (g .n) (tutte g modulus) (skew modulus-prime g) J in
-            (_, pairs-up R J (picks-to-come modulus-prime g everything (m .0) [] J (m .1)))
+            let J : Nonsingular (E .prime) g everything [] = (T, I) in
+            let m = invertible-even (E .prime) (g .n) (tutte g (E .modulus)) (skew (E .prime) g) J in
+            (_, pairs-up R J (picks-to-come (E .prime) g everything (m .0) [] J (m .1)))
         ends (column f w F W) =
-            let s = singular-of modulus-prime g everything F W in (_, shows-witness R (s .1) (s .2))
+            let s = singular-of (E .prime) g everything F W in (_, shows-witness R (s .1) (s .2))
 
 -- what a sheet can be listed as
-data Listed (n : ℕ) (weights : List ℕ) (edges : List Pair) : List ℕ → Type 0 where
-  paired : (m : ℕ) → Nonsingular modulus-prime (graph n weights edges) everything []
-      → PicksToCome modulus-prime (graph n weights edges) everything [] m
-      → Listed n weights edges
-      (first-line n (length edges) ++ pair-lines (pairs-after modulus-prime (graph n weights edges) everything [] (replicate m automatic) m) ++ line-full)
-  witnessed : (f : ℕ) (words : List ℕ) → length words ≡ n → Singular modulus (graph n weights edges) everything f words
-      → Listed n weights edges (first-line n (length edges) ++ witness-lines 0 words ++ line-none)
+data Listed (E : Edition) (n : ℕ) (weights : List ℕ) (edges : List Pair) : List ℕ → Type 0 where
+  paired : (m : ℕ) → Nonsingular (E .prime) (graph n weights edges) everything []
+      → PicksToCome (E .prime) (graph n weights edges) everything [] m
+      → Listed E n weights edges
+      (first-line n (length edges) ++ pair-lines (pairs-after (E .prime) (graph n weights edges) everything [] (replicate m automatic) m) ++ line-full)
+  witnessed : (f : ℕ) (words : List ℕ) → length words ≡ n → Singular (E .modulus) (graph n weights edges) everything f words
+      → Listed E n weights edges (first-line n (length edges) ++ witness-lines 0 words ++ line-none)
 
-listed : {input text : List ℕ} {n : ℕ} {weights : List ℕ} {edges : List Pair} → ReadsAs (take input-limit input) (sheet n weights edges) → Lists input text
-    → Listed n weights edges text
+listed : {E : Edition} {input text : List ℕ} {n : ℕ} {weights : List ℕ} {edges : List Pair} → ReadsAs E (take input-limit input) (sheet n weights edges) → Lists E input text
+    → Listed E n weights edges text
 listed R (refuses-sheet R′) = let q = reads-unique R R′ in never (cc)
 listed R (pairs-up {m = m} R′ I c) = let q = sheets (reads-unique R R′) in rw (q .0, q .1, q .2) (paired m I c)
 listed R (shows-witness {f = f} {words = ws} R′ l s) = let q = sheets (reads-unique R R′) in rw (q .0, q .1, q .2) (witnessed f ws l s)
 
-listed-unique : {n : ℕ} {weights : List ℕ} {edges : List Pair} {text text′ : List ℕ} → Listed n weights edges text → Listed n weights edges text′ → text ≡ text′
+listed-unique : {E : Edition} {n : ℕ} {weights : List ℕ} {edges : List Pair} {text text′ : List ℕ} → Listed E n weights edges text → Listed E n weights edges text′ → text ≡ text′
 unfolding graph unmatched
-listed-unique {n} {weights} {edges} (paired m I c) (paired m′ I′ c′) =
-    let h = picks-to-come-half modulus-prime (graph n weights edges) everything m [] I c in
-    let h′ = picks-to-come-half modulus-prime (graph n weights edges) everything m′ [] I′ c′ in
+listed-unique {E} {n} {weights} {edges} (paired m I c) (paired m′ I′ c′) =
+    let h = picks-to-come-half (E .prime) (graph n weights edges) everything m [] I c in
+    let h′ = picks-to-come-half (E .prime) (graph n weights edges) everything m′ [] I′ c′ in
     let q : m ≡ m′ = omega arith in
     rw q refl
-listed-unique {n} {weights} {edges} (paired m I c) (witnessed f ws l s) =
-    absurd (witness-singular modulus-prime n (tutte (graph n weights edges) modulus) (skew modulus-prime (graph n weights edges)) everything (s .kernel) I)
-listed-unique {n} {weights} {edges} (witnessed f ws l s) (paired m I c) =
-    absurd (witness-singular modulus-prime n (tutte (graph n weights edges) modulus) (skew modulus-prime (graph n weights edges)) everything (s .kernel) I)
-listed-unique {n} {weights} {edges} (witnessed f ws l s) (witnessed f′ ws′ l′ s′) =
-    let q = singular-unique modulus-prime (graph n weights edges) everything l l′ s s′ .1 in rw q refl
+listed-unique {E} {n} {weights} {edges} (paired m I c) (witnessed f ws l s) =
+    absurd (witness-singular (E .prime) n (tutte (graph n weights edges) (E .modulus)) (skew (E .prime) (graph n weights edges)) everything (s .kernel) I)
+listed-unique {E} {n} {weights} {edges} (witnessed f ws l s) (paired m I c) =
+    absurd (witness-singular (E .prime) n (tutte (graph n weights edges) (E .modulus)) (skew (E .prime) (graph n weights edges)) everything (s .kernel) I)
+listed-unique {E} {n} {weights} {edges} (witnessed f ws l s) (witnessed f′ ws′ l′ s′) =
+    let q = singular-unique (E .prime) (graph n weights edges) everything l l′ s s′ .1 in rw q refl
 
-listed-refusal : {input text : List ℕ} {r : Refusal} → ReadsAs (take input-limit input) (unread r) → Lists input text → text ≡ refused-line r
+listed-refusal : {E : Edition} {input text : List ℕ} {r : Refusal} → ReadsAs E (take input-limit input) (unread r) → Lists E input text → text ≡ refused-line r
 listed-refusal {r = r} R (refuses-sheet {r = r′} R′) = let e = reads-unique R R′ in let q : r′ ≡ r = cc in rw q refl
 listed-refusal R (pairs-up R′ I c) = let q = reads-unique R R′ in never (cc)
 listed-refusal R (shows-witness R′ l s) = let q = reads-unique R R′ in never (cc)
 
-pub lists-unique : {input text text′ : List ℕ} → Lists input text → Lists input text′ → text ≡ text′
-lists-unique {input} {text} {text′} a b = go (read (take input-limit input) .reading) (read (take input-limit input) .reads)
+pub lists-unique : {E : Edition} {input text text′ : List ℕ} → Lists E input text → Lists E input text′ → text ≡ text′
+lists-unique {E} {input} {text} {text′} a b = go (read E (take input-limit input) .reading) (read E (take input-limit input) .reads)
   where
-    go : (r : Reading) → ReadsAs (take input-limit input) r → text ≡ text′
+    go : (r : Reading) → ReadsAs E (take input-limit input) r → text ≡ text′
     go (sheet n weights edges) R = listed-unique (listed R a) (listed R b)
     go (unread why) R = listed-refusal R a ∙ sym (listed-refusal R b)

@@ -10,8 +10,8 @@ use Rattle.lists.specs.Choose.{choose}
 use Rattle.lists.specs.Onto.{onto, onto-long}
 use Rattle.draws.specs.Draws.{draws}
 use Rattle.draws.specs.Laws.{draws-length, draws-range}
-use Rattle.residue.specs.Modulus.{modulus}
 use Rattle.matching.specs.Decision.{because, accepted, Every}
+use Rattle.matching.specs.Edition.{Edition}
 use Rattle.matching.specs.Graph.{Graph, over, largest, pair-count, cell, kind-of, fault, InRange, InOrder}
 use Rattle.matching.specs.Pairs.{Pair, pair-of}
 use Rattle.matching.specs.Model.{Named}
@@ -33,7 +33,7 @@ begins-unique begins-seed begins-seed = (refl, refl)
 begins-unique begins-end begins-end = (refl, refl)
 
 -- a record that is taken or rejected was due
-takes-due : {q next : Progress} {r : Record} → Takes q r next → Due q (kind r)
+takes-due : {E : Edition} {q next : Progress} {r : Record} → Takes E q r next → Due q (kind r)
 takes-due (takes-size _) = size-due
 takes-due takes-seed = seed-due
 takes-due (takes-share _ _) = share-due
@@ -44,7 +44,7 @@ rejects-due (too-large-size _) = size-due
 rejects-due (not-two _) = share-due
 rejects-due (stood-already _ _) = share-due
 
-takes-unique : {q a b : Progress} {r : Record} → Takes q r a → Takes q r b → a ≡ b
+takes-unique : {E : Edition} {q a b : Progress} {r : Record} → Takes E q r a → Takes E q r b → a ≡ b
 takes-unique (takes-size _) (takes-size _) = refl
 takes-unique takes-seed takes-seed = refl
 takes-unique (takes-share _ _) (takes-share _ _) = refl
@@ -57,7 +57,7 @@ rejects-unique (not-two d) (stood-already h _) = absurd (d h)
 rejects-unique (stood-already h _) (not-two d) = absurd (d h)
 rejects-unique (stood-already _ _) (stood-already _ _) = refl
 
-takes-or-rejects : {q a : Progress} {r : Record} {cause : ℕ} → Takes q r a → Rejects q r cause → ⊥
+takes-or-rejects : {E : Edition} {q a : Progress} {r : Record} {cause : ℕ} → Takes E q r a → Rejects q r cause → ⊥
 takes-or-rejects (takes-size l) (too-large-size h) = omega arith
 takes-or-rejects (takes-share h z) (not-two d) = d h
 takes-or-rejects (takes-share h z) (stood-already _ e) = omega arith
@@ -65,7 +65,7 @@ takes-or-rejects (takes-share h z) (stood-already _ e) = omega arith
 first-due : {q : Progress} {k : ℕ} {body rest : List ℕ} {r : Record} → Begins r (k ∷ body) rest → Due q (kind r) → Due q k
 first-due b d = rw (begins-kind b) d
 
-pub reads-unique : {len : ℕ} {q : Progress} {at : ℕ} {bytes : List ℕ} {a b : Reading} → Reads len q at bytes a → Reads len q at bytes b → a ≡ b
+pub reads-unique : {E : Edition} {len : ℕ} {q : Progress} {at : ℕ} {bytes : List ℕ} {a b : Reading} → Reads E len q at bytes a → Reads E len q at bytes b → a ≡ b
 reads-unique whole whole = refl
 reads-unique whole (stops d) = absurd (nothing-due d)
 reads-unique whole (rejected b _) = no-record b
@@ -96,7 +96,7 @@ reads-unique (goes-on b t _) (not-due d) = absurd (d (first-due b (takes-due t))
 reads-unique (goes-on {rest = rest} {r = r} b _ _) (cut _ f) = absurd (f r rest b)
 reads-unique {q = q} (goes-on {r = r} b t _) (rejected {r = r′} b′ j) =
     let e : r′ ≡ r = begins-unique b′ b .0 in absurd (takes-or-rejects t (rw e at j))
-reads-unique {len} {q} {at} {b = other} (goes-on {next = n} {rest = rest} {r = r} b t R) (goes-on {next = n′} {rest = rest′} {r = r′} b′ t′ R′) =
+reads-unique (goes-on {next = n} {rest = rest} {r = r} b t R) (goes-on {next = n′} {rest = rest′} {r = r′} b′ t′ R′) =
     let u = begins-unique b′ b in
     let e : n′ ≡ n = takes-unique (rw (u .0) at t′) t in
     reads-unique R (rw (e, u .0, u .1) at R′)
@@ -107,35 +107,35 @@ EdgesFit n [] = Unit {0}
 EdgesFit n (e ∷ edges) = (e .smaller < e .larger) × (e .larger < n) × EdgesFit n edges
 
 -- what holds of a sheet that is read
-pub record Fit (n : ℕ) (weights : List ℕ) (edges : List Pair) : Type 0 where
+pub record Fit (E : Edition) (n : ℕ) (weights : List ℕ) (edges : List Pair) : Type 0 where
   pub small : n ≤ largest
   pub seeded-by : ℕ
-  pub drawn : weights ≡ draws seeded-by (pair-count n)
+  pub drawn : weights ≡ draws (E .draw) seeded-by (pair-count n)
   pub edges-fit : EdgesFit n edges
 
 -- so far
-abbrev pub So : Progress → Type 0
-So start = Unit {0}
-So (sized n) = n ≤ largest
-So (weighted n weights edges) = Fit n weights edges
-So (ended n weights edges) = Fit n weights edges
+abbrev pub So : Edition → Progress → Type 0
+So E start = Unit {0}
+So E (sized n) = n ≤ largest
+So E (weighted n weights edges) = Fit E n weights edges
+So E (ended n weights edges) = Fit E n weights edges
 
-fit-edge : {n a b : ℕ} {weights : List ℕ} {edges : List Pair} → Named n a b → Fit n weights edges → Fit n weights (pair-of a b ∷ edges)
-fit-edge {n} {a} {b} {edges = edges} h F = record { small = F .small; seeded-by = F .seeded-by; drawn = F .drawn; edges-fit = go (decLt a b) (decLt b a) }
+fit-edge : {E : Edition} {n a b : ℕ} {weights : List ℕ} {edges : List Pair} → Named n a b → Fit E n weights edges → Fit E n weights (pair-of a b ∷ edges)
+fit-edge {n = n} {a = a} {b = b} {edges = edges} h F = record { small = F .small; seeded-by = F .seeded-by; drawn = F .drawn; edges-fit = go (decLt a b) (decLt b a) }
   where
     go : Dec (a < b) → Dec (b < a) → EdgesFit n (pair-of a b ∷ edges)
     go (yes l) _ = rw (pair-of-smaller a b l) (l, h .1, F .edges-fit)
     go (no _) (yes l) = rw (pair-of-larger a b l) (l, h .0, F .edges-fit)
     go (no c) (no d) = absurd (h .2 (omega arith))
 
-pub takes-so : {q next : Progress} {r : Record} → Takes q r next → So q → So next
+pub takes-so : {E : Edition} {q next : Progress} {r : Record} → Takes E q r next → So E q → So E next
 takes-so (takes-size l) _ = l
 takes-so (takes-seed {s = s}) l = record { small = l; seeded-by = s; drawn = refl; edges-fit = tt }
 takes-so (takes-share h z) F = fit-edge h F
 takes-so takes-end F = F
 
-pub reads-fit : {len : ℕ} {q : Progress} {at : ℕ} {bytes : List ℕ} {r : Reading} {n : ℕ} {weights : List ℕ} {edges : List Pair} → Reads len q at bytes r
-    → r ≡ sheet n weights edges → So q → Fit n weights edges
+pub reads-fit : {E : Edition} {len : ℕ} {q : Progress} {at : ℕ} {bytes : List ℕ} {r : Reading} {n : ℕ} {weights : List ℕ} {edges : List Pair} → Reads E len q at bytes r
+    → r ≡ sheet n weights edges → So E q → Fit E n weights edges
 reads-fit {n = n} {weights = weights} {edges = edges} (whole {n = m} {weights = w} {edges = es}) e F =
     let a : m ≡ n = cc in
     let b : w ≡ weights = cc in
@@ -171,12 +171,12 @@ unfolding pair-of
 pair-of-same a = refl
 
 -- the graph of a sheet that is read, over tables with an excess, is in order
-module _ {n : ℕ} {drawn : List ℕ} {edges : List Pair} (F : Fit n drawn edges) (adjacency weights : List ℕ) where
+module _ {E : Edition} {n : ℕ} {drawn : List ℕ} {edges : List Pair} (F : Fit E n drawn edges) (adjacency weights : List ℕ) where
   abbrev g : Graph
   g = over n (onto (cells n edges) adjacency) (onto drawn weights)
 
   pub drawn-length : length drawn ≡ pair-count n
-  drawn-length = rw (F .drawn) (draws-length (F .seeded-by) (pair-count n))
+  drawn-length = rw (F .drawn) (draws-length (E .draw) (F .seeded-by) (pair-count n))
 
   cell-is : (i j : ℕ) → i < n → j < n → cell g i j ≡ among (pair-of i j) edges
   cell-is i j hi hj =
@@ -196,13 +196,13 @@ module _ {n : ℕ} {drawn : List ℕ} {edges : List Pair} (F : Fit n drawn edges
       go (no d) =
           kind-equal _ _ i j (among-small (pair-of i j) edges) d (ap (λ e. among e edges) (pair-of-swap i j d))
 
-  pub in-range : Every (pair-count n) (InRange g modulus)
+  pub in-range : Every (pair-count n) (InRange g (E .modulus))
   in-range x l =
-      let e : getD (onto drawn weights) x 0 ≡ getD (draws (F .seeded-by) (pair-count n)) x 0 =
+      let e : getD (onto drawn weights) x 0 ≡ getD (draws (E .draw) (F .seeded-by) (pair-count n)) x 0 =
       List·getD-append drawn _ 0 x (omega (arith, drawn-length)) ∙ ap (λ w. getD w x 0) (F .drawn) in
-      rw e (draws-range (F .seeded-by) (pair-count n) x l)
+      rw e (draws-range (E .draw) (E .in-range) (F .seeded-by) (pair-count n) x l)
 
-  pub sheet-in-order : GraphFits g × InOrder modulus g
+  pub sheet-in-order : GraphFits g × InOrder (E .modulus) g
   sheet-in-order = (
     record { cells = onto-long (cells n edges) adjacency (n * n) (cells-length n edges); weights = onto-long drawn weights (pair-count n) drawn-length },
     record {
@@ -213,12 +213,12 @@ module _ {n : ℕ} {drawn : List ℕ} {edges : List Pair} (F : Fit n drawn edges
   )
 
 -- so opening, lent other buffers that are long enough, does not refuse what the reader has filled
-pub filled-accepted : {bytes adjacency weights a w : List ℕ} {n m : ℕ} (inverse sequence witness work : ℕ) → Fills bytes adjacency weights (graph-read n m) a w
+pub filled-accepted : {E : Edition} {bytes adjacency weights a w : List ℕ} {n m : ℕ} (inverse sequence witness work : ℕ) → Fills E bytes adjacency weights (graph-read n m) a w
     → LongEnough (lent-inverse n inverse ∷ lent-sequence n sequence ∷ lent-witness n witness ∷ lent-work n work ∷ [])
-    → opening-ruling modulus (over n a w) inverse sequence witness work ≡ accepted
-filled-accepted {adjacency = adjacency} {weights = weights} inverse sequence witness work (fills R _) long =
+    → opening-ruling (E .modulus) (over n a w) inverse sequence witness work ≡ accepted
+filled-accepted {E} {adjacency = adjacency} {weights = weights} inverse sequence witness work (fills R _) long =
     let k = sheet-in-order (reads-fit R refl tt) adjacency weights in
-    opening-accepted modulus _ inverse sequence witness work .1 (
+    opening-accepted (E .modulus) _ inverse sequence witness work .1 (
       record { graph = k .0; inverse-fits = long .0; sequence-fits = long .1 .0; witness-fits = long .1 .1 .0; work-fits = long .1 .1 .1 .0 },
       k .1,
     )

@@ -7,8 +7,8 @@ use native.Mathlib.Omega.{arith}
 use native.Mathlib.Decide.{decLt}
 use lib.ListN.{length, take, drop, length-take, List·getD-append}
 use Rattle.lists.specs.Onto.{onto}
-use Rattle.residue.specs.Modulus.{modulus}
 use Rattle.matching.specs.Decision.{accepted, because}
+use Rattle.matching.specs.Edition.{Edition}
 use Rattle.matching.specs.Graph.{over}
 use Rattle.matching.specs.Causes.{lent-graph, lent-inverse, lent-sequence, lent-witness, lent-work, too-short, LongEnough, opening-ruling}
 use Rattle.matching.specs.Opening.{Opening, opened, singular, not-opened, Buffers, players, Opens, opens, refuses-opening}
@@ -23,31 +23,31 @@ use Rattle.laws.specs.Outcomes.{fills-some, fills-unique, lists-some, li
 use Rattle.laws.specs.Numbers.{made-field, opens-small, opening-low-byte}
 use Rattle.laws.specs.Words.{read-words}
 
-pub lists-into-some : (input buffer : List ℕ) → (o : Listed) × (after : List ℕ) × ListsInto input buffer o after
-lists-into-some input buffer = go (decLt (length buffer) text-room)
+pub lists-into-some : (E : Edition) (input buffer : List ℕ) → (o : Listed) × (after : List ℕ) × ListsInto E input buffer o after
+lists-into-some E input buffer = go (decLt (length buffer) text-room)
   where
-    go : Dec (length buffer < text-room) → (o : Listed) × (after : List ℕ) × ListsInto input buffer o after
+    go : Dec (length buffer < text-room) → (o : Listed) × (after : List ℕ) × ListsInto E input buffer o after
     go (yes h) = (_, _, lacks-text-room h)
-    go (no h) = let t = lists-some input in (_, _, lists-into (omega arith) (t .1))
+    go (no h) = let t = lists-some E input in (_, _, lists-into (omega arith) (t .1))
 
-pub lists-into-unique : {input buffer a a′ : List ℕ} {o o′ : Listed} → ListsInto input buffer o a → ListsInto input buffer o′ a′ → (o ≡ o′) × (a ≡ a′)
+pub lists-into-unique : {E : Edition} {input buffer a a′ : List ℕ} {o o′ : Listed} → ListsInto E input buffer o a → ListsInto E input buffer o′ a′ → (o ≡ o′) × (a ≡ a′)
 lists-into-unique (lists-into h t) (lists-into _ t′) = rw (lists-unique t t′) (refl, refl)
 lists-into-unique (lists-into h t) (lacks-text-room l) = absurd (omega arith)
 lists-into-unique (lacks-text-room l) (lists-into h t) = absurd (omega arith)
 lists-into-unique (lacks-text-room _) (lacks-text-room _) = (refl, refl)
 
-pub host-reads-some : (sheet adjacency weights : List ℕ) → (k : ℕ) × (a : List ℕ) × (w : List ℕ) × HostReads sheet adjacency weights k a w
-host-reads-some sheet adjacency weights =
-    let h = fills-some (take input-limit sheet) 0 adjacency (words weights) in
+pub host-reads-some : (E : Edition) (sheet adjacency weights : List ℕ) → (k : ℕ) × (a : List ℕ) × (w : List ℕ) × HostReads E sheet adjacency weights k a w
+host-reads-some E sheet adjacency weights =
+    let h = fills-some E (take input-limit sheet) 0 adjacency (words (E .width) weights) in
     (_, _, _, record { given = h .0; left = h .2; outcome = h .3; numbered = refl; stored = refl })
 
-pub host-reads-unique : {sheet adjacency weights a a′ w w′ : List ℕ} {k k′ : ℕ} → HostReads sheet adjacency weights k a w → HostReads sheet adjacency weights k′ a′ w′
+pub host-reads-unique : {E : Edition} {sheet adjacency weights a a′ w w′ : List ℕ} {k k′ : ℕ} → HostReads E sheet adjacency weights k a w → HostReads E sheet adjacency weights k′ a′ w′
     → (k ≡ k′) × (a ≡ a′) × (w ≡ w′)
-host-reads-unique {weights = weights} H H′ =
+host-reads-unique {E} {weights = weights} H H′ =
     let u = fills-unique (H .outcome) (H′ .outcome) in (
       H .numbered ∙ ap read-number (u .0) ∙ sym (H′ .numbered),
       u .1,
-      H .stored ∙ ap₂ (λ o left. weights-stored o left weights) (u .0) (u .2) ∙ sym (H′ .stored),
+      H .stored ∙ ap₂ (λ o left. weights-stored E o left weights) (u .0) (u .2) ∙ sym (H′ .stored),
     )
 
 -- the cause of an answer, 0 when none
@@ -70,39 +70,39 @@ read-numbers len (not-read why) (not-read why′) l h h′ e =
     ap not-read (ap₂ because {x = why .cause} {y = why′ .cause} (omega (arith, h .cause-below, h′ .cause-below)) (omega (arith, h .cause-below, h′ .cause-below)))
 
 -- the buffers that opening is lent besides the graph are long enough for n vertices, as bytes
-abbrev pub LongBytes : ℕ → Buffers → Type 0
-LongBytes n b =
+abbrev pub LongBytes : Edition → ℕ → Buffers → Type 0
+LongBytes E n b =
     LongEnough
-    (lent-inverse n (length (words (b .inverse)))
+    (lent-inverse n (length (words (E .width) (b .inverse)))
     ∷ lent-sequence n (length (b .sequence))
-    ∷ lent-witness n (length (words (b .witness)))
-    ∷ lent-work n (length (words (b .work)))
+    ∷ lent-witness n (length (words (E .width) (b .witness)))
+    ∷ lent-work n (length (words (E .width) (b .work)))
     ∷ [])
 
 -- the weights that were stored are read back
-stored-back : {bytes adjacency a left : List ℕ} {n m : ℕ} (weights : List ℕ) → Bytes weights → FillsFrom bytes 0 adjacency (words weights) (graph-read n m) a left
-    → words (onto (bytes-of left) weights) ≡ left
-stored-back {adjacency = adjacency} weights B (fills {n = n} {drawn = drawn} R e) =
+stored-back : {E : Edition} {bytes adjacency a left : List ℕ} {n m : ℕ} (weights : List ℕ) → Bytes weights → FillsFrom E bytes 0 adjacency (words (E .width) weights) (graph-read n m) a left
+    → words (E .width) (onto (bytes-of (E .width) left) weights) ≡ left
+stored-back {E} {adjacency = adjacency} weights B (fills {n = n} {drawn = drawn} R e) =
     let F = reads-fit R refl tt in
-    let l = drawn-length F adjacency (words weights) in
-    let g = over n adjacency (words weights) in
+    let l = drawn-length F adjacency (words (E .width) weights) in
+    let g = over n adjacency (words (E .width) weights) in
     let long = graph-fits g .0 (short-absent (lent-graph g) .0 (judge-accepted (too-short (lent-graph g) ∷ []) .0 e .0)) in
-    read-words drawn weights B (omega (arith, long .weights))
+    read-words (E .width) drawn weights B (omega (arith, long .weights))
     (λ x h.
-    let small = in-range F adjacency (words weights) x (omega arith) .1 in
-    omega (arith, small, List·getD-append drawn (drop (length drawn) (words weights)) 0 x h))
+    let small = in-range F adjacency (words (E .width) weights) x (omega arith) .1 in
+    omega (arith, small, E .fits, List·getD-append drawn (drop (length drawn) (words (E .width) weights)) 0 x h))
 
 -- a graph that was read through the host is opened through it, or found singular: no cause applies
-module _ {sheet adjacency weights a w : List ℕ} {k : ℕ} (B : Bytes weights) (H : HostReads sheet adjacency weights k a w) (none : cause-in k ≡ 0) (b : Buffers) where
+module _ {E : Edition} {sheet adjacency weights a w : List ℕ} {k : ℕ} (B : Bytes weights) (H : HostReads E sheet adjacency weights k a w) (none : cause-in k ≡ 0) (b : Buffers) where
   -- what is read, with its size
   record ReadSize : Type 0 where
     edges : ℕ
-    filled : FillsFrom (take input-limit sheet) 0 adjacency (words weights) (graph-read (made-in k) edges) a (words w)
+    filled : FillsFrom E (take input-limit sheet) 0 adjacency (words (E .width) weights) (graph-read (made-in k) edges) a (words (E .width) w)
 
   read-size : ReadSize
   read-size = go (H .given) (H .outcome) (H .numbered) (H .stored)
     where
-      go : (o : Read) → FillsFrom (take input-limit sheet) 0 adjacency (words weights) o a (H .left) → k ≡ read-number o → w ≡ weights-stored o (H .left) weights
+      go : (o : Read) → FillsFrom E (take input-limit sheet) 0 adjacency (words (E .width) weights) o a (H .left) → k ≡ read-number o → w ≡ weights-stored E o (H .left) weights
           → ReadSize
       go (not-read why) F e s =
           let h = fills-answer F in
@@ -110,16 +110,16 @@ module _ {sheet adjacency weights a w : List ℕ} {k : ℕ} (B : Bytes weights) 
       go (graph-read n m) F e s =
           let h = fills-answer F in
           let q : made-in k ≡ n = ap made-in e ∙ made-field 0 6 m n (omega arith) (omega arith) (omega (arith, h .1, length-take input-limit sheet)) (omega (arith, h .0)) in
-          let v : words w ≡ H .left = ap words s ∙ stored-back weights B F in
+          let v : words (E .width) w ≡ H .left = ap (words (E .width)) s ∙ stored-back weights B F in
           record { edges = m; filled = rw (q, v) F }
 
-  pub host-read-opens : {answer : ℕ} {after : Buffers} → LongBytes (made-in k) b → HostOpens modulus (made-in k) a w b answer after → cause-in answer ≡ 0
+  pub host-read-opens : {answer : ℕ} {after : Buffers} → LongBytes E (made-in k) b → HostOpens E (made-in k) a w b answer after → cause-in answer ≡ 0
   host-read-opens long O = ap cause-in (O .numbered) ∙ go (O .opening) (O .outcome)
     where
-      ok : opening-ruling modulus (over (made-in k) a (words w)) (length (words (b .inverse))) (length (b .sequence)) (length (words (b .witness))) (length (words (b .work))) ≡ accepted
+      ok : opening-ruling (E .modulus) (over (made-in k) a (words (E .width) w)) (length (words (E .width) (b .inverse))) (length (b .sequence)) (length (words (E .width) (b .witness))) (length (words (E .width) (b .work))) ≡ accepted
       ok = filled-accepted _ _ _ _ (read-size .filled) long
 
-      go : (o : Opening) {left : Buffers} → Opens modulus (over (made-in k) a (words w)) (players (made-in k) (unpacked b)) (unpacked b) o left → cause-in (opening-number o) ≡ 0
+      go : (o : Opening) {left : Buffers} → Opens (E .modulus) (over (made-in k) a (words (E .width) w)) (players (made-in k) (unpacked E b)) (unpacked E b) o left → cause-in (opening-number o) ≡ 0
       go (opened s) X = opening-low-byte (made-in k) (opened s) (opens-small X)
       go (singular f) X = opening-low-byte (made-in k) (singular f) (opens-small X)
       go (not-opened r) (refuses-opening _ e) = let a = ok in absurd (let z : _≡_ {A = ℕ} 0 1 = cc in omega arith)

@@ -1,10 +1,10 @@
 -- A list whose first values are new and whose excess is as it was. Assumes nothing.
 use mathlib.Core.Path.{_≡_, refl, sym, ap, _∙_}
 use mathlib.Core.List.{List, [], _++_, append-nil}
-use Prim.Native.Nat.{ℕ, _≤_}
+use Prim.Native.Nat.{ℕ, _+_, _-_, _≤_}
 use native.Mathlib.Omega.{arith}
-use lib.ListN.{length, take, drop, length-append, length-drop, take-append-drop}
-use lib.Seq.{take-at, drop-at, drop-nil, drop-length, length-take-le}
+use lib.ListN.{length, getD, take, drop, length-append, length-drop, take-append-drop}
+use lib.Seq.{take-at, drop-at, drop-nil, drop-length, length-take-le, getD-append-add, getD-drop}
 
 abbrev pub onto : List ℕ → List ℕ → List ℕ
 onto new old = new ++ drop (length new) old
@@ -38,3 +38,9 @@ onto-longer new old = omega (arith, length-append new (drop (length new) old), l
 -- over a list that is as long there is no excess
 pub onto-covers : (new old : List ℕ) → length old ≡ length new → onto new old ≡ new
 onto-covers new old e = ap (λ k. new ++ drop k old) (sym e) ∙ ap (λ l. new ++ l) (drop-length old) ∙ append-nil new
+
+-- behind the new values the old ones stand
+pub onto-behind : (new old : List ℕ) (x : ℕ) → length new ≤ x → getD (onto new old) x 0 ≡ getD old x 0
+onto-behind new old x h =
+    let e : length new + (x - length new) ≡ x = omega arith in
+    rw e at (getD-append-add new (drop (length new) old) (x - length new) 0 ∙ getD-drop (length new) old (x - length new) 0)

@@ -9,6 +9,7 @@ use Rattle.lists.specs.Onto.{onto}
 use Rattle.residue.specs.Modulus.{modulus, modulus-prime}
 use Rattle.skew.specs.Decide.{first-dependent?}
 use Rattle.matching.specs.Decision.{Refusal, Ruling, every?, accepted, refused}
+use Rattle.matching.specs.Edition.{first-edition}
 use Rattle.matching.specs.Graph.{Graph, over, pair-count, tutte}
 use Rattle.matching.specs.Pairs.{Pair, everything, unmatched}
 use Rattle.matching.specs.Session.{Session, session, State, graph-of, with-pairs, InverseTable}
@@ -102,9 +103,9 @@ pub data Claim : Type 0 where
   host-opening : Opening → ℕ → Claim
   host-answer : Answer → Session → ℕ → Claim
   host-row : Ruling → Session → ℕ → Claim
-  -- the words of a byte slice, and the bytes of words over a byte slice
-  host-words : List ℕ → List ℕ → Claim
-  host-bytes : List ℕ → List ℕ → List ℕ → Claim
+  -- the words of a byte slice, so many bytes each, and the bytes of words over a byte slice
+  host-words : ℕ → List ℕ → List ℕ → Claim
+  host-bytes : ℕ → List ℕ → List ℕ → List ℕ → Claim
   -- a call through the host on a state of bytes: the number, and the bytes afterwards; with the pair, and the words left
   host-handled : State → Call → Pair → State → ℕ → State → Claim
   -- a replay through the host on a state of bytes, whose calls on the words return these: the number, the bytes and the answers afterwards
@@ -145,20 +146,20 @@ Holds (no-row s a old r) = ShowsRow modulus-prime s a old (refused r) s old
 Holds (replayed s numbers old returned t new) = Replays modulus-prime s numbers old accepted t new
 Holds (no-replay s numbers old r) = Replays modulus-prime s numbers old (refused r) s old
 Holds (displayed n inverse words part) = display n inverse words ≡ part
-Holds (reads bytes r) = ReadsAs bytes r
-Holds (filling bytes adjacency weights o adjacency′ weights′) = Fills bytes adjacency weights o adjacency′ weights′
-Holds (lists input text) = Lists input text
-Holds (lists-witness input f words text) = Lists input text
-Holds (lists-refusal input r text) = Lists input text
+Holds (reads bytes r) = ReadsAs first-edition bytes r
+Holds (filling bytes adjacency weights o adjacency′ weights′) = Fills first-edition bytes adjacency weights o adjacency′ weights′
+Holds (lists input text) = Lists first-edition input text
+Holds (lists-witness input f words text) = Lists first-edition input text
+Holds (lists-refusal input r text) = Lists first-edition input text
 Holds (host-opening o k) = opening-number o ≡ k
 Holds (host-answer a s k) = answer-number a s ≡ k
 Holds (host-row v s k) = row-number v s ≡ k
-Holds (host-words bytes ws) = words bytes ≡ ws
-Holds (host-bytes ws old new) = onto (bytes-of ws) old ≡ new
-Holds (host-handled s c e left k after) = HostHandles modulus-prime s c k after
-Holds (host-replayed s numbers old returned left k after new) = HostReplays modulus-prime s numbers old k after new
-Holds (host-reads bytes adjacency weights o left k adjacency′ weights′) = HostReads bytes adjacency weights k adjacency′ weights′
-Holds (host-draws n seed weights k weights′) = HostDraws n seed weights k weights′
+Holds (host-words w bytes ws) = words w bytes ≡ ws
+Holds (host-bytes w ws old new) = onto (bytes-of w ws) old ≡ new
+Holds (host-handled s c e left k after) = HostHandles first-edition s c k after
+Holds (host-replayed s numbers old returned left k after new) = HostReplays first-edition s numbers old k after new
+Holds (host-reads bytes adjacency weights o left k adjacency′ weights′) = HostReads first-edition bytes adjacency weights k adjacency′ weights′
+Holds (host-draws n seed weights k weights′) = HostDraws first-edition n seed weights k weights′
 
 -- every claim of a list
 abbrev pub All : (Claim → Type 0) → List Claim → Type 0
@@ -247,8 +248,8 @@ shown-replay s numbers old returned t new h =
     rw (← h .2, ← h .3) (replays returned (h .0) (shown-run s (calls-of numbers) returned (h .1)))
 
 -- what is computed of the bytes is what they are read as
-shown-read : (bytes : List ℕ) {r : Reading} → read bytes .reading ≡ r → ReadsAs bytes r
-shown-read bytes e = subst (λ (q : Reading). ReadsAs bytes q) e (read bytes .reads)
+shown-read : (bytes : List ℕ) {r : Reading} → read first-edition bytes .reading ≡ r → ReadsAs first-edition bytes r
+shown-read bytes e = subst (λ (q : Reading). ReadsAs first-edition bytes q) e (read first-edition bytes .reads)
 
 -- automatic picks to the end are half of the vertices
 unfoldable pub ShownListed : Reading → List ℕ → Type 0
@@ -258,11 +259,11 @@ ShownListed (sheet n weights edges) text =
     × PicksToCome modulus-prime (graph n weights edges) everything [] (n / 2)
     × (first-line n (length edges) ++ pair-lines (pairs-after modulus-prime (graph n weights edges) everything [] (replicate (n / 2) automatic) (n / 2)) ++ line-full ≡ text)
 
-listed : (input text : List ℕ) (r : Reading) → read (take input-limit input) .reading ≡ r → ShownListed r text → Lists input text
+listed : (input text : List ℕ) (r : Reading) → read first-edition (take input-limit input) .reading ≡ r → ShownListed r text → Lists first-edition input text
 unfolding ShownListed
 listed input text (unread r) q e = absurd e
 listed input text (sheet n weights edges) q e =
-    subst (λ (t : List ℕ). Lists input t) (e .2)
+    subst (λ (t : List ℕ). Lists first-edition input t) (e .2)
     (pairs-up (shown-read (take input-limit input) q) (decided (nonsingular? modulus-prime (graph n weights edges) everything []) (e .0)) (e .1))
 
 unfoldable pub ShownWitness : Reading → ℕ → List ℕ → List ℕ → Type 0
@@ -272,12 +273,12 @@ ShownWitness (sheet n weights edges) f words text =
     × ShownSingular (graph n weights edges) f words
     × (first-line n (length edges) ++ witness-lines 0 words ++ line-none ≡ text)
 
-listed-witness : (input : List ℕ) (f : ℕ) (words text : List ℕ) (r : Reading) → read (take input-limit input) .reading ≡ r → ShownWitness r f words text
-    → Lists input text
+listed-witness : (input : List ℕ) (f : ℕ) (words text : List ℕ) (r : Reading) → read first-edition (take input-limit input) .reading ≡ r → ShownWitness r f words text
+    → Lists first-edition input text
 unfolding ShownWitness
 listed-witness input f words text (unread r) q e = absurd e
 listed-witness input f words text (sheet n weights edges) q e =
-    subst (λ (t : List ℕ). Lists input t) (e .2)
+    subst (λ (t : List ℕ). Lists first-edition input t) (e .2)
     (shows-witness (shown-read (take input-limit input) q) (e .0) (shown-singular (graph n weights edges) f words (e .1)))
 
 unfoldable pub ShownFilling : Reading → List ℕ → List ℕ → Read → List ℕ → List ℕ → Type 0
@@ -290,8 +291,8 @@ ShownFilling (sheet n drawn edges) adjacency weights (graph-read m k) adjacency�
     × (onto (cells n edges) adjacency ≡ adjacency′)
     × (onto drawn weights ≡ weights′)
 
-filled : (bytes adjacency weights : List ℕ) (o : Read) (adjacency′ weights′ : List ℕ) (r : Reading) → read bytes .reading ≡ r
-    → ShownFilling r adjacency weights o adjacency′ weights′ → Fills bytes adjacency weights o adjacency′ weights′
+filled : (bytes adjacency weights : List ℕ) (o : Read) (adjacency′ weights′ : List ℕ) (r : Reading) → read first-edition bytes .reading ≡ r
+    → ShownFilling r adjacency weights o adjacency′ weights′ → Fills first-edition bytes adjacency weights o adjacency′ weights′
 unfolding ShownFilling
 filled bytes adjacency weights o adjacency′ weights′ (unread r) q e = absurd e
 filled bytes adjacency weights (not-read r) adjacency′ weights′ (sheet n drawn edges) q e =
@@ -328,28 +329,28 @@ Shown (no-row s a old r) = row-ruling modulus-prime s a old ≡ refused r
 Shown (replayed s numbers old returned t new) = ShownReplay s numbers old returned t new
 Shown (no-replay s numbers old r) = replay-ruling modulus-prime s numbers old ≡ refused r
 Shown (displayed n inverse words part) = display n inverse words ≡ part
-Shown (reads bytes r) = read bytes .reading ≡ r
-Shown (filling bytes adjacency weights o adjacency′ weights′) = ShownFilling (read bytes .reading) adjacency weights o adjacency′ weights′
-Shown (lists input text) = ShownListed (read (take input-limit input) .reading) text
-Shown (lists-witness input f words text) = ShownWitness (read (take input-limit input) .reading) f words text
-Shown (lists-refusal input r text) = (read (take input-limit input) .reading ≡ unread r) × (refused-line r ≡ text)
+Shown (reads bytes r) = read first-edition bytes .reading ≡ r
+Shown (filling bytes adjacency weights o adjacency′ weights′) = ShownFilling (read first-edition bytes .reading) adjacency weights o adjacency′ weights′
+Shown (lists input text) = ShownListed (read first-edition (take input-limit input) .reading) text
+Shown (lists-witness input f words text) = ShownWitness (read first-edition (take input-limit input) .reading) f words text
+Shown (lists-refusal input r text) = (read first-edition (take input-limit input) .reading ≡ unread r) × (refused-line r ≡ text)
 Shown (host-opening o k) = opening-number o ≡ k
 Shown (host-answer a s k) = answer-number a s ≡ k
 Shown (host-row v s k) = row-number v s ≡ k
-Shown (host-words bytes ws) = words bytes ≡ ws
-Shown (host-bytes ws old new) = onto (bytes-of ws) old ≡ new
+Shown (host-words w bytes ws) = words w bytes ≡ ws
+Shown (host-bytes w ws old new) = onto (bytes-of w ws) old ≡ new
 Shown (host-handled s c e left k after) =
-    ShownHandled (unpacked-state s) c e left × (k ≡ answer-number (done e) (left .session)) × (after ≡ state-stored (done e) left s)
+    ShownHandled (unpacked-state first-edition s) c e left × (k ≡ answer-number (done e) (left .session)) × (after ≡ state-stored first-edition (done e) left s)
 Shown (host-replayed s numbers old returned left k after new) =
-    ShownReplay (unpacked-state s) numbers old returned left new
+    ShownReplay (unpacked-state first-edition s) numbers old returned left new
     × (k ≡ replay-number accepted (left .session))
-    × (after ≡ replay-stored accepted left s)
+    × (after ≡ replay-stored first-edition accepted left s)
 Shown (host-reads bytes adjacency weights o left k adjacency′ weights′) =
-    ShownFilling (read (take input-limit bytes) .reading) adjacency (words weights) o adjacency′ left
+    ShownFilling (read first-edition (take input-limit bytes) .reading) adjacency (words (first-edition .width) weights) o adjacency′ left
     × (k ≡ read-number o)
-    × (weights′ ≡ weights-stored o left weights)
+    × (weights′ ≡ weights-stored first-edition o left weights)
 Shown (host-draws n seed weights k weights′) =
-    (k ≡ draws-number (draws-ruling n weights) n) × (weights′ ≡ draws-stored (draws-ruling n weights) n seed weights)
+    (k ≡ draws-number (draws-ruling first-edition n weights) n) × (weights′ ≡ draws-stored first-edition (draws-ruling first-edition n weights) n seed weights)
 
 enough : (c : Claim) → Shown c → Holds c
 unfolding Shown Holds
@@ -375,29 +376,29 @@ enough (replayed s numbers old returned t new) e = shown-replay s numbers old re
 enough (no-replay s numbers old r) e = refuses-replay r e
 enough (displayed n inverse words part) e = e
 enough (reads bytes r) e = shown-read bytes e
-enough (filling bytes adjacency weights o adjacency′ weights′) e = filled bytes adjacency weights o adjacency′ weights′ (read bytes .reading) refl e
-enough (lists input text) e = listed input text (read (take input-limit input) .reading) refl e
-enough (lists-witness input f words text) e = listed-witness input f words text (read (take input-limit input) .reading) refl e
+enough (filling bytes adjacency weights o adjacency′ weights′) e = filled bytes adjacency weights o adjacency′ weights′ (read first-edition bytes .reading) refl e
+enough (lists input text) e = listed input text (read first-edition (take input-limit input) .reading) refl e
+enough (lists-witness input f words text) e = listed-witness input f words text (read first-edition (take input-limit input) .reading) refl e
 enough (lists-refusal input r text) e =
-    subst (λ (t : List ℕ). Lists input t) (e .1) (refuses-sheet (shown-read (take input-limit input) (e .0)))
+    subst (λ (t : List ℕ). Lists first-edition input t) (e .1) (refuses-sheet (shown-read (take input-limit input) (e .0)))
 enough (host-opening o k) e = e
 enough (host-answer a s k) e = e
 enough (host-row v s k) e = e
-enough (host-words bytes ws) e = e
-enough (host-bytes ws old new) e = e
+enough (host-words w bytes ws) e = e
+enough (host-bytes w ws old new) e = e
 enough (host-handled s c x left k after) e =
-    record { given = done x; left = left; outcome = shown-handled (unpacked-state s) c x left (e .0); numbered = e .1; stored = e .2 }
+    record { given = done x; left = left; outcome = shown-handled (unpacked-state first-edition s) c x left (e .0); numbered = e .1; stored = e .2 }
 enough (host-replayed s numbers old returned left k after new) e = record {
   verdict = accepted;
   left = left;
-  outcome = shown-replay (unpacked-state s) numbers old returned left new (e .0);
+  outcome = shown-replay (unpacked-state first-edition s) numbers old returned left new (e .0);
   numbered = e .1;
   stored = e .2;
 }
 enough (host-reads bytes adjacency weights o left k adjacency′ weights′) e = record {
   given = o;
   left = left;
-  outcome = filled (take input-limit bytes) adjacency (words weights) o adjacency′ left (read (take input-limit bytes) .reading) refl (e .0);
+  outcome = filled (take input-limit bytes) adjacency (words (first-edition .width) weights) o adjacency′ left (read first-edition (take input-limit bytes) .reading) refl (e .0);
   numbered = e .1;
   stored = e .2;
 }

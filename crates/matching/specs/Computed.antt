@@ -9,6 +9,7 @@ use lib.ListN.{length, getD, drop, length-drop}
 use Rattle.lists.specs.Choose.{choose}
 use Rattle.draws.specs.Draws.{draws}
 use Rattle.matching.specs.Decision.{because}
+use Rattle.matching.specs.Edition.{Edition}
 use Rattle.matching.specs.Graph.{largest, pair-count}
 use Rattle.matching.specs.Pairs.{Pair, pair-of}
 use Rattle.matching.specs.Model.{Named, named?}
@@ -70,42 +71,42 @@ pub too-few : {k : ℕ} {body : List ℕ} (q : Record) → k ≡ kind q → leng
 too-few q e l r rest b = omega (arith, same-width q r (sym e ∙ begins-kind b), begins-width b)
 
 -- a reading with its proof
-pub record Result (len : ℕ) (q : Progress) (at : ℕ) (bytes : List ℕ) : Type 0 where
+pub record Result (E : Edition) (len : ℕ) (q : Progress) (at : ℕ) (bytes : List ℕ) : Type 0 where
   pub reading : Reading
-  pub reads : Reads len q at bytes reading
+  pub reads : Reads E len q at bytes reading
 
-module _ (len : ℕ) where
+module _ (E : Edition) (len : ℕ) where
   pub cut-at : {q : Progress} {at k : ℕ} {body : List ℕ} (r : Record) → Due q (kind r) → k ≡ kind r → length body + 1 < width r
-      → Reads len q at (k ∷ body) (unread (because 13 len))
+      → Reads E len q at (k ∷ body) (unread (because 13 len))
   cut-at {q} {at} {k} {body} r d e l = cut {q = q} {k = k} {body = body} (rw e d) (too-few r e l)
 
   -- reading on, where fewer than so many bytes are left
   abbrev Further : ℕ → Type 0
-  Further more = (q : Progress) (at : ℕ) (bytes : List ℕ) → length bytes < more → Result len q at bytes
+  Further more = (q : Progress) (at : ℕ) (bytes : List ℕ) → length bytes < more → Result E len q at bytes
 
-  abbrev from-size : {more at k : ℕ} → Further more → Dec (k ≡ 1) → (body : List ℕ) → length body < more → Result len start at (k ∷ body)
+  abbrev from-size : {more at k : ℕ} → Further more → Dec (k ≡ 1) → (body : List ℕ) → length body < more → Result E len start at (k ∷ body)
   from-size further (no d) body _ = record { reading = _; reads = not-due (only-size d) }
   from-size further (yes e) [] _ = record { reading = _; reads = cut-at (size 0) size-due e (omega arith) }
   from-size {at = at} {k = k} further (yes e) (n ∷ rest) l = judged (decLt largest n)
     where
-      judged : Dec (largest < n) → Result len start at (k ∷ n ∷ rest)
+      judged : Dec (largest < n) → Result E len start at (k ∷ n ∷ rest)
       judged (yes h) = record { reading = _; reads = rejected (begins-with {r = size n} e begins-size) (too-large-size h) }
       judged (no h) =
           let later = further (sized n) (at + 2) rest (omega arith) in
           record { reading = later .reading; reads = goes-on (begins-with {r = size n} e begins-size) (takes-size {n = n} (omega arith)) (later .reads) }
 
-  abbrev from-seed : {more n at k : ℕ} → Further more → Dec (k ≡ 3) → (body : List ℕ) → length body < more → Result len (sized n) at (k ∷ body)
+  abbrev from-seed : {more n at k : ℕ} → Further more → Dec (k ≡ 3) → (body : List ℕ) → length body < more → Result E len (sized n) at (k ∷ body)
   from-seed further (no d) body _ = record { reading = _; reads = not-due (only-seed d) }
   from-seed further (yes e) [] _ = record { reading = _; reads = cut-at (seed 0) seed-due e (omega arith) }
   from-seed further (yes e) (a ∷ []) _ = record { reading = _; reads = cut-at (seed 0) seed-due e (omega arith) }
   from-seed further (yes e) (a ∷ b ∷ []) _ = record { reading = _; reads = cut-at (seed 0) seed-due e (omega arith) }
   from-seed further (yes e) (a ∷ b ∷ c ∷ []) _ = record { reading = _; reads = cut-at (seed 0) seed-due e (omega arith) }
   from-seed {n = n} {at = at} further (yes e) (a ∷ b ∷ c ∷ d ∷ rest) l =
-      let later = further (weighted n (draws (four a b c d) (pair-count n)) []) (at + 5) rest (omega arith) in
+      let later = further (weighted n (draws (E .draw) (four a b c d) (pair-count n)) []) (at + 5) rest (omega arith) in
       record { reading = later .reading; reads = goes-on (begins-with {r = seed (four a b c d)} e begins-seed) takes-seed (later .reads) }
 
   abbrev from-edges : {more n at k : ℕ} {weights : List ℕ} {edges : List Pair} → Further more → Dec (k ≡ 2) → Dec (k ≡ 4) → (body : List ℕ) → length body < more
-      → Result len (weighted n weights edges) at (k ∷ body)
+      → Result E len (weighted n weights edges) at (k ∷ body)
   from-edges further (no d) (no c) body _ = record { reading = _; reads = not-due (only-edges d c) }
   from-edges {n = n} {at = at} {weights = weights} {edges = edges} further (no d) (yes e) body l =
       let later = further (ended n weights edges) (at + 1) body l in
@@ -115,7 +116,7 @@ module _ (len : ℕ) where
   from-edges {n = n} {at = at} {k = k} {weights = weights} {edges = edges} further (yes e) _ (a ∷ b ∷ rest) l =
       judged (named? n a b) (ℕ-discrete (among (pair-of a b) edges) 0)
     where
-      judged : Dec (Named n a b) → Dec (among (pair-of a b) edges ≡ 0) → Result len (weighted n weights edges) at (k ∷ a ∷ b ∷ rest)
+      judged : Dec (Named n a b) → Dec (among (pair-of a b) edges ≡ 0) → Result E len (weighted n weights edges) at (k ∷ a ∷ b ∷ rest)
       judged (no h) _ = record { reading = _; reads = rejected (begins-with {r = share a b} e begins-share) (not-two h) }
       judged (yes h) (no d) = record { reading = _; reads = rejected (begins-with {r = share a b} e begins-share) (stood-already h (among-bit _ edges d)) }
       judged (yes h) (yes z) =
@@ -135,10 +136,10 @@ module _ (len : ℕ) where
   read-on (suc more) (ended n weights edges) at [] l = record { reading = _; reads = whole }
   read-on (suc more) (ended n weights edges) at (k ∷ rest) l = record { reading = _; reads = not-due nothing-due }
 
-unfoldable pub read-from : (bytes : List ℕ) (at : ℕ) → Result (length bytes) start at (drop at bytes)
+unfoldable pub read-from : (E : Edition) (bytes : List ℕ) (at : ℕ) → Result E (length bytes) start at (drop at bytes)
 unfolding read-on
-read-from bytes at = read-on (length bytes) (length bytes + 1) start at (drop at bytes) (omega (arith, length-drop at bytes))
+read-from E bytes at = read-on E (length bytes) (length bytes + 1) start at (drop at bytes) (omega (arith, length-drop at bytes))
 
-unfoldable pub read : (bytes : List ℕ) → Result (length bytes) start 0 bytes
+unfoldable pub read : (E : Edition) (bytes : List ℕ) → Result E (length bytes) start 0 bytes
 unfolding read-from
-read bytes = read-from bytes 0
+read E bytes = read-from E bytes 0

@@ -2,16 +2,17 @@
 -- docs/HOST.md says it in words). Assumes nothing.
 use mathlib.Core.Path.{_≡_}
 use mathlib.Core.Logic.{_↔_}
-use mathlib.Core.List.{List, [], _∷_}
-use Prim.Native.Nat.{ℕ, _+_, _*_, _/_, _%_, _^_, _<_}
+use mathlib.Core.List.{List, [], _∷_, _++_}
+use Prim.Native.Nat.{ℕ, zero, suc, _+_, _*_, _/_, _%_, _^_, _<_}
 use native.Mathlib.Decide.{ℕ-discrete}
 use lib.ListN.{length, getD, take}
+use Rattle.lists.specs.Values.{list-of}
 use Rattle.lists.specs.Choose.{choose}
 use Rattle.lists.specs.Onto.{onto}
-use Rattle.modular.specs.Prime.{OddPrime}
 use Rattle.draws.specs.Draws.{draws}
 use Rattle.skew.specs.Inverse.{Invertible}
 use Rattle.matching.specs.Decision.{Refusal, Ruling, accepted, refused, judge}
+use Rattle.matching.specs.Edition.{Edition}
 use Rattle.matching.specs.Graph.{over, pair-count, tutte}
 use Rattle.matching.specs.Session.{Session, State, in-play, graph-of, pairs-of}
 use Rattle.matching.specs.Model.{Call, Answer, done, denied, Allowed}
@@ -21,20 +22,30 @@ use Rattle.matching.specs.Calls.{Handles, ShowsRow}
 use Rattle.matching.specs.Records.{Read, graph-read, not-read, Fills}
 use Rattle.matching.specs.Listing.{input-limit}
 
--- the words of a byte slice, low byte first; an odd last byte is none
-unfoldable pub words : List ℕ → List ℕ
-words [] = []
-words (low ∷ []) = []
-words (low ∷ high ∷ rest) = (low + 256 * high) ∷ words rest
+-- the word of w bytes from an index on, low byte first
+unfoldable pub word : (w : ℕ) → List ℕ → ℕ → ℕ
+word zero bytes at = 0
+word (suc w) bytes at = getD bytes at 0 + 256 * word w bytes (at + 1)
+
+-- the words of a byte slice, w bytes each; bytes after the last whole word are none
+unfoldable pub words : (w : ℕ) → List ℕ → List ℕ
+unfolding word list-of
+words w bytes = list-of (length bytes / w) (λ i. word w bytes (w * i))
 
 -- every value is a byte
 abbrev pub Bytes : List ℕ → Type 0
 Bytes l = (x : ℕ) → getD l x 0 < 2 ^ 8
 
--- the bytes of words, low byte first
-unfoldable pub bytes-of : List ℕ → List ℕ
-bytes-of [] = []
-bytes-of (w ∷ rest) = w % 256 ∷ w / 256 % 256 ∷ bytes-of rest
+-- the w low bytes of a number, low byte first
+unfoldable pub low-bytes : (w : ℕ) → ℕ → List ℕ
+low-bytes zero x = []
+low-bytes (suc w) x = x % 256 ∷ low-bytes w (x / 256)
+
+-- the bytes of words, w bytes each
+unfoldable pub bytes-of : (w : ℕ) → List ℕ → List ℕ
+unfolding low-bytes
+bytes-of w [] = []
+bytes-of w (x ∷ rest) = low-bytes w x ++ bytes-of w rest
 
 -- the one number of a call. Bits 0 to 7: the cause, 0 when none; 8 to 15: the kind of answer; 16 to 31: a value; 32 to 39: the pairs made, or
 -- the size of a sheet that was read
@@ -86,83 +97,89 @@ abbrev pub row-number : Ruling → Session → ℕ
 row-number v s = ruled-number 4 v s
 
 -- the host's bytes read as words; the sequence is bytes already
-abbrev pub unpacked : Buffers → Buffers
-unpacked b = record { inverse = words (b .inverse); sequence = b .sequence; witness = words (b .witness); work = words (b .work) }
+abbrev pub unpacked : Edition → Buffers → Buffers
+unpacked E b = record {
+  inverse = words (E .width) (b .inverse);
+  sequence = b .sequence;
+  witness = words (E .width) (b .witness);
+  work = words (E .width) (b .work);
+}
 
--- the words left, stored over the host's bytes; an odd last byte is as it was
-abbrev pub packed : Buffers → Buffers → Buffers
-packed new old = record {
-  inverse = onto (bytes-of (new .inverse)) (old .inverse);
+-- the words left, stored over the host's bytes; bytes after the last whole word are as they were
+abbrev pub packed : Edition → Buffers → Buffers → Buffers
+packed E new old = record {
+  inverse = onto (bytes-of (E .width) (new .inverse)) (old .inverse);
   sequence = new .sequence;
-  witness = onto (bytes-of (new .witness)) (old .witness);
-  work = onto (bytes-of (new .work)) (old .work);
+  witness = onto (bytes-of (E .width) (new .witness)) (old .witness);
+  work = onto (bytes-of (E .width) (new .work)) (old .work);
 }
 
 -- the host's buffers afterwards: on a refusal as they came
-abbrev pub stored-after : Opening → Buffers → Buffers → Buffers
-stored-after (opened s) left b = packed left b
-stored-after (singular f) left b = packed left b
-stored-after (not-opened r) left b = b
+abbrev pub stored-after : Edition → Opening → Buffers → Buffers → Buffers
+stored-after E (opened s) left b = packed E left b
+stored-after E (singular f) left b = packed E left b
+stored-after E (not-opened r) left b = b
 
 -- opening through the host: the number, and every byte of the buffers afterwards
-pub record HostOpens (p n : ℕ) (adjacency weights : List ℕ) (b : Buffers) (answer : ℕ) (after : Buffers) : Type 0 where
+pub record HostOpens (E : Edition) (n : ℕ) (adjacency weights : List ℕ) (b : Buffers) (answer : ℕ) (after : Buffers) : Type 0 where
   pub opening : Opening
   pub buffers : Buffers
-  pub outcome : Opens p (over n adjacency (words weights)) (players n (unpacked b)) (unpacked b) opening buffers
+  pub outcome : Opens (E .modulus) (over n adjacency (words (E .width) weights)) (players n (unpacked E b)) (unpacked E b) opening buffers
   pub numbered : answer ≡ opening-number opening
-  pub stored : after ≡ stored-after opening buffers b
+  pub stored : after ≡ stored-after E opening buffers b
 
 -- demand 2, first half, through the host. It follows from `HostOpens`.
-abbrev pub HostOpenedExactly : ℕ → ℕ → (adjacency weights : List ℕ) → Buffers → ℕ → Type 0
-HostOpenedExactly p n adjacency weights b answer =
-    ruling p (over n adjacency (words weights)) (unpacked b) ≡ accepted
-    → ((kind-in answer ≡ 1) ↔ Invertible p n (tutte (over n adjacency (words weights)) p) (players n (unpacked b)))
+abbrev pub HostOpenedExactly : Edition → ℕ → (adjacency weights : List ℕ) → Buffers → ℕ → Type 0
+HostOpenedExactly E n adjacency weights b answer =
+    let g = over n adjacency (words (E .width) weights) in
+    ruling (E .modulus) g (unpacked E b) ≡ accepted
+    → ((kind-in answer ≡ 1) ↔ Invertible (E .modulus) n (tutte g (E .modulus)) (players n (unpacked E b)))
 
 -- a session's state whose weights and inverse are the host's bytes, read as words
-abbrev pub unpacked-state : State → State
-unpacked-state s = record {
+abbrev pub unpacked-state : Edition → State → State
+unpacked-state E s = record {
   session = s .session;
   adjacency = s .adjacency;
-  weights = words (s .weights);
-  inverse = words (s .inverse);
+  weights = words (E .width) (s .weights);
+  inverse = words (E .width) (s .inverse);
   sequence = s .sequence;
 }
 
 -- the words of a state, stored over the bytes of the host's; the tables are not written
-abbrev pub stored-over : State → State → State
-stored-over left s = record {
+abbrev pub stored-over : Edition → State → State → State
+stored-over E left s = record {
   session = left .session;
   adjacency = s .adjacency;
   weights = s .weights;
-  inverse = onto (bytes-of (left .inverse)) (s .inverse);
+  inverse = onto (bytes-of (E .width) (left .inverse)) (s .inverse);
   sequence = left .sequence;
 }
 
 -- the host's state after a call: on a refusal all is as it came
-abbrev pub state-stored : Answer → State → State → State
-state-stored (done e) left s = stored-over left s
-state-stored (denied r) left s = s
+abbrev pub state-stored : Edition → Answer → State → State → State
+state-stored E (done e) left s = stored-over E left s
+state-stored E (denied r) left s = s
 
-module _ {p : ℕ} (P : OddPrime p) where
+module _ (E : Edition) where
   -- hand pick, automatic pick and take-back through the host: the number, and every byte afterwards. The session is that of the number
   -- (laws, Numbers: `host-session`)
   pub record HostHandles (s : State) (c : Call) (answer : ℕ) (after : State) : Type 0 where
     pub given : Answer
     pub left : State
-    pub outcome : Handles P (unpacked-state s) c given left
+    pub outcome : Handles (E .prime) (unpacked-state E s) c given left
     pub numbered : answer ≡ answer-number given (left .session)
-    pub stored : after ≡ state-stored given left s
+    pub stored : after ≡ state-stored E given left s
 
   -- demand 2, second half, through the host. It follows from `HostHandles`.
   abbrev pub HostPickedExactly : State → (a b : ℕ) → ℕ → Type 0
   HostPickedExactly s a b answer =
-      let t = unpacked-state s in
-      session-ruling p t ≡ accepted → ((cause-in answer ≡ 0) ↔ Allowed P (graph-of t) (in-play t) (pairs-of t) a b)
+      let t = unpacked-state E s in
+      session-ruling (E .modulus) t ≡ accepted → ((cause-in answer ≡ 0) ↔ Allowed (E .prime) (graph-of t) (in-play t) (pairs-of t) a b)
 
   -- open row through the host: the number, the state, which is as it came, and the row's bytes afterwards
   pub record HostShowsRow (s : State) (a : ℕ) (row : List ℕ) (answer : ℕ) (after : State) (row′ : List ℕ) : Type 0 where
     pub verdict : Ruling
-    pub outcome : ShowsRow P (unpacked-state s) a row verdict (unpacked-state s) row′
+    pub outcome : ShowsRow (E .prime) (unpacked-state E s) a row verdict (unpacked-state E s) row′
     pub numbered : answer ≡ row-number verdict (s .session)
     pub same : after ≡ s
 
@@ -172,33 +189,33 @@ read-number (graph-read n m) = number 0 6 m n
 read-number (not-read r) = refusal-number r
 
 -- the weights' bytes afterwards: on a refusal as they came
-abbrev pub weights-stored : Read → (left weights : List ℕ) → List ℕ
-weights-stored (graph-read n m) left weights = onto (bytes-of left) weights
-weights-stored (not-read r) left weights = weights
+abbrev pub weights-stored : Edition → Read → (left weights : List ℕ) → List ℕ
+weights-stored E (graph-read n m) left weights = onto (bytes-of (E .width) left) weights
+weights-stored E (not-read r) left weights = weights
 
 -- reading a sheet through the host: the number, and every byte of the adjacency table and the weights afterwards. As many bytes of the
 -- sheet are read as the program reads, so a place has 16 bits
-pub record HostReads (sheet adjacency weights : List ℕ) (answer : ℕ) (adjacency′ weights′ : List ℕ) : Type 0 where
+pub record HostReads (E : Edition) (sheet adjacency weights : List ℕ) (answer : ℕ) (adjacency′ weights′ : List ℕ) : Type 0 where
   pub given : Read
   pub left : List ℕ
-  pub outcome : Fills (take input-limit sheet) adjacency (words weights) given adjacency′ left
+  pub outcome : Fills E (take input-limit sheet) adjacency (words (E .width) weights) given adjacency′ left
   pub numbered : answer ≡ read-number given
-  pub stored : weights′ ≡ weights-stored given left weights
+  pub stored : weights′ ≡ weights-stored E given left weights
 
 -- causes 1 and 2 of drawing the weights of n vertices
-abbrev pub draws-ruling : ℕ → List ℕ → Ruling
-draws-ruling n weights = judge (too-large n ∷ too-short (lent-weights n (length (words weights)) ∷ []) ∷ [])
+abbrev pub draws-ruling : Edition → ℕ → List ℕ → Ruling
+draws-ruling E n weights = judge (too-large n ∷ too-short (lent-weights n (length (words (E .width) weights)) ∷ []) ∷ [])
 
 -- kind 7: weights drawn, with how many
 abbrev pub draws-number : Ruling → ℕ → ℕ
 draws-number accepted n = number 0 7 (pair-count n) 0
 draws-number (refused r) n = refusal-number r
 
-abbrev pub draws-stored : Ruling → (n seed : ℕ) (weights : List ℕ) → List ℕ
-draws-stored accepted n seed weights = onto (bytes-of (draws seed (pair-count n))) weights
-draws-stored (refused r) n seed weights = weights
+abbrev pub draws-stored : Edition → Ruling → (n seed : ℕ) (weights : List ℕ) → List ℕ
+draws-stored E accepted n seed weights = onto (bytes-of (E .width) (draws (E .draw) seed (pair-count n))) weights
+draws-stored E (refused r) n seed weights = weights
 
 -- the draws of a seed as the weights of n vertices, through the host: the number, and every byte of the weights afterwards
-pub record HostDraws (n seed : ℕ) (weights : List ℕ) (answer : ℕ) (weights′ : List ℕ) : Type 0 where
-  pub numbered : answer ≡ draws-number (draws-ruling n weights) n
-  pub stored : weights′ ≡ draws-stored (draws-ruling n weights) n seed weights
+pub record HostDraws (E : Edition) (n seed : ℕ) (weights : List ℕ) (answer : ℕ) (weights′ : List ℕ) : Type 0 where
+  pub numbered : answer ≡ draws-number (draws-ruling E n weights) n
+  pub stored : weights′ ≡ draws-stored E (draws-ruling E n weights) n seed weights

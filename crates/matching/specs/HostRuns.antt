@@ -3,8 +3,8 @@ use mathlib.Core.Path.{_≡_}
 use mathlib.Core.Logic.{_≢_}
 use mathlib.Core.List.{List, [], _∷_, map}
 use Prim.Native.Nat.{ℕ, zero, suc}
-use Rattle.modular.specs.Prime.{OddPrime}
 use Rattle.matching.specs.Decision.{At}
+use Rattle.matching.specs.Edition.{Edition}
 use Rattle.matching.specs.Graph.{Graph, over}
 use Rattle.matching.specs.Pairs.{Pair}
 use Rattle.matching.specs.Session.{State, in-play}
@@ -36,20 +36,20 @@ host-opened-state n adjacency weights answer b = record {
   sequence = b .sequence;
 }
 
-module _ {p : ℕ} (P : OddPrime p) where
+module _ (E : Edition) where
   -- single calls through the host; each is given the state that the last one left
   pub data HostRuns : State → List Call → List HostReturned → Type 0 where
     host-none : {s : State} → HostRuns s [] []
-    host-more : {s : State} {c : Call} {calls : List Call} {r : HostReturned} {later : List HostReturned} → HostHandles P s c (r .answer) (r .state)
+    host-more : {s : State} {c : Call} {calls : List Call} {r : HostReturned} {later : List HostReturned} → HostHandles E s c (r .answer) (r .state)
         → HostRuns (r .state) calls later → HostRuns s (c ∷ calls) (r ∷ later)
 
   -- they are calls on the words of its bytes, which returned `on-words`
   pub record HostOnWords (s : State) (calls : List Call) (returned : List HostReturned) (on-words : List Returned) : Type 0 where
-    pub runs : Runs P (unpacked-state s) calls on-words
+    pub runs : Runs (E .prime) (unpacked-state E s) calls on-words
     -- the numbers are theirs
     pub answers-are : map (λ (r : HostReturned). r .answer) returned ≡ numbers-of on-words
     -- and so is every byte after every call: the words, stored over the bytes of s
-    pub states-are : (k : ℕ) → host-after s returned k ≡ stored-over (state-after (unpacked-state s) on-words k) s
+    pub states-are : (k : ℕ) → host-after s returned k ≡ stored-over E (state-after (unpacked-state E s) on-words k) s
     -- the session is the one that the number hands back
     pub sessions-are : (k answer : ℕ) → At (map (λ (r : HostReturned). r .answer) returned) k answer
         → host-after s returned (suc k) .session ≡ session-back answer (host-after s returned k .session)
@@ -61,15 +61,16 @@ module _ {p : ℕ} (P : OddPrime p) where
   abbrev pub HostRestores : Graph → State → List Call → List HostReturned → Type 0
   HostRestores g s calls returned =
       (j answer : ℕ) → At calls j undo → At (map (λ (r : HostReturned). r .answer) returned) j answer → cause-in answer ≡ 0
-      → (i : ℕ) × (e : Pair) × Undoes P g (in-play s) [] calls i j e × (host-after s returned (suc j) ≡ host-after s returned i)
+      → (i : ℕ) × (e : Pair) × Undoes (E .prime) g (in-play s) [] calls i j e × (host-after s returned (suc j) ≡ host-after s returned i)
 
-  -- demand 3 through the host: after every opening whose number has kind 1, for every list of single calls. A residue fits a word: p is at
-  -- most 2^16 in the law
+  -- demand 3 through the host: after every opening whose number has kind 1, for every list of single calls
   abbrev pub HostDemandByCalls : ℕ → (adjacency weights : List ℕ) → Type 0
   HostDemandByCalls n adjacency weights =
-      (b after : Buffers) (answer : ℕ) → Bytes (b .inverse) → HostOpens p n adjacency weights b answer after → kind-in answer ≡ 1
-      → (calls : List Call) (returned : List HostReturned) → HostRuns (host-opened-state n adjacency weights answer after) calls returned
+      (b after : Buffers) (answer : ℕ) → Bytes (b .inverse) → HostOpens E n adjacency weights b answer after → kind-in answer ≡ 1
+      → let g = over n adjacency (words (E .width) weights) in
+      let s = host-opened-state n adjacency weights answer after in
+      (calls : List Call) (returned : List HostReturned) → HostRuns s calls returned
       → (on-words : List Returned)
-      × HostOnWords (host-opened-state n adjacency weights answer after) calls returned on-words
-      × HostRestores (over n adjacency (words weights)) (host-opened-state n adjacency weights answer after) calls returned
-      × FollowsModel P (over n adjacency (words weights)) (in-play (host-opened-state n adjacency weights answer after)) [] calls (unpacked-state (host-opened-state n adjacency weights answer after)) on-words
+      × HostOnWords s calls returned on-words
+      × HostRestores g s calls returned
+      × FollowsModel (E .prime) g (in-play s) [] calls (unpacked-state E s) on-words

@@ -11,6 +11,7 @@ use Rattle.residue.specs.Modulus.{modulus, modulus-prime}
 use Rattle.skew.specs.Subset.{_∈_, count}
 use Rattle.skew.specs.Decide.{first-dependent?}
 use Rattle.matching.specs.Decision.{Refusal, because, Every, At, accepted, every?, first?}
+use Rattle.matching.specs.Edition.{first-edition}
 use Rattle.matching.specs.Graph.{Graph, over, tutte}
 use Rattle.matching.specs.Pairs.{Pair, everything, unmatched, sequence, pairs-on}
 use Rattle.matching.specs.Session.{State}
@@ -235,7 +236,7 @@ abbrev host-matched : State
 host-matched = on host-graph 1 (replicate 8 0 ++ replicate 3 9) (0 ∷ 1 ∷ 8 ∷ [])
 
 -- opening: every byte of every buffer, the excess as it was
-pub host-opened : HostOpens modulus 2 (host-graph .adjacency) host-weights lent 256
+pub host-opened : HostOpens first-edition 2 (host-graph .adjacency) host-weights lent 256
     (record { inverse = host-empty .inverse; sequence = host-empty .sequence; witness = replicate 4 0 ++ replicate 3 9; work = replicate 8 0 ++ replicate 3 9 })
 unfolding words bytes-of opening-ruling inverse-table? first? every? tutte decLt modulus-prime
 host-opened = record {
@@ -253,7 +254,7 @@ unfolding opening-ruling ShownSingular first-dependent? witness? first? every? t
 singular-found = finds-singular 0 (1 ∷ []) refl refl (shown-singular (over 1 (0 ∷ []) []) 0 (1 ∷ []) (tt, tt, tt))
 
 -- and through the host
-pub host-singular : HostOpens modulus 1 (0 ∷ []) [] (record { inverse = replicate 5 9; sequence = 9 ∷ 8 ∷ []; witness = replicate 5 9; work = replicate 5 9 }) 512
+pub host-singular : HostOpens first-edition 1 (0 ∷ []) [] (record { inverse = replicate 5 9; sequence = 9 ∷ 8 ∷ []; witness = replicate 5 9; work = replicate 5 9 }) 512
     (record { inverse = 0 ∷ 0 ∷ replicate 3 9; sequence = 255 ∷ 8 ∷ []; witness = 1 ∷ 0 ∷ replicate 3 9; work = 0 ∷ 0 ∷ replicate 3 9 })
 unfolding words bytes-of opening-ruling ShownSingular first-dependent? witness? first? every? tutte decLt modulus-prime
 host-singular = record {
@@ -265,12 +266,12 @@ host-singular = record {
 }
 
 -- the open row of vertex 0, with a byte behind it
-pub host-row : HostShowsRow modulus-prime host-empty 0 (9 ∷ 9 ∷ 7 ∷ []) 1024 host-empty (0 ∷ 1 ∷ 7 ∷ [])
+pub host-row : HostShowsRow first-edition host-empty 0 (9 ∷ 9 ∷ 7 ∷ []) 1024 host-empty (0 ∷ 1 ∷ 7 ∷ [])
 unfolding words row-ruling open-row session-ruling inverse-table? nonsingular? first? every? tutte unmatched pairs-on decLt modulus-prime
 host-row = record { verdict = accepted; outcome = shows refl; numbered = refl; same = refl }
 
 -- single calls, each given what the last one left: a pick, and one that is refused with 8
-pub host-ran : HostRuns modulus-prime host-empty (pick 1 0 ∷ pick 0 1 ∷ [])
+pub host-ran : HostRuns first-edition host-empty (pick 1 0 ∷ pick 0 1 ∷ [])
     (record { answer = 4311745280; state = host-matched } ∷ record { answer = 8; state = host-matched } ∷ [])
 unfolding words bytes-of step session-ruling inverse-table? nonsingular? first? every? tutte unmatched sequence pairs-on decLt modulus-prime
 host-ran =

@@ -1,5 +1,6 @@
--- Document 01 in definitions, nearly in its own order: the graph and its matrix, pairs, the session, opening and its display, the plain
+-- Document 01 in definitions, nearly in its own order: the edition, the graph and its matrix, pairs, the session, opening and its display, the plain
 -- model, the session calls, records, causes, the listing, the host's number.
+pub mod Edition
 pub mod Graph
 pub mod Pairs
 pub mod Session

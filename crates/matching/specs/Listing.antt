@@ -6,8 +6,8 @@ use native.Mathlib.Decide.{ℕ-discrete, decLt}
 use lib.ListN.{length, take, replicate}
 use Rattle.lists.specs.Choose.{choose}
 use Rattle.lists.specs.Onto.{onto}
-use Rattle.residue.specs.Modulus.{modulus, modulus-prime}
 use Rattle.matching.specs.Decision.{Refusal}
+use Rattle.matching.specs.Edition.{Edition}
 use Rattle.matching.specs.Pairs.{Pair, Pairs, everything}
 use Rattle.matching.specs.Model.{automatic, Nonsingular, pairs-after, PicksToCome}
 use Rattle.matching.specs.Opening.{Singular}
@@ -94,18 +94,18 @@ abbrev pub refused-line : Refusal → List ℕ
 refused-line r = text-refused ++ decimal (r .cause) ++ text-at ++ decimal (r .place) ++ line-feed
 
 -- what is printed for an input: the refusal, or automatic picks to the end, or the witness
-pub data Lists (input : List ℕ) : List ℕ → Type 0 where
-  refuses-sheet : {r : Refusal} → ReadsAs (take input-limit input) (unread r) → Lists input (refused-line r)
-  pairs-up : {n m : ℕ} {weights : List ℕ} {edges : List Pair} → ReadsAs (take input-limit input) (sheet n weights edges)
-      → Nonsingular modulus-prime (graph n weights edges) everything []
-      → PicksToCome modulus-prime (graph n weights edges) everything [] m
-      → Lists input
-      (first-line n (length edges) ++ pair-lines (pairs-after modulus-prime (graph n weights edges) everything [] (replicate m automatic) m) ++ line-full)
-  shows-witness : {n f : ℕ} {weights words : List ℕ} {edges : List Pair} → ReadsAs (take input-limit input) (sheet n weights edges)
-      → length words ≡ n → Singular modulus (graph n weights edges) everything f words
-      → Lists input (first-line n (length edges) ++ witness-lines 0 words ++ line-none)
+pub data Lists (E : Edition) (input : List ℕ) : List ℕ → Type 0 where
+  refuses-sheet : {r : Refusal} → ReadsAs E (take input-limit input) (unread r) → Lists E input (refused-line r)
+  pairs-up : {n m : ℕ} {weights : List ℕ} {edges : List Pair} → ReadsAs E (take input-limit input) (sheet n weights edges)
+      → Nonsingular (E .prime) (graph n weights edges) everything []
+      → PicksToCome (E .prime) (graph n weights edges) everything [] m
+      → Lists E input
+      (first-line n (length edges) ++ pair-lines (pairs-after (E .prime) (graph n weights edges) everything [] (replicate m automatic) m) ++ line-full)
+  shows-witness : {n f : ℕ} {weights words : List ℕ} {edges : List Pair} → ReadsAs E (take input-limit input) (sheet n weights edges)
+      → length words ≡ n → Singular (E .modulus) (graph n weights edges) everything f words
+      → Lists E input (first-line n (length edges) ++ witness-lines 0 words ++ line-none)
 
--- how long a buffer for the text is to be: no text has more than 1,654 bytes
+-- how long a buffer for the text is to be: no text of the first edition has more than 1,654 bytes
 abbrev pub text-room : ℕ
 text-room = 2048
 
@@ -115,6 +115,6 @@ pub data Listed : Type 0 where
   no-room : Listed
 
 -- the listing written to a lent buffer: the answer, and the buffer afterwards
-pub data ListsInto (input buffer : List ℕ) : Listed → List ℕ → Type 0 where
-  lists-into : {text : List ℕ} → text-room ≤ length buffer → Lists input text → ListsInto input buffer (text-of (length text)) (onto text buffer)
-  lacks-text-room : length buffer < text-room → ListsInto input buffer no-room buffer
+pub data ListsInto (E : Edition) (input buffer : List ℕ) : Listed → List ℕ → Type 0 where
+  lists-into : {text : List ℕ} → text-room ≤ length buffer → Lists E input text → ListsInto E input buffer (text-of (length text)) (onto text buffer)
+  lacks-text-room : length buffer < text-room → ListsInto E input buffer no-room buffer

@@ -10,6 +10,7 @@ use Rattle.lists.specs.Choose.{choose}
 use Rattle.lists.specs.Onto.{onto}
 use Rattle.draws.specs.Draws.{draws}
 use Rattle.matching.specs.Decision.{Refusal, because, both?, Ruling, accepted, refused, judge}
+use Rattle.matching.specs.Edition.{Edition}
 use Rattle.matching.specs.Graph.{Graph, over, largest, pair-count}
 use Rattle.matching.specs.Pairs.{Pair, pair-of}
 use Rattle.matching.specs.Model.{Named}
@@ -76,12 +77,12 @@ among e [] = 0
 among e (f ∷ edges) = choose (same? e f) 1 (among e edges)
 
 -- what a record that is due and taken makes of it: the seed's draws are the weights
-pub data Takes : Progress → Record → Progress → Type 0 where
-  takes-size : {n : ℕ} → n ≤ largest → Takes start (size n) (sized n)
-  takes-seed : {n s : ℕ} → Takes (sized n) (seed s) (weighted n (draws s (pair-count n)) [])
+pub data Takes (E : Edition) : Progress → Record → Progress → Type 0 where
+  takes-size : {n : ℕ} → n ≤ largest → Takes E start (size n) (sized n)
+  takes-seed : {n s : ℕ} → Takes E (sized n) (seed s) (weighted n (draws (E .draw) s (pair-count n)) [])
   takes-share : {n a b : ℕ} {weights : List ℕ} {edges : List Pair} → Named n a b → among (pair-of a b) edges ≡ 0
-      → Takes (weighted n weights edges) (share a b) (weighted n weights (pair-of a b ∷ edges))
-  takes-end : {n : ℕ} {weights : List ℕ} {edges : List Pair} → Takes (weighted n weights edges) end (ended n weights edges)
+      → Takes E (weighted n weights edges) (share a b) (weighted n weights (pair-of a b ∷ edges))
+  takes-end : {n : ℕ} {weights : List ℕ} {edges : List Pair} → Takes E (weighted n weights edges) end (ended n weights edges)
 
 -- the cause for which one that is due is refused: 1 for a size above 96, 14 for what is not two vertices, 15 for two that stood already
 pub data Rejects : Progress → Record → ℕ → Type 0 where
@@ -97,24 +98,24 @@ pub data Reading : Type 0 where
 
 -- from offset `at` of `len` bytes on, these are left and are read so: 12 at a byte that is no kind which is due; 13 where the data stops
 -- before the end record or inside a body; a record's own cause at its offset; else on behind it
-pub data Reads (len : ℕ) : Progress → (at : ℕ) (bytes : List ℕ) → Reading → Type 0 where
-  whole : {n at : ℕ} {weights : List ℕ} {edges : List Pair} → Reads len (ended n weights edges) at [] (sheet n weights edges)
-  not-due : {q : Progress} {at k : ℕ} {rest : List ℕ} → ¬ Due q k → Reads len q at (k ∷ rest) (unread (because 12 at))
-  stops : {q : Progress} {at k : ℕ} → Due q k → Reads len q at [] (unread (because 13 len))
+pub data Reads (E : Edition) (len : ℕ) : Progress → (at : ℕ) (bytes : List ℕ) → Reading → Type 0 where
+  whole : {n at : ℕ} {weights : List ℕ} {edges : List Pair} → Reads E len (ended n weights edges) at [] (sheet n weights edges)
+  not-due : {q : Progress} {at k : ℕ} {rest : List ℕ} → ¬ Due q k → Reads E len q at (k ∷ rest) (unread (because 12 at))
+  stops : {q : Progress} {at k : ℕ} → Due q k → Reads E len q at [] (unread (because 13 len))
   cut : {q : Progress} {at k : ℕ} {body : List ℕ} → Due q k → ((r : Record) (rest : List ℕ) → ¬ Begins r (k ∷ body) rest)
-      → Reads len q at (k ∷ body) (unread (because 13 len))
+      → Reads E len q at (k ∷ body) (unread (because 13 len))
   rejected : {q : Progress} {at cause : ℕ} {bytes rest : List ℕ} {r : Record} → Begins r bytes rest → Rejects q r cause
-      → Reads len q at bytes (unread (because cause at))
-  goes-on : {q next : Progress} {at : ℕ} {bytes rest : List ℕ} {r : Record} {result : Reading} → Begins r bytes rest → Takes q r next
-      → Reads len next (at + width r) rest result → Reads len q at bytes result
+      → Reads E len q at bytes (unread (because cause at))
+  goes-on : {q next : Progress} {at : ℕ} {bytes rest : List ℕ} {r : Record} {result : Reading} → Begins r bytes rest → Takes E q r next
+      → Reads E len next (at + width r) rest result → Reads E len q at bytes result
 
 -- the bytes from an offset to their end are read as a sheet so, with offsets counted from the first of all bytes
-abbrev pub ReadsFrom : List ℕ → ℕ → Reading → Type 0
-ReadsFrom bytes at r = Reads (length bytes) start at (drop at bytes) r
+abbrev pub ReadsFrom : Edition → List ℕ → ℕ → Reading → Type 0
+ReadsFrom E bytes at r = Reads E (length bytes) start at (drop at bytes) r
 
 -- all of them
-abbrev pub ReadsAs : List ℕ → Reading → Type 0
-ReadsAs bytes r = ReadsFrom bytes 0 r
+abbrev pub ReadsAs : Edition → List ℕ → Reading → Type 0
+ReadsAs E bytes r = ReadsFrom E bytes 0 r
 
 -- the adjacency table of these edges: 1 in both cells of each edge, 0 elsewhere
 unfoldable pub cells : ℕ → List Pair → List ℕ
@@ -138,13 +139,13 @@ room n adjacency weights =
     judge (too-short (lent-graph g) ∷ [])
 
 -- reading from an offset: the answer, and the adjacency table and the weights afterwards
-pub data FillsFrom (bytes : List ℕ) (at : ℕ) (adjacency weights : List ℕ) : Read → List ℕ → List ℕ → Type 0 where
-  refuses-records : {why : Refusal} → ReadsFrom bytes at (unread why) → FillsFrom bytes at adjacency weights (not-read why) adjacency weights
-  lacks-room : {n : ℕ} {drawn : List ℕ} {edges : List Pair} {why : Refusal} → ReadsFrom bytes at (sheet n drawn edges) → room n adjacency weights ≡ refused why
-      → FillsFrom bytes at adjacency weights (not-read why) adjacency weights
-  fills : {n : ℕ} {drawn : List ℕ} {edges : List Pair} → ReadsFrom bytes at (sheet n drawn edges) → room n adjacency weights ≡ accepted
-      → FillsFrom bytes at adjacency weights (graph-read n (length edges)) (onto (cells n edges) adjacency) (onto drawn weights)
+pub data FillsFrom (E : Edition) (bytes : List ℕ) (at : ℕ) (adjacency weights : List ℕ) : Read → List ℕ → List ℕ → Type 0 where
+  refuses-records : {why : Refusal} → ReadsFrom E bytes at (unread why) → FillsFrom E bytes at adjacency weights (not-read why) adjacency weights
+  lacks-room : {n : ℕ} {drawn : List ℕ} {edges : List Pair} {why : Refusal} → ReadsFrom E bytes at (sheet n drawn edges) → room n adjacency weights ≡ refused why
+      → FillsFrom E bytes at adjacency weights (not-read why) adjacency weights
+  fills : {n : ℕ} {drawn : List ℕ} {edges : List Pair} → ReadsFrom E bytes at (sheet n drawn edges) → room n adjacency weights ≡ accepted
+      → FillsFrom E bytes at adjacency weights (graph-read n (length edges)) (onto (cells n edges) adjacency) (onto drawn weights)
 
 -- reading all bytes
-abbrev pub Fills : (bytes adjacency weights : List ℕ) → Read → List ℕ → List ℕ → Type 0
-Fills bytes adjacency weights given adjacency′ weights′ = FillsFrom bytes 0 adjacency weights given adjacency′ weights′
+abbrev pub Fills : Edition → (bytes adjacency weights : List ℕ) → Read → List ℕ → List ℕ → Type 0
+Fills E bytes adjacency weights given adjacency′ weights′ = FillsFrom E bytes 0 adjacency weights given adjacency′ weights′

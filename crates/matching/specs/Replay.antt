@@ -8,6 +8,7 @@ use Rattle.lists.specs.Choose.{choose}
 use Rattle.lists.specs.Onto.{onto}
 use Rattle.modular.specs.Prime.{OddPrime}
 use Rattle.matching.specs.Decision.{Refusal, both?, not?, First, first?, Finding, absent, at, when, found, Cause, Ruling, accepted, refused, judge}
+use Rattle.matching.specs.Edition.{Edition}
 use Rattle.matching.specs.Session.{Session, State, in-play, graph-of}
 use Rattle.matching.specs.Causes.{Lent, session-causes, session-ruling}
 use Rattle.matching.specs.Model.{Call, pick, automatic, undo}
@@ -104,22 +105,22 @@ abbrev pub replay-number : Ruling → Session → ℕ
 replay-number v s = ruled-number 5 v s
 
 -- the host's state after a replay: on a refusal as it came
-abbrev pub replay-stored : Ruling → State → State → State
-replay-stored accepted left s = stored-over left s
-replay-stored (refused r) left s = s
+abbrev pub replay-stored : Edition → Ruling → State → State → State
+replay-stored E accepted left s = stored-over E left s
+replay-stored E (refused r) left s = s
 
-module _ {p : ℕ} (P : OddPrime p) where
+module _ (E : Edition) where
   -- replay through the host: the number, and every byte and every answer afterwards
   pub record HostReplays (s : State) (numbers answers : List ℕ) (answer : ℕ) (after : State) (answers′ : List ℕ) : Type 0 where
     pub verdict : Ruling
     pub left : State
-    pub outcome : Replays P (unpacked-state s) numbers answers verdict left answers′
+    pub outcome : Replays (E .prime) (unpacked-state E s) numbers answers verdict left answers′
     pub numbered : answer ≡ replay-number verdict (left .session)
-    pub stored : after ≡ replay-stored verdict left s
+    pub stored : after ≡ replay-stored E verdict left s
 
   -- demand 3 through the host: on a session with no pairs the calls of a replay that is not refused go as the plain model goes, and the bytes
   -- are those of the state after the last. It follows from `HostReplays`
   abbrev pub HostDemandThree : State → (numbers answers : List ℕ) → State → List ℕ → Type 0
   HostDemandThree s numbers answers after answers′ =
-      replay-ruling P (unpacked-state s) numbers answers ≡ accepted → s .session .made ≡ 0
-      → (left : State) × FollowsReplay P (unpacked-state s) numbers answers left answers′ × (after ≡ replay-stored accepted left s)
+      replay-ruling (E .prime) (unpacked-state E s) numbers answers ≡ accepted → s .session .made ≡ 0
+      → (left : State) × FollowsReplay (E .prime) (unpacked-state E s) numbers answers left answers′ × (after ≡ replay-stored E accepted left s)

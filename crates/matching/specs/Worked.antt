@@ -137,7 +137,7 @@ worked =
     ∷ reads (1 ∷ 96 ∷ []) (unread (because 13 2))
     ∷ reads (1 ∷ 2 ∷ 4 ∷ []) (unread (because 12 2))
     ∷ reads (1 ∷ 2 ∷ 3 ∷ 1 ∷ 0 ∷ 0 ∷ []) (unread (because 13 6))
-    ∷ reads (1 ∷ 2 ∷ 3 ∷ 1 ∷ 2 ∷ 0 ∷ 0 ∷ 4 ∷ []) (sheet 2 (draws 513 1) [])
+    ∷ reads (1 ∷ 2 ∷ 3 ∷ 1 ∷ 2 ∷ 0 ∷ 0 ∷ 4 ∷ []) (sheet 2 (draws draw 513 1) [])
     ∷ reads (1 ∷ 2 ∷ 3 ∷ 1 ∷ 2 ∷ 0 ∷ 0 ∷ 4 ∷ 4 ∷ []) (unread (because 12 8))
     ∷ reads (1 ∷ 2 ∷ 3 ∷ 1 ∷ 2 ∷ 0 ∷ 0 ∷ 5 ∷ []) (unread (because 12 7))
     ∷ reads (1 ∷ 2 ∷ 3 ∷ 1 ∷ 2 ∷ 0 ∷ 0 ∷ 2 ∷ 9 ∷ []) (unread (because 13 9))
@@ -145,11 +145,11 @@ worked =
     ∷ reads (1 ∷ 2 ∷ 3 ∷ 1 ∷ 2 ∷ 0 ∷ 0 ∷ 2 ∷ 1 ∷ 1 ∷ 4 ∷ []) (unread (because 14 7))
     ∷ reads (1 ∷ 2 ∷ 3 ∷ 1 ∷ 2 ∷ 0 ∷ 0 ∷ 2 ∷ 1 ∷ 0 ∷ 2 ∷ 0 ∷ 1 ∷ 4 ∷ []) (unread (because 15 10))
     ∷ reads (1 ∷ 2 ∷ 3 ∷ 1 ∷ 2 ∷ 0 ∷ 0 ∷ 2 ∷ 1 ∷ 0 ∷ []) (unread (because 13 10))
-    ∷ reads (1 ∷ 2 ∷ 3 ∷ 1 ∷ 2 ∷ 0 ∷ 0 ∷ 2 ∷ 1 ∷ 0 ∷ 4 ∷ []) (sheet 2 (draws 513 1) (edge 0 1 ∷ []))
+    ∷ reads (1 ∷ 2 ∷ 3 ∷ 1 ∷ 2 ∷ 0 ∷ 0 ∷ 2 ∷ 1 ∷ 0 ∷ 4 ∷ []) (sheet 2 (draws draw 513 1) (edge 0 1 ∷ []))
     ∷ reads (1 ∷ 2 ∷ 3 ∷ 1 ∷ 2 ∷ 0 ∷ 0 ∷ []) (unread (because 13 7))
     ∷ reads (1 ∷ 3 ∷ 3 ∷ 1 ∷ 2 ∷ 0 ∷ 0 ∷ 2 ∷ 0 ∷ 1 ∷ 2 ∷ 1 ∷ 2 ∷ 2 ∷ 1 ∷ 0 ∷ 4 ∷ []) (unread (because 15 13))
     ∷ reads (1 ∷ 3 ∷ 3 ∷ 1 ∷ 2 ∷ 0 ∷ 0 ∷ 2 ∷ 0 ∷ 1 ∷ 2 ∷ 1 ∷ 2 ∷ 7 ∷ []) (unread (because 12 13))
-    ∷ reads (1 ∷ 3 ∷ 3 ∷ 1 ∷ 2 ∷ 0 ∷ 0 ∷ 2 ∷ 0 ∷ 1 ∷ 2 ∷ 1 ∷ 2 ∷ 4 ∷ []) (sheet 3 (draws 513 3) (edge 1 2 ∷ edge 0 1 ∷ []))
+    ∷ reads (1 ∷ 3 ∷ 3 ∷ 1 ∷ 2 ∷ 0 ∷ 0 ∷ 2 ∷ 0 ∷ 1 ∷ 2 ∷ 1 ∷ 2 ∷ 4 ∷ []) (sheet 3 (draws draw 513 3) (edge 1 2 ∷ edge 0 1 ∷ []))
     ∷ filling (1 ∷ 3 ∷ 3 ∷ 1 ∷ 2 ∷ 0 ∷ 0 ∷ 2 ∷ 2 ∷ 1 ∷ 4 ∷ []) (9 ∷ 9 ∷ 9 ∷ 9 ∷ 9 ∷ 9 ∷ 9 ∷ 9 ∷ []) (9 ∷ 9 ∷ 9 ∷ []) (not-read (because 2 1)) (9 ∷ 9 ∷ 9 ∷ 9 ∷ 9 ∷ 9 ∷ 9 ∷ 9 ∷ []) (9 ∷ 9 ∷ 9 ∷ [])
     ∷ filling (1 ∷ 3 ∷ 3 ∷ 1 ∷ 2 ∷ 0 ∷ 0 ∷ 2 ∷ 2 ∷ 1 ∷ 4 ∷ []) (9 ∷ 9 ∷ 9 ∷ 9 ∷ 9 ∷ 9 ∷ 9 ∷ 9 ∷ 9 ∷ []) (9 ∷ 9 ∷ []) (not-read (because 2 2)) (9 ∷ 9 ∷ 9 ∷ 9 ∷ 9 ∷ 9 ∷ 9 ∷ 9 ∷ 9 ∷ []) (9 ∷ 9 ∷ [])
     ∷ filling (1 ∷ 2 ∷ 3 ∷ 1 ∷ 2 ∷ 0 ∷ 0 ∷ 2 ∷ 1 ∷ 0 ∷ 4 ∷ []) (9 ∷ 9 ∷ 9 ∷ 9 ∷ 9 ∷ []) (9 ∷ 9 ∷ []) (graph-read 2 1) (0 ∷ 1 ∷ 1 ∷ 0 ∷ 9 ∷ []) (draw (next 513) ∷ 9 ∷ [])
@@ -169,9 +169,13 @@ worked =
     ∷ host-answer (denied (because 10 0)) (record { size = 4; made = 1 }) 10
     ∷ host-row accepted (record { size = 4; made = 1 }) 4294968320
     ∷ host-row (refused (because 8 0)) (record { size = 4; made = 1 }) 8
-    ∷ host-words (1 ∷ 2 ∷ 3 ∷ []) (513 ∷ [])
-    ∷ host-words (255 ∷ 255 ∷ 0 ∷ 1 ∷ []) (65535 ∷ 256 ∷ [])
-    ∷ host-bytes (513 ∷ 65520 ∷ []) (9 ∷ 9 ∷ 9 ∷ 9 ∷ 9 ∷ []) (1 ∷ 2 ∷ 240 ∷ 255 ∷ 9 ∷ [])
+    ∷ host-words 2 (1 ∷ 2 ∷ 3 ∷ []) (513 ∷ [])
+    ∷ host-words 2 (255 ∷ 255 ∷ 0 ∷ 1 ∷ []) (65535 ∷ 256 ∷ [])
+    ∷ host-bytes 2 (513 ∷ 65520 ∷ []) (9 ∷ 9 ∷ 9 ∷ 9 ∷ 9 ∷ []) (1 ∷ 2 ∷ 240 ∷ 255 ∷ 9 ∷ [])
+    -- words of three and four bytes, with bytes behind the last
+    ∷ host-words 3 (1 ∷ 2 ∷ 3 ∷ 4 ∷ 5 ∷ 6 ∷ 7 ∷ []) (197121 ∷ 394500 ∷ [])
+    ∷ host-words 4 (252 ∷ 255 ∷ 255 ∷ 0 ∷ 1 ∷ 0 ∷ 0 ∷ 1 ∷ 7 ∷ 7 ∷ 7 ∷ []) (16777212 ∷ 16777217 ∷ [])
+    ∷ host-bytes 4 (16777212 ∷ []) (9 ∷ 9 ∷ 9 ∷ 9 ∷ 9 ∷ []) (252 ∷ 255 ∷ 255 ∷ 0 ∷ 9 ∷ [])
     -- a pick through the host, with an odd byte
     ∷ host-handled (on (over 2 in-order (2 ∷ 0 ∷ [])) 0 (0 ∷ 0 ∷ 248 ∷ 127 ∷ 249 ∷ 127 ∷ 0 ∷ 0 ∷ 9 ∷ []) (255 ∷ 255 ∷ [])) (pick 1 0) (edge 0 1)
     (on (over 2 in-order (2 ∷ [])) 1 (0 ∷ 0 ∷ 0 ∷ 0 ∷ []) (0 ∷ 1 ∷ []))
@@ -187,7 +191,7 @@ worked =
 
 pub worked-hold : All Holds worked
 unfolding worked Shown ShownFilling words bytes-of draws ShownSingular ShownHandled ShownReturned ShownRun ShownListed ShownWitness modulus-prime answered pairs-after step nonsingular? inverse-table? witness? first-dependent? first? every? tutte opening-ruling session-ruling row-ruling open-row display cells unmatched pairs-on decLt read digits pair-lines witness-lines graph sequence
-worked-hold = all worked (refl, (refl, (refl, (refl, (refl, (refl, (refl, (refl, (refl, (refl, (refl, (refl, (refl, (refl, (refl, (refl, (refl, (refl, (refl, (refl, (refl, (refl, (refl, (refl, (refl, (refl, (refl, (refl, (refl, ((refl, refl), ((refl, refl), ((refl, refl), ((refl, refl), ((tt, refl), (refl, ((tt, refl), ((refl, refl, refl, tt, refl), ((refl, refl, refl, tt, refl), ((refl, refl, refl, tt, refl), (((refl, refl, refl), ((refl, refl, refl, tt, refl), ((refl, refl, refl), ((refl, refl, refl, tt, refl), ((refl, refl, refl), ((refl, refl, refl, tt, refl), ((refl, refl, refl, tt, refl), tt))))))), (((refl, refl, refl, tt, refl), ((refl, refl, refl, tt, refl), ((refl, refl, refl), tt))), ((refl, refl), ((refl, refl), (refl, (refl, (refl, (refl, (refl, (refl, (refl, (refl, (refl, (refl, (refl, (refl, (refl, (refl, (refl, (refl, (refl, (refl, (refl, (refl, (refl, (refl, (refl, (refl, (refl, (refl, (refl, (refl, ((refl, refl, refl), ((refl, refl, refl), ((refl, refl, refl, refl), ((tt, picked refl (picked refl (stopped refl)), refl), ((refl, (tt, tt, tt), refl), ((refl, (tt, tt, tt), refl), ((refl, refl), (refl, (refl, (refl, (refl, (refl, (refl, (refl, (refl, (refl, (refl, (((refl, refl, refl, tt, refl), refl, refl), (((refl, refl, refl, refl), refl, refl), (((refl, refl, refl), refl, refl), ((refl, refl), ((refl, refl), ((refl, refl), tt))))))))))))))))))))))))))))))))))))))))))))))))))))))))))))))))))))))))))))))))))))))))))))))
+worked-hold = all worked (refl, (refl, (refl, (refl, (refl, (refl, (refl, (refl, (refl, (refl, (refl, (refl, (refl, (refl, (refl, (refl, (refl, (refl, (refl, (refl, (refl, (refl, (refl, (refl, (refl, (refl, (refl, (refl, (refl, ((refl, refl), ((refl, refl), ((refl, refl), ((refl, refl), ((tt, refl), (refl, ((tt, refl), ((refl, refl, refl, tt, refl), ((refl, refl, refl, tt, refl), ((refl, refl, refl, tt, refl), (((refl, refl, refl), ((refl, refl, refl, tt, refl), ((refl, refl, refl), ((refl, refl, refl, tt, refl), ((refl, refl, refl), ((refl, refl, refl, tt, refl), ((refl, refl, refl, tt, refl), tt))))))), (((refl, refl, refl, tt, refl), ((refl, refl, refl, tt, refl), ((refl, refl, refl), tt))), ((refl, refl), ((refl, refl), (refl, (refl, (refl, (refl, (refl, (refl, (refl, (refl, (refl, (refl, (refl, (refl, (refl, (refl, (refl, (refl, (refl, (refl, (refl, (refl, (refl, (refl, (refl, (refl, (refl, (refl, (refl, (refl, ((refl, refl, refl), ((refl, refl, refl), ((refl, refl, refl, refl), ((tt, picked refl (picked refl (stopped refl)), refl), ((refl, (tt, tt, tt), refl), ((refl, (tt, tt, tt), refl), ((refl, refl), (refl, (refl, (refl, (refl, (refl, (refl, (refl, (refl, (refl, (refl, (refl, (refl, (refl, (((refl, refl, refl, tt, refl), refl, refl), (((refl, refl, refl, refl), refl, refl), (((refl, refl, refl), refl, refl), ((refl, refl), ((refl, refl), ((refl, refl), tt)))))))))))))))))))))))))))))))))))))))))))))))))))))))))))))))))))))))))))))))))))))))))))))))))
 
 -- replays
 pub worked-replays : List Claim

@@ -56,7 +56,7 @@ same-length : tie.Need-same-length Inv-loop μ-loop
 same-length c = c .before .loop .inv .written .size
 
 returns : tie.Need-returns Inv-loop μ-loop
-returns c = written-all (c .before .loop .inv .written) (omega arith) ∙ sym (draws-values _ _)
+returns c = written-all (c .before .loop .inv .written) (omega arith) ∙ sym (draws-values draw _ _)
 
 pub fill-spec : {M : Type 1} → statement M
 fill-spec =

@@ -1,0 +1,29 @@
+-- An edition of the rules: its prime, the draw of a state of the draw roll, and how many bytes of the host's hold a word. A definition that
+-- goes by one of them takes an edition; document 01 is the first. Assumes nothing.
+use Prim.Native.Nat.{ℕ, _^_, _≤_, _<_}
+use native.Mathlib.Omega.{arith}
+use Rattle.modular.specs.Prime.{OddPrime}
+use Rattle.residue.specs.Modulus.{modulus, modulus-prime}
+use Rattle.draws.specs.Draws.{draw}
+use Rattle.draws.specs.Laws.{draw-range}
+
+pub record Edition : Type 0 where
+  pub modulus : ℕ
+  pub prime : OddPrime modulus
+  -- the draw of a state: a residue, and not 0
+  pub draw : ℕ → ℕ
+  pub in-range : (s : ℕ) → (0 < draw s) × (draw s < modulus)
+  -- the bytes of a word, which hold any residue
+  pub width : ℕ
+  pub fits : modulus ≤ 256 ^ width
+
+-- the edition of document 01
+abbrev pub first-edition : Edition
+first-edition = record {
+  modulus = modulus;
+  prime = modulus-prime;
+  draw = draw;
+  in-range = draw-range;
+  width = 2;
+  fits = omega arith;
+}
