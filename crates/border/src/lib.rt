@@ -28,7 +28,9 @@ pub fn dot(u: &[u16], v: &[u16]) -> u16
 // x is T v, reduced.
 fn image(t: &[u16], n: usize, v: &[u16], x: &mut [u16])
     requires { ⌜ Square n (now t) × (length (now v) ≡ n) × (length (now x) ≡ n) ⌝ }
-    ensures { λ _. ⌜ now (x .exit) ≡ list-of (length (now (x .entry))) (λ k. apply n (table n (now (t .entry))) (vector (now (v .entry))) k % modulus) ⌝ }
+    ensures { λ _.
+        ⌜ now (x .exit) ≡ list-of (length (now (x .entry)))
+        (λ k. apply n (table n (now (t .entry))) (vector (now (v .entry))) k % modulus) ⌝ }
 {
     let mut i = 0;
     while i < x.len() {
@@ -42,7 +44,7 @@ fn image(t: &[u16], n: usize, v: &[u16], x: &mut [u16])
 // x is T v, reduced, but -1 at a: with the column of a as v, what borders the inverse T when a is added to its set. For proved callers.
 pub fn border(t: &[u16], n: usize, v: &[u16], a: usize, x: &mut [u16])
     requires { ⌜ Square n (now t) × (length (now v) ≡ n) × (a < n) × (length (now x) ≡ n) ⌝ }
-    ensures { λ _. ⌜ Bordered n (now (t .entry)) (now (v .entry)) a (now (x .exit)) ⌝ }
+    ensures { λ _. ⌜ Bordered modulus n (now (t .entry)) (now (v .entry)) a (now (x .exit)) ⌝ }
 {
     image(t, n, v, x);
     x[a] = Residue::MINUS_ONE.value;

@@ -8,8 +8,8 @@ ghost use Prim.Native.Nat.{_*_, _≤_};
 ghost use lib.ListN.{length};
 ghost use Rattle.matching.specs.Decision.{judge};
 ghost use Rattle.matching.specs.Replay.{call-of, place-of, list-causes};
-ghost use Rattle.refusals.specs.Answers.{ruling-of, Finds};
-ghost use Rattle.calls.specs.Answers.{call-is};
+ghost use Rattle.refusals.specs.Meaning.{ruling-of, Finds};
+ghost use Rattle.calls.specs.Meaning.{call-is};
 ghost use Rattle.call_list.specs.List.{Unknown};
 
 // The index of the first call that is of no kind.

@@ -16,23 +16,23 @@ use Rattle.matching.specs.Session.{State, in-play, with-pairs, InverseTable, st
 use Rattle.matching.specs.Causes.{Lent, session-ruling}
 use Rattle.matching.specs.Model.{Call, pick, automatic, done, denied, skew, pick-ruling, Allowed, OpenPartner, step, picks, pick-refused, picks-lowest, none-left}
 use Rattle.matching.specs.Calls.{Handles, unsound, refuses, carries}
-use Rattle.laws.specs.Facts.{allowed-of-accepted, unmatched-without, open-partner}
+use Rattle.laws.specs.ModelLaws.{allowed-of-accepted, unmatched-without, open-partner}
 use Rattle.laws.specs.Rules.{rule-step}
-use Rattle.laws.specs.History.{Valid, cons, fits}
+use Rattle.laws.specs.History.{Valid, cons, allowed-appendable}
 use Rattle.laws.specs.Sound.{SessionFits, Sound, session-accepted}
 use Rattle.laws.specs.Sequence.{length-pairs-on, length-sequence, sequence-on, pairs-on-sequence, well-formed-sequence, valid-on}
-use Rattle.laws.specs.Determined.{table-over}
+use Rattle.laws.specs.OpeningOutcome.{table-over}
 use Rattle.laws.specs.Demand.{handles-sound}
 use Rattle.refusals.specs.declared.Ruling.{Ruling}
 use Rattle.refusals.specs.declared.Ruling.the-variants.{Accepted, Refused}
-use Rattle.refusals.specs.Answers.{ruling-of}
+use Rattle.refusals.specs.Meaning.{ruling-of}
 use Rattle.sequence.specs.Formed.{Left, unmarked}
 use Rattle.soundness.specs.Sound.{Confirmed}
-use Rattle.soundness.specs.Lent.{ConfirmedLent}
+use Rattle.soundness.specs.Besides.{ConfirmedLent}
 use Rattle.tutte.specs.Table.{Complete}
 use Rattle.partners.specs.Standing.{Tables, Standing, Marked}
-use Rattle.pairing.specs.Appended.{pair-below, shrunk-inverse, Room, Appended}
-use Rattle.calls.specs.Answers.{answer-of}
+use Rattle.pairing.specs.Appended.{pair-below, shrunk-inverse, AppendRoom, Appended}
+use Rattle.calls.specs.Meaning.{answer-of}
 use Rattle.calls.specs.Bytes.{bytes-appended}
 use Rattle.calls.specs.declared.Reply.{Reply}
 
@@ -126,7 +126,7 @@ module _ {n made : ℕ} {adjacency weights inverse sequence marks : List ℕ} (K
     e = pair-of a b
 
     with-pair : Valid modulus-prime g (in-play s) (e ∷ pairs)
-    with-pair = cons (fits modulus-prime g (in-play s) pairs a b A) valid
+    with-pair = cons (allowed-appendable modulus-prime g (in-play s) pairs a b A) valid
 
     counted : length (e ∷ pairs) ≡ made + 1
     counted = omega (arith, length-pairs-on sequence made)
@@ -134,7 +134,7 @@ module _ {n made : ℕ} {adjacency weights inverse sequence marks : List ℕ} (K
     two-left : suc (length pairs) + suc (length pairs) ≤ n
     two-left = well-formed-sequence modulus-prime g (in-play s) (e ∷ pairs) [] with-pair .few
 
-    pub append-room : Room n made inverse sequence marks a b
+    pub append-room : AppendRoom n made inverse sequence marks a b
     append-room = record {
       size = tables .size;
       entries = tables .entries;
@@ -149,7 +149,7 @@ module _ {n made : ℕ} {adjacency weights inverse sequence marks : List ℕ} (K
     removed = unmatched-without modulus-prime g (in-play s) pairs a b (A .named .2) (A .a-left) (A .b-left)
 
     -- appended
-    module _ {x : Pair} {inverse′ sequence′ marks′ : List ℕ} (W : Appended n made a b inverse sequence marks x inverse′ sequence′ marks′) where
+    module _ {x : Pair} {inverse′ sequence′ marks′ : List ℕ} (W : Appended modulus n made a b inverse sequence marks x inverse′ sequence′ marks′) where
       spelled′ : sequence′ ≡ spelling.sequence n (e ∷ pairs) ++ drop n sequence
       spelled′ =
           W .sequence-is
@@ -160,7 +160,7 @@ module _ {n made : ℕ} {adjacency weights inverse sequence marks : List ℕ} (K
 
       held′ : InverseTable modulus g (unmatched (in-play s) (e ∷ pairs)) (W .words)
       held′ =
-          shrunk-inverse g removed (A .named .0) (A .named .1) words
+          shrunk-inverse modulus-prime g removed (A .named .0) (A .named .1) words
           (invertible-without modulus-prime n (tutte g modulus) (skew modulus-prime g) removed (A .named .0) (A .named .1) (words .is-inverse) .0 (A .nonsingular))
           (W .shrinks)
 

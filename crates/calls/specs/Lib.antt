@@ -1,5 +1,5 @@
 -- What the contracts cite, with its laws.
-pub mod Answers
+pub mod Meaning
 pub mod Bytes
 pub mod Known
 pub mod Undone

@@ -8,7 +8,7 @@ use native.Mathlib.Omega.{arith}
 use lib.ListN.{length, getD, take, drop, set, length-set}
 use lib.Seq.{length-take-le}
 use Rattle.lists.specs.Onto.{onto, onto-front-same}
-use Rattle.residue.specs.Modulus.{modulus-prime}
+use Rattle.residue.specs.Modulus.{modulus, modulus-prime}
 use Rattle.skew.specs.Subset.{Subset, Without}
 use Rattle.matching.specs.Decision.{because}
 use Rattle.matching.specs.Graph.{Graph, over}
@@ -18,10 +18,10 @@ use Rattle.matching.specs.Session.{State, in-play, with-pairs, state}
 use Rattle.matching.specs.Model.{undo, done, denied, no-pair, undo-refused, undoes}
 use Rattle.matching.specs.Calls.{Handles, carries}
 use Rattle.laws.specs.Rules.{rule-step}
-use Rattle.laws.specs.History.{Fits, Valid, cons}
-use Rattle.laws.specs.Sequence.{length-pairs-on, length-sequence, pairs-on-sequence, fits-without, well-formed-sequence}
+use Rattle.laws.specs.History.{Appendable, Valid, cons}
+use Rattle.laws.specs.Sequence.{length-pairs-on, length-sequence, pairs-on-sequence, appendable-without, well-formed-sequence}
 use Rattle.sequence.specs.Formed.{Left, remarked}
-use Rattle.pairing.specs.Appended.{Room}
+use Rattle.pairing.specs.Appended.{AppendRoom}
 use Rattle.pairing.specs.Removed.{GrownTo, Removed}
 use Rattle.calls.specs.Bytes.{bytes-removed}
 use Rattle.calls.specs.Known.{Known, few, tables, sequence-fits, denies, words, valid, spelled, same-state}
@@ -33,8 +33,8 @@ unfolding pairs-on
 undo-none {n} {made} {adjacency} {weights} {sequence = sequence} K e =
     denies K undo (rule-step modulus-prime (over n adjacency weights) _ (no-pair (ap (pairs-on sequence) e)))
 
-newest-fits : {g : Graph} {S : Subset} {e : Pair} {earlier : Pairs} → Valid modulus-prime g S (e ∷ earlier) → Fits modulus-prime g S e earlier
-newest-fits (cons f _) = f
+newest-appendable : {g : Graph} {S : Subset} {e : Pair} {earlier : Pairs} → Valid modulus-prime g S (e ∷ earlier) → Appendable modulus-prime g S e earlier
+newest-appendable (cons f _) = f
 
 earlier-valid : {g : Graph} {S : Subset} {e : Pair} {earlier : Pairs} → Valid modulus-prime g S (e ∷ earlier) → Valid modulus-prime g S earlier
 earlier-valid (cons _ v) = v
@@ -59,8 +59,8 @@ module _ {n k : ℕ} {adjacency weights inverse sequence marks : List ℕ} (K : 
   valid-pair : Valid modulus-prime g (in-play s) (e ∷ earlier)
   valid-pair = rw split at (valid K)
 
-  fitting : Fits modulus-prime g (in-play s) e earlier
-  fitting = newest-fits valid-pair
+  fitting : Appendable modulus-prime g (in-play s) e earlier
+  fitting = newest-appendable valid-pair
 
   before : Valid modulus-prime g (in-play s) earlier
   before = earlier-valid valid-pair
@@ -68,7 +68,7 @@ module _ {n k : ℕ} {adjacency weights inverse sequence marks : List ℕ} (K : 
   counted : length earlier ≡ k
   counted = length-pairs-on sequence k
 
-  pub remove-room : Room n k inverse sequence marks (e .smaller) (e .larger)
+  pub remove-room : AppendRoom n k inverse sequence marks (e .smaller) (e .larger)
   remove-room = record {
     size = tables K .size;
     entries = tables K .entries;
@@ -80,10 +80,10 @@ module _ {n k : ℕ} {adjacency weights inverse sequence marks : List ℕ} (K : 
   }
 
   removed : Without (unmatched (in-play s) earlier) (e .smaller) (e .larger) (unmatched (in-play s) (e ∷ earlier))
-  removed = fits-without modulus-prime g (in-play s) e earlier fitting
+  removed = appendable-without modulus-prime g (in-play s) e earlier fitting
 
-  module _ {r : Bool} {inverse′ sequence′ marks′ : List ℕ} (R : Removed g k (e .smaller) (e .larger) inverse sequence marks r inverse′ sequence′ marks′) where
-    grown : GrownTo g (unmatched (in-play s) earlier) (take (n * n) inverse) r (R .words)
+  module _ {r : Bool} {inverse′ sequence′ marks′ : List ℕ} (R : Removed modulus g k (e .smaller) (e .larger) inverse sequence marks r inverse′ sequence′ marks′) where
+    grown : GrownTo modulus g (unmatched (in-play s) earlier) (take (n * n) inverse) r (R .words)
     grown = R .grows .grown (unmatched (in-play s) earlier) (unmatched (in-play s) (e ∷ earlier)) removed (rw split at (words K))
 
     -- no inverse for the vertices then left
@@ -149,10 +149,10 @@ module _ {n made : ℕ} {adjacency weights inverse sequence marks : List ℕ} (K
   abbrev newest : Pair
   newest = record { smaller = getD sequence (less + less) 0; larger = getD sequence (less + less + 1) 0 }
 
-  pub undo-room : Room n less inverse sequence marks (newest .smaller) (newest .larger)
+  pub undo-room : AppendRoom n less inverse sequence marks (newest .smaller) (newest .larger)
   undo-room = remove-room known-pair
 
-  module _ {r : Bool} {inverse′ sequence′ marks′ : List ℕ} (R : Removed (over n adjacency weights) less (newest .smaller) (newest .larger) inverse sequence marks r inverse′ sequence′ marks′) where
+  module _ {r : Bool} {inverse′ sequence′ marks′ : List ℕ} (R : Removed modulus (over n adjacency weights) less (newest .smaller) (newest .larger) inverse sequence marks r inverse′ sequence′ marks′) where
     pub denies-undo : r ≡ false
         → Handles modulus-prime (state n made adjacency weights inverse sequence) undo (denied (because 10 0)) (state n made adjacency weights inverse′ sequence′)
         × Left n sequence′ made marks′

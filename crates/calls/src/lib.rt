@@ -7,7 +7,7 @@ ghost use mathlib.Core.Path.{_≡_};
 ghost use Prim.Native.Nat.{ℕ};
 ghost use Rattle.matching.specs.Model.{pick, automatic, undo};
 ghost use Rattle.matching.specs.Host.{answer-number};
-ghost use Rattle.calls.specs.Answers.{call-is, answer-of, Fits};
+ghost use Rattle.calls.specs.Meaning.{call-is, answer-of, AnswerFits};
 ghost use Rattle.calls.specs.Known.{Known, Called, KnownFor, CalledFor};
 
 // A session call that changes the pairs: hand pick of two vertices, automatic pick, take-back.
@@ -31,7 +31,7 @@ pub struct Reply {
 
 // The number that the host is answered, with the pairs made after the call. For proved callers.
 pub fn number(answer: Answer, made: usize) -> u64
-    requires { ⌜ Fits answer made ⌝ }
+    requires { ⌜ AnswerFits answer made ⌝ }
     ensures { λ r. ⌜ ((n : ℕ) → r ≡ answer-number (answer-of answer) (record { size = n; made = made })) ⌝ }
 {
     match answer {
@@ -55,7 +55,9 @@ pub fn pick(
     b: usize,
 ) -> Reply
     requires { ⌜ KnownFor n made (now adjacency) (now inverse) (now sequence) (now marks) ⌝ }
-    ensures { λ r. ⌜ CalledFor (pick a b) n made (now (adjacency .entry)) (now (inverse .entry)) (now (sequence .entry)) (now (marks .entry)) r (now (inverse .exit)) (now (sequence .exit)) (now (marks .exit)) ⌝ }
+    ensures { λ r.
+        ⌜ CalledFor (pick a b) n made (now (adjacency .entry)) (now (inverse .entry)) (now (sequence .entry)) (now (marks .entry)) r
+        (now (inverse .exit)) (now (sequence .exit)) (now (marks .exit)) ⌝ }
 {
     let ruling = partners::judge(n, adjacency, inverse, marks, a, b);
     if let Ruling::Refused(refusal) = ruling {
@@ -82,7 +84,9 @@ pub fn automatic(
     marks: &mut [u8],
 ) -> Reply
     requires { ⌜ KnownFor n made (now adjacency) (now inverse) (now sequence) (now marks) ⌝ }
-    ensures { λ r. ⌜ CalledFor automatic n made (now (adjacency .entry)) (now (inverse .entry)) (now (sequence .entry)) (now (marks .entry)) r (now (inverse .exit)) (now (sequence .exit)) (now (marks .exit)) ⌝ }
+    ensures { λ r.
+        ⌜ CalledFor automatic n made (now (adjacency .entry)) (now (inverse .entry)) (now (sequence .entry)) (now (marks .entry)) r
+        (now (inverse .exit)) (now (sequence .exit)) (now (marks .exit)) ⌝ }
 {
     let lowest = partners::lowest(marks);
     if let Finding::At(c) = lowest {
@@ -117,7 +121,9 @@ pub fn undo(
     marks: &mut [u8],
 ) -> Reply
     requires { ⌜ Known n made (now adjacency) (now weights) (now inverse) (now sequence) (now marks) ⌝ }
-    ensures { λ r. ⌜ Called undo n made (now (adjacency .entry)) (now (weights .entry)) (now (inverse .entry)) (now (sequence .entry)) r (now (inverse .exit)) (now (sequence .exit)) (now (marks .exit)) ⌝ }
+    ensures { λ r.
+        ⌜ Called undo n made (now (adjacency .entry)) (now (weights .entry)) (now (inverse .entry)) (now (sequence .entry)) r
+        (now (inverse .exit)) (now (sequence .exit)) (now (marks .exit)) ⌝ }
 {
     if made == 0 {
         let refusal = Refusal {
@@ -166,7 +172,9 @@ pub fn make(
     marks: &mut [u8],
 ) -> Reply
     requires { ⌜ Known n made (now adjacency) (now weights) (now inverse) (now sequence) (now marks) ⌝ }
-    ensures { λ r. ⌜ Called (call-is call) n made (now (adjacency .entry)) (now (weights .entry)) (now (inverse .entry)) (now (sequence .entry)) r (now (inverse .exit)) (now (sequence .exit)) (now (marks .exit)) ⌝ }
+    ensures { λ r.
+        ⌜ Called (call-is call) n made (now (adjacency .entry)) (now (weights .entry)) (now (inverse .entry)) (now (sequence .entry))
+        r (now (inverse .exit)) (now (sequence .exit)) (now (marks .exit)) ⌝ }
 {
     match call {
         Call::Pick(a, b) => pick(n, made, adjacency, inverse, sequence, marks, a, b),

@@ -9,22 +9,22 @@ use native.Mathlib.Decide.{ℕ-discrete, decLt}
 use lib.ListN.{getD}
 use Rattle.lists.specs.Table.{index-positive, row-below, column-below, index-of, index-row, index-column, index-below}
 use Rattle.matching.specs.Decision.{Every, absent, at}
-use Rattle.matching.specs.Graph.{Graph, over, cell, kind-of, fault, Faulty}
+use Rattle.matching.specs.Graph.{Graph, over, cell, cell-fault, fault, Faulty}
 use Rattle.matching.specs.Causes.{first-faulty, bad-cell}
-use Rattle.laws.specs.Faults.{fault-kind, kind-mirror}
+use Rattle.laws.specs.Faults.{fault-of-cell, cell-fault-mirror}
 use Rattle.laws.specs.Judge.{found-at, found-absent}
-use Rattle.checks.specs.Answers.{FaultInRow, FirstFault, Located}
+use Rattle.checks.specs.Meaning.{FaultInRow, FirstFault, Located}
 use Rattle.checks.specs.declared.Fault.{Fault}
 use Rattle.checks.specs.declared.Cells.{Cells}
 use Rattle.checks.specs.declared.Cells.the-variants as variants
 
 -- by the indices of the cell and of its mirror
-pub kind-at : (g : Graph) (i j x y : ℕ) → x ≡ i * g .n + j → y ≡ j * g .n + i → kind-of (getD (g .adjacency) x 0) (getD (g .adjacency) y 0) i j ≡ fault g i j
-kind-at g i j x y ex ey = rw (ex, ey) (sym (fault-kind g i j))
+pub fault-at : (g : Graph) (i j x y : ℕ) → x ≡ i * g .n + j → y ≡ j * g .n + i → cell-fault (getD (g .adjacency) x 0) (getD (g .adjacency) y 0) i j ≡ fault g i j
+fault-at g i j x y ex ey = rw (ex, ey) (sym (fault-of-cell g i j))
 
 module _ (g : Graph) where
   fault-mirror : (i j : ℕ) → i ≢ j → fault g i j ≡ 0 → fault g j i ≡ 0
-  fault-mirror i j d e = fault-kind g j i ∙ kind-mirror (cell g i j) (cell g j i) i j d (sym (fault-kind g i j) ∙ e)
+  fault-mirror i j d e = fault-of-cell g j i ∙ cell-fault-mirror (cell g i j) (cell g j i) i j d (sym (fault-of-cell g i j) ∙ e)
 
   -- the rows before i have no fault from the diagonal on
   abbrev pub RowsPassed : ℕ → Type 0

@@ -10,7 +10,7 @@ use Rattle.matching.specs.Graph.{largest, pair-count}
 use Rattle.matching.specs.Causes.{Lent, lent-always, lent-besides, first-short, too-large, too-short, LongEnough}
 use Rattle.laws.specs.Sound.{short-absent}
 use Rattle.laws.specs.Judge.{when-at, when-absent, judge-accepted}
-use Rattle.checks.specs.Answers.{then}
+use Rattle.checks.specs.Meaning.{then}
 
 -- the first of two findings
 abbrev or : Finding → Finding → Finding

@@ -6,11 +6,11 @@ ghost use Prim.Native.Nat.{ℕ, _+_, _*_, _≤_, _<_};
 ghost use lib.ListN.{length, getD};
 ghost use Rattle.residue.specs.Modulus.{modulus};
 ghost use Rattle.matching.specs.Decision.{judge, Every};
-ghost use Rattle.matching.specs.Graph.{largest, pair-count, over, kind-of};
+ghost use Rattle.matching.specs.Graph.{largest, pair-count, over, cell-fault};
 ghost use Rattle.matching.specs.Causes.{lent-always, lent-besides, first-short, too-large, too-short, bad-cell, bad-weight, opening-causes, opening-ruling};
 ghost use Rattle.checks.specs.Weights.{needed};
-ghost use Rattle.refusals.specs.Answers.{finding-of, ruling-of};
-ghost use Rattle.checks.specs.Answers.{then, InRow, Located};
+ghost use Rattle.refusals.specs.Meaning.{finding-of, ruling-of};
+ghost use Rattle.checks.specs.Meaning.{then, InRow, Located};
 use refusals::Finding;
 use refusals::Refusal;
 use refusals::Ruling;
@@ -101,8 +101,8 @@ pub fn judge_lengths(
 }
 
 // The fault of a cell, by its number; 0 for none.
-fn kind_of(cell: u8, mirror: u8, row: usize, column: usize) -> u8
-    ensures { λ r. ⌜ r ≡ kind-of cell mirror row column ⌝ }
+fn cell_fault(cell: u8, mirror: u8, row: usize, column: usize) -> u8
+    ensures { λ r. ⌜ r ≡ cell-fault cell mirror row column ⌝ }
 {
     if 1 < cell {
         return 1;
@@ -128,7 +128,7 @@ fn row_fault(n: usize, adjacency: &[u8], row: usize, start: usize) -> Cells
     let mut index = start;
     let mut mirror = start;
     while column < n {
-        let kind = kind_of(adjacency[index], adjacency[mirror], row, column);
+        let kind = cell_fault(adjacency[index], adjacency[mirror], row, column);
         if kind != 0 {
             return Cells::Faulty(Fault { row, column, kind });
         }
@@ -173,7 +173,10 @@ fn outside(weight: u16) -> u16
 // Whether no weight is such a one. They are counted, so that the compiler takes several weights at once.
 fn none_outside(weights: &[u16]) -> bool
     requires { ⌜ length (now weights) ≤ 4560 ⌝ }
-    ensures { λ r. ⌜ (r ≡ true → Every (length (now (weights .entry))) (λ x. (0 < getD (now (weights .entry)) x 0) × (getD (now (weights .entry)) x 0 < modulus))) ⌝ }
+    ensures { λ r.
+        ⌜ (r ≡ true
+        → Every (length (now (weights .entry)))
+        (λ x. (0 < getD (now (weights .entry)) x 0) × (getD (now (weights .entry)) x 0 < modulus))) ⌝ }
 {
     let mut found: u16 = 0;
     let mut i = 0;
@@ -223,7 +226,9 @@ fn first_outside(n: usize, weights: &[u16]) -> Finding
 // Causes 3 and 4, for tables that are long enough.
 fn judge_graph(n: usize, adjacency: &[u8], weights: &[u16]) -> Ruling
     requires { ⌜ (n ≤ largest) × (n * n ≤ length (now adjacency)) × (pair-count n ≤ length (now weights)) ⌝ }
-    ensures { λ r. ⌜ ruling-of r ≡ judge (bad-cell (over n (now (adjacency .entry)) (now (weights .entry))) ∷ bad-weight modulus (over n (now (adjacency .entry)) (now (weights .entry))) ∷ []) ⌝ }
+    ensures { λ r.
+        let g = over n (now (adjacency .entry)) (now (weights .entry)) in
+        ⌜ ruling-of r ≡ judge (bad-cell g ∷ bad-weight modulus g ∷ []) ⌝ }
 {
     if let Cells::Faulty(fault) = first_fault(n, adjacency) {
         let place = fault.row * n + fault.column;
@@ -259,7 +264,9 @@ pub fn judge_room(
     witness: usize,
     work: usize,
 ) -> Ruling
-    ensures { λ r. ⌜ ruling-of r ≡ judge (too-large n ∷ too-short (lent-always n adjacency weights inverse sequence ++ lent-besides n witness work) ∷ []) ⌝ }
+    ensures { λ r.
+        ⌜ ruling-of r ≡ judge
+        (too-large n ∷ too-short (lent-always n adjacency weights inverse sequence ++ lent-besides n witness work) ∷ []) ⌝ }
 {
     if let Ruling::Refused(refusal) = judge_lengths(n, adjacency, weights, inverse, sequence) {
         return Ruling::Refused(refusal);
@@ -285,7 +292,11 @@ pub fn judge_session(
     inverse: usize,
     sequence: usize,
 ) -> Ruling
-    ensures { λ r. ⌜ ruling-of r ≡ judge (opening-causes modulus (over n (now (adjacency .entry)) (now (weights .entry))) (lent-always n (length (now (adjacency .entry))) (length (now (weights .entry))) inverse sequence)) ⌝ }
+    ensures { λ r.
+        let g = over n (now (adjacency .entry)) (now (weights .entry)) in
+        ⌜ ruling-of r ≡ judge
+        (opening-causes modulus g
+        (lent-always n (length (now (adjacency .entry))) (length (now (weights .entry))) inverse sequence)) ⌝ }
 {
     if let Ruling::Refused(refusal) = judge_lengths(
         n,
@@ -309,7 +320,9 @@ pub fn judge_opening(
     witness: usize,
     work: usize,
 ) -> Ruling
-    ensures { λ r. ⌜ ruling-of r ≡ opening-ruling modulus (over n (now (adjacency .entry)) (now (weights .entry))) inverse sequence witness work ⌝ }
+    ensures { λ r.
+        let g = over n (now (adjacency .entry)) (now (weights .entry)) in
+        ⌜ ruling-of r ≡ opening-ruling modulus g inverse sequence witness work ⌝ }
 {
     if let Ruling::Refused(refusal) = judge_lengths(
         n,

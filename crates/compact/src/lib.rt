@@ -34,7 +34,8 @@ fn list(marks: &[u8], vertices: &mut [u8]) -> usize
 // Whether the words in row a and column b, and in row b and column a, are a residue and its negative.
 fn pair_equal(inverse: &[u16], n: usize, a: usize, b: usize, right: u16) -> bool
     requires { ⌜ (n ≤ 96) × (n * n ≤ length (now inverse)) × (a < n) × (b < n) × (right < modulus) ⌝ }
-    ensures { λ r. ⌜ Tells ((table n (now (inverse .entry)) a b ≡ right) × (table n (now (inverse .entry)) b a ≡ (modulus - right) % modulus)) r ⌝ }
+    ensures { λ r.
+        ⌜ Tells ((table n (now (inverse .entry)) a b ≡ right) × (table n (now (inverse .entry)) b a ≡ (modulus - right) % modulus)) r ⌝ }
 {
     if inverse[a * n + b] != right {
         return false;
@@ -48,16 +49,17 @@ fn pair_equal(inverse: &[u16], n: usize, a: usize, b: usize, right: u16) -> bool
 // Whether row and column i of what a table holds, from the diagonal on, are those of the inverse at the vertices listed.
 fn cross_equal(inverse: &[u16], n: usize, vertices: &[u8], t: &[u64], i: usize) -> bool
     requires { ⌜ Comparing n (now inverse) (now vertices) (now t) × (i < length (now vertices)) ⌝ }
-    ensures { λ r. ⌜ Tells (CrossEqual n (now (inverse .entry)) (now (vertices .entry)) (now (t .entry)) i (length (now (vertices .entry)))) r ⌝ }
+    ensures { λ r.
+        ⌜ Tells (CrossEqual n (now (inverse .entry)) (now (vertices .entry)) (now (t .entry)) i (length (now (vertices .entry)))) r ⌝ }
 {
-    let size = vertices.len();
+    let count = vertices.len();
     let a = vertices[i] as usize;
     if inverse[a * n + a] != 0 {
         return false;
     }
     let mut j = i + 1;
-    while j < size {
-        let right = solve::above(t, size, i, j);
+    while j < count {
+        let right = solve::above(t, count, i, j);
         let equal = pair_equal(inverse, n, a, vertices[j] as usize, right);
         if !equal {
             return false;
@@ -70,7 +72,8 @@ fn cross_equal(inverse: &[u16], n: usize, vertices: &[u8], t: &[u64], i: usize) 
 // Whether all of it is that of the inverse.
 fn all_equal(inverse: &[u16], n: usize, vertices: &[u8], t: &[u64]) -> bool
     requires { ⌜ Comparing n (now inverse) (now vertices) (now t) ⌝ }
-    ensures { λ r. ⌜ Tells (AllEqual n (now (inverse .entry)) (now (vertices .entry)) (now (t .entry)) (length (now (vertices .entry)))) r ⌝ }
+    ensures { λ r.
+        ⌜ Tells (AllEqual n (now (inverse .entry)) (now (vertices .entry)) (now (t .entry)) (length (now (vertices .entry)))) r ⌝ }
 {
     let mut i = 0;
     while i < vertices.len() {
@@ -146,12 +149,14 @@ fn is_inverse_over(
 ) -> bool
     requires { ⌜ Complete n (now adjacency) (now weights) × (length (now marks) ≡ n) × (n * n ≤ length (now inverse)) ⌝ }
     requires { ⌜ Numbered n (now marks) (now vertices) × Blank (length (now vertices)) (now t) ⌝ }
-    ensures { λ r. ⌜ Tells (InverseTable modulus (over n (now (adjacency .entry)) (now (weights .entry))) (marked (now (marks .entry))) (now (inverse .entry))) r ⌝ }
+    ensures { λ r.
+        let g = over n (now (adjacency .entry)) (now (weights .entry)) in
+        ⌜ Tells (InverseTable modulus g (marked (now (marks .entry))) (now (inverse .entry))) r ⌝ }
 {
-    let size = vertices.len();
+    let count = vertices.len();
     let mut waiting = [1u8; 96];
     tutte::fill_listed(n, adjacency, weights, vertices, t);
-    let outcome = exchange::run(t, size, &mut waiting[..size]);
+    let outcome = exchange::run(t, count, &mut waiting[..count]);
     match outcome {
         Outcome::Inverse => {
             let clear = all_clear(inverse, n, marks);
@@ -175,10 +180,12 @@ fn is_inverse_of(
 ) -> bool
     requires { ⌜ Complete n (now adjacency) (now weights) × (length (now marks) ≡ n) × (n * n ≤ length (now inverse)) ⌝ }
     requires { ⌜ Numbered n (now marks) (now vertices) ⌝ }
-    ensures { λ r. ⌜ Tells (InverseTable modulus (over n (now (adjacency .entry)) (now (weights .entry))) (marked (now (marks .entry))) (now (inverse .entry))) r ⌝ }
+    ensures { λ r.
+        let g = over n (now (adjacency .entry)) (now (weights .entry)) in
+        ⌜ Tells (InverseTable modulus g (marked (now (marks .entry))) (now (inverse .entry))) r ⌝ }
 {
-    let size = vertices.len() * vertices.len();
-    if size <= 1024 {
+    let cells = vertices.len() * vertices.len();
+    if cells <= 1024 {
         let mut t = [0u64; 1024];
         return is_inverse_over(
             n,
@@ -187,10 +194,10 @@ fn is_inverse_of(
             marks,
             inverse,
             vertices,
-            &mut t[..size],
+            &mut t[..cells],
         );
     }
-    if size <= 4096 {
+    if cells <= 4096 {
         let mut t = [0u64; 4096];
         return is_inverse_over(
             n,
@@ -199,7 +206,7 @@ fn is_inverse_of(
             marks,
             inverse,
             vertices,
-            &mut t[..size],
+            &mut t[..cells],
         );
     }
     // 96 * 96 words.
@@ -211,7 +218,7 @@ fn is_inverse_of(
         marks,
         inverse,
         vertices,
-        &mut t[..size],
+        &mut t[..cells],
     )
 }
 
@@ -224,7 +231,10 @@ pub fn is_inverse(
     inverse: &[u16],
 ) -> bool
     requires { ⌜ Complete n (now adjacency) (now weights) × (length (now marks) ≡ n) × (n * n ≤ length (now inverse)) ⌝ }
-    ensures { λ r. ⌜ ((S : Subset) → ((i : ℕ) → i < n → S i ≡ marked (now (marks .entry)) i) → Tells (InverseTable modulus (over n (now (adjacency .entry)) (now (weights .entry))) S (now (inverse .entry))) r) ⌝ }
+    ensures { λ r.
+        let g = over n (now (adjacency .entry)) (now (weights .entry)) in
+        ⌜ ((S : Subset) → ((i : ℕ) → i < n → S i ≡ marked (now (marks .entry)) i)
+        → Tells (InverseTable modulus g S (now (inverse .entry))) r) ⌝ }
 {
     let mut vertices = [0u8; 96];
     let k = list(marks, &mut vertices[..n]);

@@ -10,12 +10,12 @@ use Rattle.matching.specs.Decision.{Refusal}
 use Rattle.matching.specs.Graph.{Graph, over}
 use Rattle.matching.specs.Pairs.{Pair, Pairs, everything, pairs-on}
 use Rattle.matching.specs.Model.{automatic, done, denied, step, pairs-after, PicksToCome, stopped, picked}
-use Rattle.laws.specs.Facts.{Automatic, nobody, lowest, automatic-cases, unlike}
+use Rattle.laws.specs.ModelLaws.{Automatic, nobody, lowest, automatic-cases, unlike}
 use Rattle.laws.specs.Sequence.{length-pairs-on}
-use Rattle.laws.specs.Carried.{refused-keeps}
+use Rattle.laws.specs.CallOutcome.{refused-keeps}
 use Rattle.laws.specs.Demand.{handles-model}
 use Rattle.matching.specs.Session.{state}
-use Rattle.calls.specs.Answers.{answer-of}
+use Rattle.calls.specs.Meaning.{answer-of}
 use Rattle.calls.specs.Known.{Known, Called, few, words}
 use Rattle.calls.specs.declared.Reply.{Reply}
 

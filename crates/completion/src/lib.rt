@@ -15,7 +15,10 @@ pub fn complete(
     marks: &mut [u8],
 ) -> usize
     requires { ⌜ KnownFor n 0 (now adjacency) (now inverse) (now sequence) (now marks) ⌝ }
-    ensures { λ made. ⌜ ((weights : List ℕ) → Known n 0 (now (adjacency .entry)) weights (now (inverse .entry)) (now (sequence .entry)) (now (marks .entry)) → Completed (over n (now (adjacency .entry)) weights) made (now (sequence .exit))) ⌝ }
+    ensures { λ made.
+        ⌜ ((weights : List ℕ)
+        → Known n 0 (now (adjacency .entry)) weights (now (inverse .entry)) (now (sequence .entry)) (now (marks .entry))
+        → Completed (over n (now (adjacency .entry)) weights) made (now (sequence .exit))) ⌝ }
 {
     let mut made = 0;
     loop {

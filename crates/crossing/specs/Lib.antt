@@ -2,5 +2,5 @@
 pub mod Same
 pub mod Steps
 pub mod Needed
-pub mod Fit
-pub mod Through
+pub mod HostFits
+pub mod HostCall

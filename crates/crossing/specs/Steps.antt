@@ -15,7 +15,7 @@ use Rattle.matching.specs.Decided.{well-formed?, inverse-table?}
 use Rattle.matching.specs.Causes.{lent-to-session, ill-formed, not-inverse, session-ruling}
 use Rattle.matching.specs.Model.{Call, Answer, named?, needs, adjacent?, Nonsingular, nonsingular?, pick-ruling, Rule, picks, pick-refused, picks-lowest, none-left, no-pair, undo-refused, undoes, step}
 use Rattle.laws.specs.Sound.{SessionFits, session-fits, short-absent}
-use Rattle.laws.specs.Determined.{table-over}
+use Rattle.laws.specs.OpeningOutcome.{table-over}
 use Rattle.laws.specs.Rules.{step-rule, rule-step}
 use Rattle.crossing.specs.Same.{cells-same, weights-same, tutte-same, table-same}
 

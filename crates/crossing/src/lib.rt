@@ -5,16 +5,14 @@ use refusals::Ruling;
 use session::Session;
 ghost use mathlib.Core.Path.{_≡_};
 ghost use Prim.Native.Nat.{_*_, _≤_};
-ghost use lib.ListN.{length, take};
+ghost use lib.ListN.{length};
 ghost use Rattle.residue.specs.Modulus.{modulus-prime};
 ghost use Rattle.matching.specs.Model as model;
 ghost use Rattle.matching.specs.Host.{unpacked-state, HostHandles, HostPickedExactly, handed-back};
 ghost use Rattle.matching.specs.Session.{state};
-ghost use Rattle.calls.specs.Answers.{call-is};
-ghost use Rattle.checks.specs.Weights.{needed};
-ghost use Rattle.crossing.specs.Needed.{needed-weights};
-ghost use Rattle.crossing.specs.Fit.{Needed, needed-inverse, HostFits};
-ghost use Rattle.crossing.specs.Through.{HandlesOver};
+ghost use Rattle.calls.specs.Meaning.{call-is};
+ghost use Rattle.crossing.specs.HostFits.{Needed, Unpacked, HostFits};
+ghost use Rattle.crossing.specs.HostCall.{HandlesOver};
 
 // Makes a call over lent words, with the session as numbers, and answers one. Where a pair is answered, the words of the table are stored as
 // the inverse's bytes.
@@ -33,7 +31,7 @@ fn call_over(
         let before = state n made (now (adjacency .entry)) (now (weights .entry)) (now (table .entry)) (now (sequence .entry)) in
         ⌜ HandlesOver before (call-is call) (now (inverse .entry)) r (now (inverse .exit)) (now (sequence .exit)) ⌝ }
 {
-    let size = table.len();
+    let cells = table.len();
     let session = Session { size: n, made };
     let returned = session.call(call, adjacency, weights, table, sequence);
     let after = returned.session;
@@ -41,7 +39,7 @@ fn call_over(
     let number = calls::number(answer, after.made);
     match answer {
         Answer::Done(_) => {
-            packing::store(table, size, inverse);
+            packing::store(table, cells, inverse);
             number
         }
         Answer::Denied(_) => number,
@@ -52,12 +50,12 @@ fn call_over(
 // the inverse. For proved callers.
 pub fn unpack(n: usize, weights: &[u8], inverse: &[u8], values: &mut [u16], table: &mut [u16])
     requires { ⌜ Needed n (now weights) (now inverse) × (length (now values) ≡ 4560) × (length (now table) ≡ 9216) ⌝ }
-    ensures { λ _. ⌜ (take (needed n) (now (values .exit)) ≡ needed-weights n (now (weights .entry))) × (take (n * n) (now (table .exit)) ≡ needed-inverse n (now (inverse .entry))) ⌝ }
+    ensures { λ _. ⌜ Unpacked n (now (weights .entry)) (now (inverse .entry)) (now (values .exit)) (now (table .exit)) ⌝ }
 {
     let count = checks::weights_needed(n);
-    let size = n * n;
+    let cells = n * n;
     packing::unpack(weights, &mut values[..count]);
-    packing::unpack(inverse, &mut table[..size]);
+    packing::unpack(inverse, &mut table[..cells]);
 }
 
 // Makes a call over bytes, of which as many words are read as the graph needs.
@@ -79,14 +77,14 @@ fn call_words(
     let mut table = [0u16; 9216];
     unpack(n, weights, inverse, &mut values, &mut table);
     let count = checks::weights_needed(n);
-    let size = n * n;
+    let cells = n * n;
     call_over(
         call,
         n,
         made,
         adjacency,
         &values[..count],
-        &mut table[..size],
+        &mut table[..cells],
         inverse,
         sequence,
     )
@@ -133,7 +131,9 @@ pub fn pick(
     ensures handled { λ r.
         let before = state n made (now (adjacency .entry)) (now (weights .entry)) (now (inverse .entry)) (now (sequence .entry)) in
         ⌜ HostHandles modulus-prime before (model.pick a b) r (handed-back before r (now (inverse .exit)) (now (sequence .exit))) ⌝ }
-    ensures exactly { λ r. ⌜ HostPickedExactly modulus-prime (state n made (now (adjacency .entry)) (now (weights .entry)) (now (inverse .entry)) (now (sequence .entry))) a b r ⌝ }
+    ensures exactly { λ r.
+        let before = state n made (now (adjacency .entry)) (now (weights .entry)) (now (inverse .entry)) (now (sequence .entry)) in
+        ⌜ HostPickedExactly modulus-prime before a b r ⌝ }
 {
     handle(
         Call::Pick(a, b),

@@ -21,8 +21,10 @@ fn any_nonzero(words: &[u16]) -> bool
 // The witness's first n words where one of them is not 0, else the inverse table's n * n; the empty part at the start of the inverse for a
 // size above 96 or a short buffer.
 pub fn part<'a>(n: usize, inverse: &'a [u16], witness: &'a [u16]) -> &'a [u16]
-    ensures words { λ r. ⌜ now r ≡ words-of (display n (now (inverse .entry)) (now (witness .entry))) (now (inverse .entry)) (now (witness .entry)) ⌝ }
-    ensures start { λ r. ⌜ r .ptr ≡ start-of (display n (now (inverse .entry)) (now (witness .entry))) (inverse .entry .ptr) (witness .entry .ptr) ⌝ }
+    ensures words { λ r.
+        ⌜ now r ≡ words-of (display n (now (inverse .entry)) (now (witness .entry))) (now (inverse .entry)) (now (witness .entry)) ⌝ }
+    ensures start { λ r.
+        ⌜ r .ptr ≡ start-of (display n (now (inverse .entry)) (now (witness .entry))) (inverse .entry .ptr) (witness .entry .ptr) ⌝ }
 {
     if LARGEST < n {
         return &inverse[..0];

@@ -12,7 +12,7 @@ use Rattle.matching.specs.Pairs.{Pair}
 use Rattle.matching.specs.Records as paper
 use Rattle.matching.specs.Records.{Progress, start, sized, weighted, size-due, seed-due, share-due, end-due, unread}
 use Rattle.matching.specs.Computed.{only-size, only-seed, only-edges}
-use Rattle.refusals.specs.Answers.{refusal-of}
+use Rattle.refusals.specs.Meaning.{refusal-of}
 use Rattle.records.specs.Stands.{Stands}
 use Rattle.records.specs.declared.Next.the-variants as next
 use Rattle.due.specs.Follows.{ReadsOn, cut-here, undue-cut, unknown-here, stops-here}

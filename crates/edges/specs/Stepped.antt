@@ -14,7 +14,7 @@ use Rattle.records.specs.declared.Ends.{Ends}
 use Rattle.records.specs.declared.Record.{Record}
 use Rattle.records.specs.declared.Record.the-variants.{Share, End}
 use Rattle.records.specs.declared.Next.the-variants.{Whole}
-use Rattle.refusals.specs.Answers.{refusal-of}
+use Rattle.refusals.specs.Meaning.{refusal-of}
 use Rattle.due.specs.Follows.{ReadsOn, Follows, stands-within, taken-here, rejected-here, undue-here, ends-here, excess-here}
 use Rattle.due.specs.Others.{Left, other-kind}
 use Rattle.edges.specs.Marked.{Marked}

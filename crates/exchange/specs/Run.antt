@@ -35,7 +35,7 @@ pub record Weight (waits w x : ℕ) : Type 0 where
   pub some : x ≢ 0 → (waits ≢ 0) × (w % modulus ≢ 0)
 
 -- what a turn needs
-pub record Ready (n c : ℕ) (t waiting : List ℕ) : Type 0 where
+pub record TurnReady (n c : ℕ) (t waiting : List ℕ) : Type 0 where
   pub table-square : Square n t
   pub small : Small limit n t
   pub below : c < n
@@ -166,7 +166,7 @@ abbrev pub Ended : ℕ → Matrix → Subset → List ℕ → List ℕ → Outco
 Ended n A S t waiting ended.Inverse = Inverse modulus n A S (matrix n t)
 Ended n A S t waiting (Column f) = FirstDependent modulus n A S f × Witness modulus n A S f (witness-word n t waiting f)
 
-pub bounded-ready : {n c : ℕ} {t waiting : List ℕ} → Bounded n c t waiting → c < n → Ready n c t waiting
+pub bounded-ready : {n c : ℕ} {t waiting : List ℕ} → Bounded n c t waiting → c < n → TurnReady n c t waiting
 bounded-ready B h = record {
   table-square = B .table-square;
   small = record { at = λ i j hi hj. omega (arith, B .small .at i j hi hj, B .table-square .small) };

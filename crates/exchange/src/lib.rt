@@ -6,7 +6,7 @@ ghost use Rattle.lists.specs.Table.{Square};
 ghost use Rattle.skew.specs.Subset.{marked};
 ghost use Rattle.skew.specs.Inverse.{Matrix};
 ghost use Rattle.pivot.specs.Words.{Small};
-ghost use Rattle.exchange.specs.Run.{Weight, Ready, Found, Turned, Holds, Ended};
+ghost use Rattle.exchange.specs.Run.{Weight, TurnReady, Found, Turned, Holds, Ended};
 use residue::Residue;
 
 // How exchange ends: with the inverse, or at the first dependent column.
@@ -27,7 +27,7 @@ fn weight(waits: u8, w: u64) -> u64
 
 // The lowest partner of c: an index after c that waits, where row c is not 0; or n.
 fn partner(t: &[u64], n: usize, c: usize, waiting: &[u8]) -> usize
-    requires { ⌜ Ready n c (now t) (now waiting) ⌝ }
+    requires { ⌜ TurnReady n c (now t) (now waiting) ⌝ }
     ensures { λ r. ⌜ Found n c (now (t .entry)) (now (waiting .entry)) r ⌝ }
 {
     let mut r = c + 1;
@@ -51,7 +51,7 @@ fn turn(
     x: &mut [u64],
     y: &mut [u64],
 ) -> usize
-    requires { ⌜ Ready n c (now t) (now waiting) × (length (now x) ≡ n) × (length (now y) ≡ n) ⌝ }
+    requires { ⌜ TurnReady n c (now t) (now waiting) × (length (now x) ≡ n) × (length (now y) ≡ n) ⌝ }
     ensures { λ r. ⌜ Turned n c (now (t .entry)) (now (waiting .entry)) (now (t .exit)) (now (waiting .exit)) r ⌝ }
 {
     if waiting[c] == 0 {
@@ -71,7 +71,9 @@ fn turn(
 // matrix that the table holds on the set of these indices; outside the set the table holds 0.
 pub fn run(t: &mut [u64], n: usize, waiting: &mut [u8]) -> Outcome
     requires { ⌜ Square n (now t) × Small 65536 n (now t) × (length (now waiting) ≡ n) ⌝ }
-    ensures { λ o. ⌜ ((A : Matrix) → Holds n A (marked (now (waiting .entry))) (now (t .entry)) → Ended n A (marked (now (waiting .entry))) (now (t .exit)) (now (waiting .exit)) o) ⌝ }
+    ensures { λ o.
+        ⌜ ((A : Matrix) → Holds n A (marked (now (waiting .entry))) (now (t .entry))
+        → Ended n A (marked (now (waiting .entry))) (now (t .exit)) (now (waiting .exit)) o) ⌝ }
 {
     let mut x = [0u64; 96];
     let mut y = [0u64; 96];

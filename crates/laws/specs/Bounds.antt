@@ -76,15 +76,15 @@ room-within n adjacency weights {why} = go (decLt (length adjacency) (n * n)) (d
     go (no _) (no _) e = absurd (let z : _≡_ {A = ℕ} 0 1 = cc in omega arith)
 
 -- the answer of the reader, where there are so many bytes
-abbrev pub Answers : Read → ℕ → Type 0
-Answers (graph-read n m) len = (n ≤ largest) × (m ≤ len)
-Answers (not-read why) len = Within (len + 2) why
+abbrev pub AnswerBounds : Read → ℕ → Type 0
+AnswerBounds (graph-read n m) len = (n ≤ largest) × (m ≤ len)
+AnswerBounds (not-read why) len = Within (len + 2) why
 
 pub more-within : {k len : ℕ} {why : Refusal} → k ≤ len → Within k why → Within len why
 more-within h w = record { cause-from = w .cause-from; cause-below = w .cause-below; place-within = omega (arith, w .place-within) }
 
 pub fills-answer : {E : Edition} {bytes adjacency weights adjacency′ weights′ : List ℕ} {given : Read} → Fills E bytes adjacency weights given adjacency′ weights′
-    → Answers given (length bytes)
+    → AnswerBounds given (length bytes)
 fills-answer (refuses-records R) = more-within (omega arith) (reads-within R refl (omega arith))
 fills-answer {adjacency = adjacency} {weights = weights} (lacks-room {n = n} R e) = more-within (omega arith) (room-within n adjacency weights e)
 fills-answer (fills R e) = (reads-fit R refl tt .small, omega (arith, reads-edges R refl))

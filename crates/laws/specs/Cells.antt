@@ -13,7 +13,7 @@ use Rattle.lists.specs.Choose.{choose-yes, choose-no}
 use Rattle.matching.specs.Pairs.{Pair, pair-of}
 use Rattle.matching.specs.Model.{Named}
 use Rattle.matching.specs.Records.{Same, same?, among, cells}
-use Rattle.laws.specs.Facts.{pair-of-smaller, pair-of-larger}
+use Rattle.laws.specs.ModelLaws.{pair-of-smaller, pair-of-larger}
 
 pub pair-of-swap : (a b : ℕ) → a ≢ b → pair-of a b ≡ pair-of b a
 pair-of-swap a b d = go (decLt a b) (decLt b a)

@@ -19,12 +19,12 @@ use Rattle.matching.specs.Model.{Call, undo, Answer, done, denied, Step, skew, 
 use Rattle.matching.specs.Calls.{Returned, state-after, Handles, unsound, refuses, carries, Runs, none, more}
 use Rattle.matching.specs.Demand.{Once, StateOf, Undoes, FollowsModel}
 use Rattle.laws.specs.Sound.{GraphFits, SessionFits, Sound, session-accepted}
-use Rattle.laws.specs.Determined.{inverse-table-unique, table-over}
-use Rattle.laws.specs.Facts.{open-partner, picks-to-come, step-nonsingular, after-nonsingular, unlike}
+use Rattle.laws.specs.OpeningOutcome.{inverse-table-unique, table-over}
+use Rattle.laws.specs.ModelLaws.{open-partner, picks-to-come, step-nonsingular, after-nonsingular, unlike}
 use Rattle.laws.specs.Rules.{rule-step}
 use Rattle.laws.specs.History.{Valid, Change, appended, removed, unchanged, change, change-valid, Moves, stays, change-moves, appended-once}
 use Rattle.laws.specs.Sequence.{length-sequence, well-formed-sequence, pairs-on-sequence, length-pairs-on, sequence-on, Inside, valid-on, place-in}
-use Rattle.laws.specs.Carried.{refused-keeps}
+use Rattle.laws.specs.CallOutcome.{refused-keeps}
 
 denied-unchanged : {p : ℕ} {P : OddPrime p} {g : Graph} {S : Subset} {pairs : Pairs} (s : Step) {r : Refusal} → Change P g S pairs s
     → s .answer ≡ denied r → s .pairs ≡ pairs

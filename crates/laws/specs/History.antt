@@ -12,10 +12,10 @@ use Rattle.matching.specs.Decision.{because, Ruling, accepted, refused}
 use Rattle.matching.specs.Graph.{Graph}
 use Rattle.matching.specs.Pairs.{Pair, pair-of, Pairs, unmatched}
 use Rattle.matching.specs.Model.{Call, pick, automatic, undo, done, denied, Step, Nonsingular, nonsingular?, Adjacent, pick-ruling, Allowed, append, remove-last, step}
-use Rattle.laws.specs.Facts.{pair-of-smaller, pair-of-larger, allowed-of-accepted, refused-pick, Automatic, lowest, nobody, automatic-cases, lowest-allowed}
+use Rattle.laws.specs.ModelLaws.{pair-of-smaller, pair-of-larger, allowed-of-accepted, refused-pick, Automatic, lowest, nobody, automatic-cases, lowest-allowed}
 
 -- the smaller vertex first, both among those left by the earlier pairs, and adjacent
-pub record Fits {p : ℕ} (P : OddPrime p) (g : Graph) (S : Subset) (e : Pair) (earlier : Pairs) : Type 0 where
+pub record Appendable {p : ℕ} (P : OddPrime p) (g : Graph) (S : Subset) (e : Pair) (earlier : Pairs) : Type 0 where
   pub ordered : e .smaller < e .larger
   pub below : e .larger < g .n
   pub smaller-left : e .smaller ∈ unmatched S earlier
@@ -24,19 +24,19 @@ pub record Fits {p : ℕ} (P : OddPrime p) (g : Graph) (S : Subset) (e : Pair) (
 
 pub data Valid {p : ℕ} (P : OddPrime p) (g : Graph) (S : Subset) : Pairs → Type 0 where
   nil : Valid P g S []
-  cons : {e : Pair} {earlier : Pairs} → Fits P g S e earlier → Valid P g S earlier → Valid P g S (e ∷ earlier)
+  cons : {e : Pair} {earlier : Pairs} → Appendable P g S e earlier → Valid P g S earlier → Valid P g S (e ∷ earlier)
 
 -- what a call can make of the pairs
 pub data Change {p : ℕ} (P : OddPrime p) (g : Graph) (S : Subset) (pairs : Pairs) : Step → Type 0 where
-  appended : (e : Pair) → Fits P g S e pairs → Nonsingular P g S (e ∷ pairs) → Change P g S pairs (record { answer = done e; pairs = e ∷ pairs })
+  appended : (e : Pair) → Appendable P g S e pairs → Nonsingular P g S (e ∷ pairs) → Change P g S pairs (record { answer = done e; pairs = e ∷ pairs })
   removed : (e : Pair) (earlier : Pairs) → pairs ≡ e ∷ earlier → Nonsingular P g S earlier → Change P g S pairs (record { answer = done e; pairs = earlier })
   unchanged : (k : ℕ) → Change P g S pairs (record { answer = denied (because k 0); pairs = pairs })
 
 module _ {p : ℕ} (P : OddPrime p) (g : Graph) (S : Subset) where
-  pub fits : (pairs : Pairs) (a b : ℕ) → Allowed P g S pairs a b → Fits P g S (pair-of a b) pairs
-  fits pairs a b h = go (decLt a b) (decLt b a) (h .adjacent)
+  pub allowed-appendable : (pairs : Pairs) (a b : ℕ) → Allowed P g S pairs a b → Appendable P g S (pair-of a b) pairs
+  allowed-appendable pairs a b h = go (decLt a b) (decLt b a) (h .adjacent)
     where
-      go : Dec (a < b) → Dec (b < a) → Adjacent g (pair-of a b) → Fits P g S (pair-of a b) pairs
+      go : Dec (a < b) → Dec (b < a) → Adjacent g (pair-of a b) → Appendable P g S (pair-of a b) pairs
       go (yes l) _ k =
           rw (pair-of-smaller a b l)
           (record { ordered = l; below = h .named .1; smaller-left = h .a-left; larger-left = h .b-left; adjacent = rw (pair-of-smaller a b l) at k })
@@ -52,13 +52,13 @@ module _ {p : ℕ} (P : OddPrime p) (g : Graph) (S : Subset) where
     where
       go : (v : Ruling) → pick-ruling P g S pairs a b ≡ v → Change P g S pairs (append pairs (pair-of a b) v)
       go accepted e =
-          let h = allowed-of-accepted P g S pairs a b (rw e tt) in appended (pair-of a b) (fits pairs a b h) (h .nonsingular)
+          let h = allowed-of-accepted P g S pairs a b (rw e tt) in appended (pair-of a b) (allowed-appendable pairs a b h) (h .nonsingular)
       go (refused r) e = let q : r ≡ because (r .cause) 0 = rw (← refused-pick P g S pairs a b {r = r} e .at-0) in rw q (unchanged (r .cause))
   change pairs automatic I = go (automatic-cases P g S pairs I)
     where
       go : Automatic P g S pairs → Change P g S pairs (step P g S pairs automatic)
       go (lowest c r C R t) =
-          let a = lowest-allowed P g S pairs c r R in rw t (appended (pair-of c r) (fits pairs c r a) (a .nonsingular))
+          let a = lowest-allowed P g S pairs c r R in rw t (appended (pair-of c r) (allowed-appendable pairs c r a) (a .nonsingular))
       go (nobody _ e) = rw e (unchanged 11)
   change [] undo I = unchanged 11
   change (e ∷ earlier) undo I = go (nonsingular? P g S earlier)

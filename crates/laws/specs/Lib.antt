@@ -1,6 +1,6 @@
 -- What is proved of the definitions of document 01, in reading order.
 -- The plain model: picks, partners, picks to come; its rules; what calls keep.
-pub mod Facts
+pub mod ModelLaws
 pub mod Rules
 pub mod History
 -- What judging a list of causes gives, and what an accepting ruling says.
@@ -10,8 +10,8 @@ pub mod Faults
 -- The bytes of a sequence of pairs.
 pub mod Sequence
 -- Every call has exactly one outcome.
-pub mod Determined
-pub mod Carried
+pub mod OpeningOutcome
+pub mod CallOutcome
 -- Demand 3.
 pub mod Demand
 pub mod Fresh

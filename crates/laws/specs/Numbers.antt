@@ -25,12 +25,12 @@ use Rattle.matching.specs.Calls.{Returned, state-after, Handles, unsound, refus
 use Rattle.matching.specs.Replay.{place-of, as-place, call-count, lent-answers, first-unknown, unknown-kind, list-causes, replay-ruling, Replays, refuses-replay, replays, replay-number, replay-stored, HostReplays}
 use Rattle.matching.specs.Host.{number, refusal-number, opening-number, answer-number, session-back, ruled-number, row-number, unpacked-state, state-stored, HostHandles, HostPickedExactly, HostShowsRow}
 use Rattle.laws.specs.Judge.{when-absent}
-use Rattle.laws.specs.Facts.{refused-pick}
+use Rattle.laws.specs.ModelLaws.{refused-pick}
 use Rattle.laws.specs.Rules.{step-rule}
 use Rattle.laws.specs.History.{Change, appended, removed, unchanged, change, Moves, grows, shrinks, stays, change-moves}
 use Rattle.laws.specs.Sequence.{length-pairs-on}
 use Rattle.laws.specs.Sound.{opening-accepted, Sound, session-accepted, more-accepted}
-use Rattle.laws.specs.Carried.{handles-some, handles-unique, picked-exactly}
+use Rattle.laws.specs.CallOutcome.{handles-some, handles-unique, picked-exactly}
 use Rattle.laws.specs.Outcomes.{row-unique, replay-accepted, replays-some, replays-unique}
 
 module _ (cause kind value made : ℕ) (c : cause < 2 ^ 8) (k : kind < 2 ^ 8) (v : value < 2 ^ 16) where

@@ -23,9 +23,9 @@ use Rattle.matching.specs.Records.{Reading, sheet, unread, ReadsFrom, ReadsAs, 
 use Rattle.matching.specs.Computed.{read-from, read}
 use Rattle.matching.specs.Listing.{input-limit, first-line, pair-lines, witness-lines, line-full, line-none, refused-line, Lists, refuses-sheet, pairs-up, shows-witness}
 use Rattle.laws.specs.Sound.{more-accepted}
-use Rattle.laws.specs.Carried.{runs-some, runs-unique}
-use Rattle.laws.specs.Facts.{picks-to-come, picks-to-come-half}
-use Rattle.laws.specs.Determined.{singular-of, singular-unique}
+use Rattle.laws.specs.CallOutcome.{runs-some, runs-unique}
+use Rattle.laws.specs.ModelLaws.{picks-to-come, picks-to-come-half}
+use Rattle.laws.specs.OpeningOutcome.{singular-of, singular-unique}
 use Rattle.laws.specs.Reading.{reads-unique}
 
 never : {A : Type 0} → _≡_ {A = ℕ} 0 1 → A

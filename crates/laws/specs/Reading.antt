@@ -12,15 +12,15 @@ use Rattle.draws.specs.Draws.{draws}
 use Rattle.draws.specs.Laws.{draws-length, draws-range}
 use Rattle.matching.specs.Decision.{because, accepted, Every}
 use Rattle.matching.specs.Edition.{Edition}
-use Rattle.matching.specs.Graph.{Graph, over, largest, pair-count, cell, kind-of, fault, InRange, InOrder}
+use Rattle.matching.specs.Graph.{Graph, over, largest, pair-count, cell, cell-fault, fault, InRange, InOrder}
 use Rattle.matching.specs.Pairs.{Pair, pair-of}
 use Rattle.matching.specs.Model.{Named}
 use Rattle.matching.specs.Causes.{opening-ruling, lent-inverse, lent-sequence, lent-witness, lent-work, LongEnough}
 use Rattle.matching.specs.Records.{Record, size, kind, Begins, begins-size, begins-share, begins-seed, begins-end, Progress, start, sized, weighted, ended, Due, size-due, seed-due, share-due, end-due, Same, same?, among, Takes, takes-size, takes-seed, takes-share, takes-end, Rejects, too-large-size, not-two, stood-already, Reading, sheet, unread, Reads, whole, not-due, stops, cut, rejected, goes-on, cells, graph-read, Fills, fills}
 use Rattle.matching.specs.Computed.{nothing-due, begins-kind}
-use Rattle.laws.specs.Facts.{pair-of-smaller, pair-of-larger}
+use Rattle.laws.specs.ModelLaws.{pair-of-smaller, pair-of-larger}
 use Rattle.laws.specs.Cells.{pair-of-swap, cells-length, cells-at}
-use Rattle.laws.specs.Faults.{fault-kind, kind-diagonal-zero, kind-equal}
+use Rattle.laws.specs.Faults.{fault-of-cell, fault-diagonal-zero, fault-equal}
 use Rattle.laws.specs.Sound.{GraphFits, opening-accepted}
 
 no-record : {A : Type 0} {r : Record} {rest : List ℕ} → Begins r [] rest → A
@@ -185,16 +185,16 @@ module _ {E : Edition} {n : ℕ} {drawn : List ℕ} {edges : List Pair} (F : Fit
 
   faultless : (i j : ℕ) → i < n → j < n → fault g i j ≡ 0
   faultless i j hi hj =
-      fault-kind g i j
-      ∙ ap₂ (λ x y. kind-of x y i j) (cell-is i j hi hj) (cell-is j i hj hi)
+      fault-of-cell g i j
+      ∙ ap₂ (λ x y. cell-fault x y i j) (cell-is i j hi hj) (cell-is j i hj hi)
       ∙ go (ℕ-discrete i j)
     where
-      go : Dec (i ≡ j) → kind-of (among (pair-of i j) edges) (among (pair-of j i) edges) i j ≡ 0
+      go : Dec (i ≡ j) → cell-fault (among (pair-of i j) edges) (among (pair-of j i) edges) i j ≡ 0
       go (yes e) =
-          kind-diagonal-zero _ _ i j (among-small (pair-of i j) edges) e
+          fault-diagonal-zero _ _ i j (among-small (pair-of i j) edges) e
           (rw e (among-ordered n (pair-of j j) edges (pair-of-same j) (F .edges-fit)))
       go (no d) =
-          kind-equal _ _ i j (among-small (pair-of i j) edges) d (ap (λ e. among e edges) (pair-of-swap i j d))
+          fault-equal _ _ i j (among-small (pair-of i j) edges) d (ap (λ e. among e edges) (pair-of-swap i j d))
 
   pub in-range : Every (pair-count n) (InRange g (E .modulus))
   in-range x l =

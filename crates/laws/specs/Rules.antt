@@ -10,7 +10,7 @@ use Rattle.matching.specs.Decision.{because, First, nowhere, first-at, first?, 
 use Rattle.matching.specs.Graph.{Graph}
 use Rattle.matching.specs.Pairs.{pair-of, Pairs, unmatched, in?}
 use Rattle.matching.specs.Model.{Call, pick, automatic, undo, Answer, done, denied, Step, Nonsingular, nonsingular?, pick-ruling, OpenPartner, Rule, picks, pick-refused, picks-lowest, none-left, no-pair, undo-refused, undoes, append, with-lowest, from-lowest, remove-last, step}
-use Rattle.laws.specs.Facts.{Automatic, lowest, nobody, automatic-cases}
+use Rattle.laws.specs.ModelLaws.{Automatic, lowest, nobody, automatic-cases}
 
 pub lowest-unique : {n x y : ℕ} {Q : ℕ → Type 0} → Lowest n Q x → Lowest n Q y → x ≡ y
 lowest-unique {n} {x} {y} X Y = go (decLt x y) (decLt y x)

@@ -13,7 +13,7 @@ use Rattle.matching.specs.Decision.{Every}
 use Rattle.matching.specs.Graph.{Graph, cell}
 use Rattle.matching.specs.Pairs.{Pair, Pairs, unused, bytes, sequence, pairs-on, unmatched}
 use Rattle.matching.specs.Session.{WellFormed}
-use Rattle.laws.specs.History.{Fits, Valid, nil, cons}
+use Rattle.laws.specs.History.{Appendable, Valid, nil, cons}
 
 pub length-bytes : (pairs : Pairs) → length (bytes pairs) ≡ length pairs + length pairs
 unfolding bytes
@@ -43,7 +43,7 @@ pairs-on-bytes (e ∷ earlier) rest =
 
 module _ {p : ℕ} (P : OddPrime p) (g : Graph) (S : Subset) where
   -- a property of two vertices that every pair has
-  pub every-pair : (Q : ℕ → ℕ → Type 0) → ((e : Pair) (earlier : Pairs) → Fits P g S e earlier → Q (e .smaller) (e .larger))
+  pub every-pair : (Q : ℕ → ℕ → Type 0) → ((e : Pair) (earlier : Pairs) → Appendable P g S e earlier → Q (e .smaller) (e .larger))
       → (pairs : Pairs) (rest : List ℕ) → Valid P g S pairs
       → Every (length pairs) (λ k. Q (getD (bytes pairs ++ rest) (k + k) 0) (getD (bytes pairs ++ rest) (k + k + 1) 0))
   every-pair Q q [] rest nil k l = absurd (omega arith)
@@ -57,10 +57,10 @@ module _ {p : ℕ} (P : OddPrime p) (g : Graph) (S : Subset) where
       go (yes h) r = rw (h, at-smaller earlier (e .smaller) (e .larger) rest, at-larger earlier (e .smaller) (e .larger) rest) (q e earlier f)
       go (no d) r = r (omega arith)
 
-  pub fits-without : (e : Pair) (earlier : Pairs) → Fits P g S e earlier
+  pub appendable-without : (e : Pair) (earlier : Pairs) → Appendable P g S e earlier
       → Without (unmatched S earlier) (e .smaller) (e .larger) (unmatched S (e ∷ earlier))
   unfolding unmatched
-  fits-without e earlier f =
+  appendable-without e earlier f =
       without (unmatched S earlier) (e .smaller) (e .larger) (λ q. omega (arith, f .ordered)) (f .smaller-left) (f .larger-left)
 
   -- every byte of the pairs is a vertex that they match
@@ -76,7 +76,7 @@ module _ {p : ℕ} (P : OddPrime p) (g : Graph) (S : Subset) where
       xs = bytes earlier ++ e .smaller ∷ e .larger ∷ rest
 
       w : Without (unmatched S earlier) (e .smaller) (e .larger) (unmatched S (e ∷ earlier))
-      w = fits-without e earlier f
+      w = appendable-without e earlier f
 
       go : Dec (x ≡ length earlier + length earlier) → Dec (x ≡ length earlier + length earlier + 1)
           → (x < length earlier + length earlier → getD xs x 0 ∉ unmatched S earlier) → getD xs x 0 ∉ unmatched S (e ∷ earlier)
@@ -122,7 +122,7 @@ module _ {p : ℕ} (P : OddPrime p) (g : Graph) (S : Subset) where
   count-left [] nil = omega arith
   count-left (e ∷ earlier) (cons f v) =
       omega
-      (arith, count-left earlier v, count-without (g .n) (fits-without e earlier f) (omega (arith, f .ordered, f .below)) (f .below))
+      (arith, count-left earlier v, count-without (g .n) (appendable-without e earlier f) (omega (arith, f .ordered, f .below)) (f .below))
 
 -- the sequence of valid pairs of a graph, whatever stands after it, is well formed
 module _ {p : ℕ} (P : OddPrime p) (g : Graph) (S : Subset) where

@@ -18,7 +18,7 @@ use Rattle.matching.specs.Host.{words, Bytes, bytes-of, cause-in, made-in, unpa
 use Rattle.laws.specs.Judge.{judge-accepted}
 use Rattle.laws.specs.Sound.{short-absent, graph-fits}
 use Rattle.laws.specs.Reading.{reads-fit, drawn-length, in-range, filled-accepted}
-use Rattle.laws.specs.Bounds.{Answers, fills-answer}
+use Rattle.laws.specs.Bounds.{AnswerBounds, fills-answer}
 use Rattle.laws.specs.Outcomes.{fills-some, fills-unique, lists-some, lists-unique}
 use Rattle.laws.specs.Numbers.{made-field, opens-small, opening-low-byte}
 use Rattle.laws.specs.Words.{read-words}
@@ -56,12 +56,12 @@ read-cause (graph-read n m) = 0
 read-cause (not-read why) = why .cause
 
 -- the low byte of the number
-pub read-low-byte : (len : ℕ) (o : Read) → Answers o len → read-number o % 2 ^ 8 ≡ read-cause o
+pub read-low-byte : (len : ℕ) (o : Read) → AnswerBounds o len → read-number o % 2 ^ 8 ≡ read-cause o
 read-low-byte len (graph-read n m) h = omega arith
 read-low-byte len (not-read why) h = omega (arith, h .cause-below)
 
 -- two different answers have different numbers
-pub read-numbers : (len : ℕ) (o o′ : Read) → len < 2 ^ 15 → Answers o len → Answers o′ len → read-number o ≡ read-number o′ → o ≡ o′
+pub read-numbers : (len : ℕ) (o o′ : Read) → len < 2 ^ 15 → AnswerBounds o len → AnswerBounds o′ len → read-number o ≡ read-number o′ → o ≡ o′
 read-numbers len (graph-read n m) (graph-read n′ m′) l h h′ e =
     ap₂ graph-read (omega (arith, h .0, h .1, h′ .0, h′ .1)) (omega (arith, h .0, h .1, h′ .0, h′ .1))
 read-numbers len (graph-read n m) (not-read why) l h h′ e = absurd (omega (arith, h′ .cause-from, h′ .cause-below))

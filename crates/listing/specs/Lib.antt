@@ -1,3 +1,3 @@
 -- What the contracts cite, with its laws: the answers; the lines of a sheet.
-pub mod Answers
+pub mod Meaning
 pub mod Sheets

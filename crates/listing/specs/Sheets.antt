@@ -18,7 +18,7 @@ use Rattle.laws.specs.Bounds.{reads-edges}
 use Rattle.checks.specs.Weights.{needed, needed-all, needed-small}
 use Rattle.sheet.specs.Filled.{room-enough, drawn-needed}
 use Rattle.text.specs.Puts.{puts-first}
-use Rattle.verdict.specs.Lines.{Writes, Verdict, full, none, GraphLines, Lent}
+use Rattle.verdict.specs.Lines.{Writes, Verdict, full, none, GraphLines, Acceptable}
 
 -- the listing of each input whose first bytes, as many as are read, are these
 abbrev pub ListsBytes : List ℕ → List ℕ → Type 0
@@ -35,7 +35,7 @@ pub record Tables (bytes adjacency weights text : List ℕ) : Type 0 where
 pub record Sheet (bytes : List ℕ) (n m : ℕ) (adjacency weights : List ℕ) : Type 0 where
   pub small : n ≤ largest
   pub few-edges : m ≤ length bytes
-  pub lent : Lent (over n (take (n * n) adjacency) (take (needed n) weights))
+  pub lent : Acceptable (over n (take (n * n) adjacency) (take (needed n) weights))
   pub lists : {text : List ℕ} → GraphLines (over n (take (n * n) adjacency) (take (needed n) weights)) m text → ListsBytes bytes text
 
 -- the lines of the graph of a sheet are its listing

@@ -4,7 +4,7 @@ ghost use Prim.Native.Nat.{_≤_};
 ghost use lib.ListN.{length};
 ghost use Rattle.matching.specs.Listing.{input-limit, text-room, ListsInto};
 ghost use Rattle.verdict.specs.Lines.{Writes};
-ghost use Rattle.listing.specs.Answers.{listed-of};
+ghost use Rattle.listing.specs.Meaning.{listed-of};
 ghost use Rattle.listing.specs.Sheets.{ListsBytes, Tables};
 
 // What the listing answers: how long the text is, or that the buffer has no room for every text.
@@ -23,9 +23,15 @@ fn sheet_lines(bytes: &[u8], adjacency: &mut [u8], weights: &mut [u16], text: &m
         Read::Refused(why) => text::refused_line(text, 0, why.cause as usize, why.place),
         Read::Graph(extent) => {
             let n = extent.size;
-            let size = n * n;
+            let cells = n * n;
             let count = checks::weights_needed(n);
-            verdict::graph_lines(n, extent.edges, &adjacency[..size], &weights[..count], text)
+            verdict::graph_lines(
+                n,
+                extent.edges,
+                &adjacency[..cells],
+                &weights[..count],
+                text,
+            )
         }
     }
 }

@@ -83,7 +83,7 @@ module _ {p : ℕ} (P : OddPrime p) (g : Graph) (S : Subset) where
       ∷ [])
 
   -- demand 2, second half: a hand pick is accepted exactly where the two are different vertices, unmatched and adjacent, and
-  -- leave a matrix with an inverse (laws, Facts)
+  -- leave a matrix with an inverse (laws, ModelLaws)
   pub record Allowed (pairs : Pairs) (a b : ℕ) : Type 0 where
     pub named : Named (g .n) a b
     pub a-left : a ∈ unmatched S pairs

@@ -5,8 +5,8 @@ ghost use mathlib.Core.Path.{_≡_};
 ghost use Prim.Native.Nat.{ℕ, _<_, _^_};
 ghost use Rattle.matching.specs.Decision.{because};
 ghost use Rattle.matching.specs.Host.{number, refusal-number, ruled-number};
-ghost use Rattle.refusals.specs.Answers.{ruling-of};
-ghost use Rattle.numbers.specs.Fits.{FitsNumber};
+ghost use Rattle.refusals.specs.Meaning.{ruling-of};
+ghost use Rattle.numbers.specs.Bits.{RulingFits};
 
 // The number of a call that was carried out: the kind of answer, its value, and the pairs made. For proved callers.
 pub fn carried(kind: u64, value: u64, made: u64) -> u64
@@ -26,7 +26,7 @@ pub fn refused(refusal: Refusal) -> u64
 
 // The number of a call of a kind that has no value, with the pairs made, or of its refusal. For proved callers.
 pub fn ruled(kind: u64, ruling: Ruling, made: usize) -> u64
-    requires { ⌜ (kind < 2 ^ 8) × FitsNumber (ruling-of ruling) made ⌝ }
+    requires { ⌜ (kind < 2 ^ 8) × RulingFits (ruling-of ruling) made ⌝ }
     ensures { λ r. ⌜ ((n : ℕ) → r ≡ ruled-number kind (ruling-of ruling) (record { size = n; made = made })) ⌝ }
 {
     match ruling {

@@ -1,3 +1,3 @@
 -- What opening answers, and what it leaves.
-pub mod Answers
-pub mod Begun
+pub mod Meaning
+pub mod OpeningState

@@ -6,8 +6,8 @@ use session::Session;
 ghost use Rattle.residue.specs.Modulus.{modulus};
 ghost use Rattle.matching.specs.Graph.{over};
 ghost use Rattle.matching.specs.Opening.{players, Opens, OpenedExactly};
-ghost use Rattle.opening.specs.Answers.{opening-of, buffers};
-ghost use Rattle.opening.specs.Begun.{Ready, Begun};
+ghost use Rattle.opening.specs.Meaning.{opening-of, buffers};
+ghost use Rattle.opening.specs.OpeningState.{OpeningReady, Begun};
 
 // What opening answers: a session with no pairs, the first dependent column, or a refusal.
 pub enum Opening {
@@ -25,21 +25,22 @@ fn begin_accepted(
     sequence: &mut [u8],
     witness: &mut [u16],
 ) -> Outcome
-    requires { ⌜ Ready n (now adjacency) (now weights) (now inverse) (now sequence) (now witness) ⌝ }
+    requires { ⌜ OpeningReady n (now adjacency) (now weights) (now inverse) (now sequence) (now witness) ⌝ }
     ensures { λ o.
         let g = over n (now (adjacency .entry)) (now (weights .entry)) in
-        ⌜ Begun g (now (inverse .entry)) (now (sequence .entry)) (now (witness .entry)) o (now (inverse .exit)) (now (sequence .exit)) (now (witness .exit)) ⌝ }
+        ⌜ Begun g (now (inverse .entry)) (now (sequence .entry)) (now (witness .entry)) o
+        (now (inverse .exit)) (now (sequence .exit)) (now (witness .exit)) ⌝ }
 {
     // Every vertex is in play.
     let mut all = [1u8; 96];
-    let size = n * n;
+    let cells = n * n;
     buffers::fill_bytes(sequence, n, 255);
     solve::solve(
         n,
         adjacency,
         weights,
         &mut all[..n],
-        &mut inverse[..size],
+        &mut inverse[..cells],
         &mut witness[..n],
     )
 }
@@ -57,7 +58,8 @@ pub fn begin(
     ensures { λ o.
         let lent = buffers (now (inverse .entry)) (now (sequence .entry)) (now (witness .entry)) (now (work .entry)) in
         let g = over n (now (adjacency .entry)) (now (weights .entry)) in
-        ⌜ Opens modulus g (players n lent) lent (opening-of o) (buffers (now (inverse .exit)) (now (sequence .exit)) (now (witness .exit)) (now (work .exit))) ⌝ }
+        let after = buffers (now (inverse .exit)) (now (sequence .exit)) (now (witness .exit)) (now (work .exit)) in
+        ⌜ Opens modulus g (players n lent) lent (opening-of o) after ⌝ }
     ensures { λ o.
         let lent = buffers (now (inverse .entry)) (now (sequence .entry)) (now (witness .entry)) (now (work .entry)) in
         let g = over n (now (adjacency .entry)) (now (weights .entry)) in
@@ -75,8 +77,8 @@ pub fn begin(
     if let Ruling::Refused(refusal) = ruling {
         return Opening::Refused(refusal);
     }
-    let size = n * n;
-    buffers::fill_words(work, size, 0);
+    let cells = n * n;
+    buffers::fill_words(work, cells, 0);
     let outcome = begin_accepted(n, adjacency, weights, inverse, sequence, witness);
     match outcome {
         Outcome::Inverse => {
@@ -84,7 +86,7 @@ pub fn begin(
             Opening::Opened(Session { size: n, made: 0 })
         }
         Outcome::Column(f) => {
-            buffers::fill_words(inverse, size, 0);
+            buffers::fill_words(inverse, cells, 0);
             Opening::Singular(f)
         }
     }

@@ -9,26 +9,25 @@ use Rattle.lists.specs.Onto.{onto}
 use Rattle.residue.specs.Modulus.{modulus}
 use Rattle.matching.specs.Decision.{Every, Refusal, Ruling, accepted, refused, judge, unless}
 use Rattle.matching.specs.Graph.{Graph, largest, pair-count, over}
-use Rattle.matching.specs.Causes.{Lent, lent-always, lent-besides, lent-to-opening, LongEnough, too-large, too-short, bad-cell, bad-weight, opening-ruling}
+use Rattle.matching.specs.Causes.{Lent, lent-always, lent-besides, lent-to-opening, too-large, too-short, bad-cell, bad-weight, opening-ruling}
 use Rattle.matching.specs.Pairs.{everything}
 use Rattle.matching.specs.Opening.{Opening, opened, singular, not-opened, Buffers, ruling, with-inverse, with-witness, Opens, refuses-opening, opens, finds-singular}
 use Rattle.matching.specs.Host.{words, Bytes, bytes-of, opening-number, unpacked, HostOpens}
-use Rattle.laws.specs.Sound.{short-absent}
+use Rattle.laws.specs.Sound.{OpeningFits, opening-fits, short-absent}
 use Rattle.laws.specs.Numbers as numbers
 use Rattle.laws.specs.Words.{words-length, words-half, stored-front}
 use Rattle.laws.specs.Judge.{when-absent}
 use Rattle.checks.specs.Weights.{needed}
 use Rattle.checks.specs.Lengths.{lengths-refused, lengths-accepted}
 use Rattle.checks.specs.Opening.{graph-causes}
-use Rattle.opening.specs.Answers.{buffers}
+use Rattle.opening.specs.Meaning.{buffers}
 use Rattle.crossing.specs.Same.{cells-same, weights-same, table-same, singular-same}
 use Rattle.crossing.specs.Needed.{needed-weights, needed-agree, needed-counted, needed-fits}
 
 -- the size and the lengths of the host's bytes are in order
-abbrev pub Fits : ℕ → (adjacency weights : List ℕ) → Buffers → Type 0
-Fits n adjacency weights b =
-    (n ≤ largest)
-    × LongEnough (lent-to-opening (over n adjacency (words weights)) (length (words (b .inverse))) (length (b .sequence)) (length (words (b .witness))) (length (words (b .work))))
+pub record HostOpeningFits (n : ℕ) (adjacency weights : List ℕ) (b : Buffers) : Type 0 where
+  pub size : n ≤ largest
+  pub fits : OpeningFits (over n adjacency (words weights)) (length (words (b .inverse))) (length (b .sequence)) (length (words (b .witness))) (length (words (b .work)))
 
 -- words are lent: for the weights that n vertices need, the inverse, the witness and the work
 pub record Lends (n : ℕ) (values table vector spare : List ℕ) : Type 0 where
@@ -52,15 +51,15 @@ after n (singular f) left b = stored n left b
 after n (not-opened r) left b = buffers (b .inverse) (left .sequence) (b .witness) (b .work)
 
 -- the parts of an answer fit their bits of the number
-abbrev pub FitsBits : Opening → Type 0
-FitsBits (opened s) = s .made < 2 ^ 8
-FitsBits (singular f) = f < 2 ^ 16
-FitsBits (not-opened r) = r .place < 2 ^ 16
+abbrev pub OpeningNumberFits : Opening → Type 0
+OpeningNumberFits (opened s) = s .made < 2 ^ 8
+OpeningNumberFits (singular f) = f < 2 ^ 16
+OpeningNumberFits (not-opened r) = r .place < 2 ^ 16
 
-pub fits-bits : {g : Graph} {b left : Buffers} {o : Opening} → Opens modulus g everything b o left → FitsBits o
-fits-bits {b = b} (refuses-opening r e) = numbers.opens-small {S = everything} {b = b} (refuses-opening r e) .place-below
-fits-bits (opens new ok l I) = omega arith
-fits-bits {b = b} (finds-singular f new ok l s) = numbers.opens-small {S = everything} {b = b} (finds-singular f new ok l s)
+pub opening-number-fits : {g : Graph} {b left : Buffers} {o : Opening} → Opens modulus g everything b o left → OpeningNumberFits o
+opening-number-fits {b = b} (refuses-opening r e) = numbers.opens-small {S = everything} {b = b} (refuses-opening r e) .place-below
+opening-number-fits (opens new ok l I) = omega arith
+opening-number-fits {b = b} (finds-singular f new ok l s) = numbers.opens-small {S = everything} {b = b} (finds-singular f new ok l s)
 
 -- the size and the lengths are judged
 module _ (n : ℕ) (adjacency weights : List ℕ) (b : Buffers) where
@@ -84,8 +83,10 @@ module _ (n : ℕ) (adjacency weights : List ℕ) (b : Buffers) where
   unfolding opening-ruling
   room-refused {r} e = lengths-refused n words-long [] (graph-causes modulus graph) r (in-words ∙ sym e)
 
-  pub room-accepted : accepted ≡ room → Fits n adjacency weights b
-  room-accepted e = let k = lengths-accepted n words-long [] [] (in-words ∙ sym e) in (k .0, k .1)
+  pub room-accepted : accepted ≡ room → HostOpeningFits n adjacency weights b
+  room-accepted e =
+      let k = lengths-accepted n words-long [] [] (in-words ∙ sym e) in
+      record { size = k .0; fits = opening-fits graph (length (words (b .inverse))) (length (b .sequence)) (length (words (b .witness))) (length (words (b .work))) .0 (k .1) }
 
   -- a refusal is the host's
   module _ {r : Refusal} (e : ruling modulus graph (unpacked b) ≡ refused r) where
@@ -96,21 +97,23 @@ module _ (n : ℕ) (adjacency weights : List ℕ) (b : Buffers) where
     refusal-small = numbers.opens-small {S = everything} {b = unpacked b} (refuses-opening r e) .place-below
 
 -- where the size and the lengths are in order, the cells and the weights are left to judge
-long-ruling : (g : Graph) (b : Buffers) → g .n ≤ largest → LongEnough (lent-to-opening g (length (b .inverse)) (length (b .sequence)) (length (b .witness)) (length (b .work)))
+long-ruling : (g : Graph) (b : Buffers) → g .n ≤ largest
+    → OpeningFits g (length (b .inverse)) (length (b .sequence)) (length (b .witness)) (length (b .work))
     → ruling modulus g b ≡ judge (graph-causes modulus g)
 unfolding opening-ruling
 long-ruling g b size long =
     rw (
       when-absent (decLt largest (g .n)) 0 .1 (λ l. omega arith),
-      short-absent (lent-to-opening g (length (b .inverse)) (length (b .sequence)) (length (b .witness)) (length (b .work))) .1 long,
+      short-absent (lent-to-opening g (length (b .inverse)) (length (b .sequence)) (length (b .witness)) (length (b .work)))
+          .1 (opening-fits g (length (b .inverse)) (length (b .sequence)) (length (b .witness)) (length (b .work)) .1 long),
     )
 
-module _ (n : ℕ) (adjacency weights : List ℕ) (b : Buffers) (F : Fits n adjacency weights b) where
+module _ (n : ℕ) (adjacency weights : List ℕ) (b : Buffers) (F : HostOpeningFits n adjacency weights b) where
   abbrev pub words-needed : Graph
   words-needed = over n adjacency (needed-weights n weights)
 
   agree : Every (pair-count n) (λ x. getD (needed-weights n weights) x 0 ≡ getD (words weights) x 0)
-  agree = needed-agree n weights (F .0)
+  agree = needed-agree n weights (F .size)
 
   causes-same : judge (graph-causes modulus words-needed) ≡ judge (graph-causes modulus (graph n adjacency weights b))
   unfolding bad-cell bad-weight
@@ -119,17 +122,17 @@ module _ (n : ℕ) (adjacency weights : List ℕ) (b : Buffers) (F : Fits n adja
       ∙ ap (λ f. unless (bad-cell (graph n adjacency weights b) .finding) 3 (unless f 4 accepted)) (weights-same n adjacency (needed-weights n weights) (words weights) agree modulus)
 
   pub weights-fit : 2 * needed n ≤ length weights
-  weights-fit = needed-fits n weights (F .0) (F .1 .1 .0)
+  weights-fit = needed-fits n weights (F .size) (F .fits .graph .weights)
 
   -- the bytes have room for the words
   pub inverse-fits : 2 * (n * n) ≤ length (b .inverse)
-  inverse-fits = omega (arith, F .1 .1 .1 .0, words-length (b .inverse) .0)
+  inverse-fits = omega (arith, F .fits .inverse-fits, words-length (b .inverse) .0)
 
   pub witness-fits : 2 * n ≤ length (b .witness)
-  witness-fits = omega (arith, F .1 .1 .1 .1 .1 .0, words-length (b .witness) .0)
+  witness-fits = omega (arith, F .fits .witness-fits, words-length (b .witness) .0)
 
   pub work-fits : 2 * (n * n) ≤ length (b .work)
-  work-fits = omega (arith, F .1 .1 .1 .1 .1 .1 .0, words-length (b .work) .0)
+  work-fits = omega (arith, F .fits .work-fits, words-length (b .work) .0)
 
   -- opening over words that are lent
   module _ {values table vector spare : List ℕ} (L : Lends n values table vector spare) where
@@ -139,11 +142,19 @@ module _ (n : ℕ) (adjacency weights : List ℕ) (b : Buffers) (F : Fits n adja
     -- is refused for the same cause
     same-ruling : ruling modulus (graph n adjacency weights b) (unpacked b) ≡ ruling modulus words-needed lent
     same-ruling =
-        let counted = needed-counted n weights (F .0) (F .1 .1 .0) in
+        let counted = needed-counted n weights (F .size) (F .fits .graph .weights) in
         let part =
-        long-ruling words-needed lent (F .0)
-        (F .1 .0, (omega arith, (omega (arith, L .cells), (F .1 .1 .1 .1 .0, (omega (arith, L .vertices), (omega (arith, L .spare-cells), tt)))))) in
-        long-ruling (graph n adjacency weights b) (unpacked b) (F .0) (F .1) ∙ sym causes-same ∙ sym part
+        long-ruling words-needed lent (F .size)
+        (
+        record {
+          graph = record { cells = F .fits .graph .cells; weights = omega arith };
+          inverse-fits = omega (arith, L .cells);
+          sequence-fits = F .fits .sequence-fits;
+          witness-fits = omega (arith, L .vertices);
+          work-fits = omega (arith, L .spare-cells);
+        }
+        ) in
+        long-ruling (graph n adjacency weights b) (unpacked b) (F .size) (F .fits) ∙ sym causes-same ∙ sym part
 
     -- and what it leaves, stored as bytes, is left by the host
     pub host-opens : {o : Opening} {left : Buffers} → Bytes (b .inverse) → Bytes (b .witness) → Bytes (b .work) → Opens modulus words-needed everything lent o left
@@ -156,9 +167,9 @@ module _ (n : ℕ) (adjacency weights : List ℕ) (b : Buffers) (F : Fits n adja
       numbered = refl;
       stored =
           rw (
-            stored-front new table (b .inverse) (n * n) inverse-bytes l (F .1 .1 .1 .0),
-            stored-front (replicate n 0) vector (b .witness) n witness-bytes (length-replicate {A = ℕ} n 0) (F .1 .1 .1 .1 .1 .0),
-            stored-front (replicate (n * n) 0) spare (b .work) (n * n) work-bytes (length-replicate {A = ℕ} (n * n) 0) (F .1 .1 .1 .1 .1 .1 .0),
+            stored-front new table (b .inverse) (n * n) inverse-bytes l (F .fits .inverse-fits),
+            stored-front (replicate n 0) vector (b .witness) n witness-bytes (length-replicate {A = ℕ} n 0) (F .fits .witness-fits),
+            stored-front (replicate (n * n) 0) spare (b .work) (n * n) work-bytes (length-replicate {A = ℕ} (n * n) 0) (F .fits .work-fits),
           );
     }
     host-opens inverse-bytes witness-bytes work-bytes (finds-singular f new ok l s) = record {
@@ -168,8 +179,8 @@ module _ (n : ℕ) (adjacency weights : List ℕ) (b : Buffers) (F : Fits n adja
       numbered = refl;
       stored =
           rw (
-            stored-front (replicate (n * n) 0) table (b .inverse) (n * n) inverse-bytes (length-replicate {A = ℕ} (n * n) 0) (F .1 .1 .1 .0),
-            stored-front new vector (b .witness) n witness-bytes l (F .1 .1 .1 .1 .1 .0),
-            stored-front (replicate (n * n) 0) spare (b .work) (n * n) work-bytes (length-replicate {A = ℕ} (n * n) 0) (F .1 .1 .1 .1 .1 .1 .0),
+            stored-front (replicate (n * n) 0) table (b .inverse) (n * n) inverse-bytes (length-replicate {A = ℕ} (n * n) 0) (F .fits .inverse-fits),
+            stored-front new vector (b .witness) n witness-bytes l (F .fits .witness-fits),
+            stored-front (replicate (n * n) 0) spare (b .work) (n * n) work-bytes (length-replicate {A = ℕ} (n * n) 0) (F .fits .work-fits),
           );
     }

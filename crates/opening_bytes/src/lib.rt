@@ -7,8 +7,8 @@ ghost use Prim.Native.Nat.{ℕ, _*_, _≤_};
 ghost use lib.ListN.{length};
 ghost use Rattle.residue.specs.Modulus.{modulus};
 ghost use Rattle.matching.specs.Host.{opening-number, HostOpens, HostOpenedExactly};
-ghost use Rattle.opening.specs.Answers.{opening-of, buffers};
-ghost use Rattle.opening_bytes.specs.Opened.{Fits, Lends, first-stored, FitsBits, after};
+ghost use Rattle.opening.specs.Meaning.{opening-of, buffers};
+ghost use Rattle.opening_bytes.specs.Opened.{HostOpeningFits, Lends, first-stored, OpeningNumberFits, after};
 
 // Stores the words of the inverse, the witness and the work buffer as bytes.
 fn store(
@@ -44,9 +44,14 @@ fn pack(
 ) -> u64
     requires { ⌜ (n * n ≤ length (now table)) × (n ≤ length (now vector)) × (n * n ≤ length (now spare)) ⌝ }
     requires { ⌜ (2 * (n * n) ≤ length (now inverse)) × (2 * n ≤ length (now witness)) × (2 * (n * n) ≤ length (now work)) ⌝ }
-    requires { ⌜ FitsBits (opening-of opened) ⌝ }
+    requires { ⌜ OpeningNumberFits (opening-of opened) ⌝ }
     ensures { λ r. ⌜ r ≡ opening-number (opening-of opened) ⌝ }
-    ensures { λ _. ⌜ ((new old : List ℕ) → buffers (now (inverse .exit)) new (now (witness .exit)) (now (work .exit)) ≡ after n (opening-of opened) (buffers (now (table .entry)) new (now (vector .entry)) (now (spare .entry))) (buffers (now (inverse .entry)) old (now (witness .entry)) (now (work .entry)))) ⌝ }
+    ensures { λ _.
+        ⌜ ((new old : List ℕ)
+        → buffers (now (inverse .exit)) new (now (witness .exit)) (now (work .exit))
+        ≡ after n (opening-of opened)
+        (buffers (now (table .entry)) new (now (vector .entry)) (now (spare .entry)))
+        (buffers (now (inverse .entry)) old (now (witness .entry)) (now (work .entry)))) ⌝ }
 {
     match opened {
         Opening::Opened(session) => {
@@ -75,11 +80,12 @@ fn open_over(
     witness: &mut [u8],
     work: &mut [u8],
 ) -> u64
-    requires { ⌜ Fits n (now adjacency) (now weights) (buffers (now inverse) (now sequence) (now witness) (now work)) ⌝ }
+    requires { ⌜ HostOpeningFits n (now adjacency) (now weights) (buffers (now inverse) (now sequence) (now witness) (now work)) ⌝ }
     requires { ⌜ Lends n (now values) (now table) (now vector) (now spare) ⌝ }
     ensures { λ r.
         let lent = buffers (now (inverse .entry)) (now (sequence .entry)) (now (witness .entry)) (now (work .entry)) in
-        ⌜ HostOpens modulus n (now (adjacency .entry)) (now (weights .entry)) lent r (buffers (now (inverse .exit)) (now (sequence .exit)) (now (witness .exit)) (now (work .exit))) ⌝ }
+        let after = buffers (now (inverse .exit)) (now (sequence .exit)) (now (witness .exit)) (now (work .exit)) in
+        ⌜ HostOpens modulus n (now (adjacency .entry)) (now (weights .entry)) lent r after ⌝ }
 {
     packing::unpack(weights, values);
     let opened = opening::begin(n, adjacency, values, table, sequence, vector, spare);
@@ -96,13 +102,14 @@ fn open_words(
     witness: &mut [u8],
     work: &mut [u8],
 ) -> u64
-    requires { ⌜ Fits n (now adjacency) (now weights) (buffers (now inverse) (now sequence) (now witness) (now work)) ⌝ }
+    requires { ⌜ HostOpeningFits n (now adjacency) (now weights) (buffers (now inverse) (now sequence) (now witness) (now work)) ⌝ }
     ensures { λ r.
         let lent = buffers (now (inverse .entry)) (now (sequence .entry)) (now (witness .entry)) (now (work .entry)) in
-        ⌜ HostOpens modulus n (now (adjacency .entry)) (now (weights .entry)) lent r (buffers (now (inverse .exit)) (now (sequence .exit)) (now (witness .exit)) (now (work .exit))) ⌝ }
+        let after = buffers (now (inverse .exit)) (now (sequence .exit)) (now (witness .exit)) (now (work .exit)) in
+        ⌜ HostOpens modulus n (now (adjacency .entry)) (now (weights .entry)) lent r after ⌝ }
 {
     let count = checks::weights_needed(n);
-    let size = n * n;
+    let cells = n * n;
     if n <= 32 {
         // 32 * 31 / 2, 32 * 32 and 32 words.
         let mut values = [0u16; 496];
@@ -114,9 +121,9 @@ fn open_words(
             adjacency,
             weights,
             &mut values[..count],
-            &mut table[..size],
+            &mut table[..cells],
             &mut vector[..n],
-            &mut spare[..size],
+            &mut spare[..cells],
             inverse,
             sequence,
             witness,
@@ -134,9 +141,9 @@ fn open_words(
             adjacency,
             weights,
             &mut values[..count],
-            &mut table[..size],
+            &mut table[..cells],
             &mut vector[..n],
-            &mut spare[..size],
+            &mut spare[..cells],
             inverse,
             sequence,
             witness,
@@ -153,9 +160,9 @@ fn open_words(
         adjacency,
         weights,
         &mut values[..count],
-        &mut table[..size],
+        &mut table[..cells],
         &mut vector[..n],
-        &mut spare[..size],
+        &mut spare[..cells],
         inverse,
         sequence,
         witness,
@@ -175,7 +182,8 @@ pub fn begin(
 ) -> u64
     ensures { λ r.
         let lent = buffers (now (inverse .entry)) (now (sequence .entry)) (now (witness .entry)) (now (work .entry)) in
-        ⌜ HostOpens modulus n (now (adjacency .entry)) (now (weights .entry)) lent r (buffers (now (inverse .exit)) (now (sequence .exit)) (now (witness .exit)) (now (work .exit))) ⌝ }
+        let after = buffers (now (inverse .exit)) (now (sequence .exit)) (now (witness .exit)) (now (work .exit)) in
+        ⌜ HostOpens modulus n (now (adjacency .entry)) (now (weights .entry)) lent r after ⌝ }
     ensures { λ r.
         let lent = buffers (now (inverse .entry)) (now (sequence .entry)) (now (witness .entry)) (now (work .entry)) in
         ⌜ HostOpenedExactly modulus n (now (adjacency .entry)) (now (weights .entry)) lent r ⌝ }

@@ -1,6 +1,5 @@
 -- What appending a pair leaves. Assumes nothing.
 use mathlib.Core.Path.{_≡_, sym, ap, _∙_}
-use mathlib.Core.Logic.{_≢_}
 use mathlib.Core.List.{List, _++_}
 use Prim.Native.Nat.{ℕ, _+_, _*_, _/_, _%_, _≤_, _<_}
 use native.Mathlib.Omega.{arith}
@@ -10,10 +9,9 @@ use Rattle.lists.specs.Values.{list-of, getD-list-of}
 use Rattle.lists.specs.Table.{table, vector, row-below, column-below, index-of}
 use Rattle.lists.specs.Choose.{choose-no}
 use Rattle.lists.specs.Onto.{onto}
-use Rattle.modular.specs.Congruence.{Congruent, equals, flip, _⨾_, _⊖_, _⊛_, linear}
-use Rattle.modular.specs.Prime.{remainder, by-remainders}
-use Rattle.modular.specs.Reciprocal.{Reciprocal}
-use Rattle.residue.specs.Modulus.{modulus, modulus-prime}
+use Rattle.modular.specs.Congruence.{Congruent, flip, _⨾_, _⊖_, _⊛_, linear}
+use Rattle.modular.specs.Prime.{OddPrime, remainder}
+use Rattle.modular.specs.Reciprocal.{Reciprocal, reciprocal-unit}
 use Rattle.skew.specs.Subset.{Subset, Without}
 use Rattle.skew.specs.Inverse.{column}
 use Rattle.skew.specs.Update.{Update}
@@ -22,7 +20,7 @@ use Rattle.matching.specs.Graph.{Graph, tutte}
 use Rattle.matching.specs.Pairs.{Pair, pair-of}
 use Rattle.matching.specs.Session.{InverseTable}
 use Rattle.matching.specs.Model.{skew}
-use Rattle.laws.specs.Facts.{pair-of-smaller}
+use Rattle.laws.specs.ModelLaws.{pair-of-smaller}
 use Rattle.update.specs.Rows.{Updated}
 use Rattle.pairing.specs.declared.Pair as declared
 
@@ -45,17 +43,17 @@ pair-below n a b ha hb e q = rw q (go (decLt a b))
     go (no l) = rw (pair-unordered a b (omega arith)) (hb, ha)
 
 -- the update of rank two by columns a and b, every word reduced
-pub record Shrunk (n a b : ℕ) (t t′ : List ℕ) : Type 0 where
+pub record Shrunk (p n a b : ℕ) (t t′ : List ℕ) : Type 0 where
   pub factor : ℕ
-  pub reciprocal : Reciprocal modulus (table n t a b % modulus) factor
+  pub reciprocal : Reciprocal p (table n t a b % p) factor
   pub size : length t′ ≡ length t
-  pub small : (i j : ℕ) → i < n → j < n → table n t′ i j < modulus
-  pub update : Update modulus n (table n t) (column (table n t) a) (column (table n t) b) factor (table n t′)
+  pub small : (i j : ℕ) → i < n → j < n → table n t′ i j < p
+  pub update : Update p n (table n t) (column (table n t) a) (column (table n t) b) factor (table n t′)
 
 -- that of its parts: columns copied, and the update of the copies
-pub shrunk : {n a b factor : ℕ} {t t′ x y : List ℕ} → a < n → x ≡ list-of n (λ k. table n t k a) → y ≡ list-of n (λ k. table n t k b)
-    → Reciprocal modulus (vector y a % modulus) factor → Updated n x y factor t t′ → Shrunk n a b t t′
-shrunk {n} {a} {b} {factor} {t} {t′} {x} {y} ha ex ey R U = record {
+pub shrunk : {p n a b factor : ℕ} {t t′ x y : List ℕ} → a < n → x ≡ list-of n (λ k. table n t k a) → y ≡ list-of n (λ k. table n t k b)
+    → Reciprocal p (vector y a % p) factor → Updated p n x y factor t t′ → Shrunk p n a b t t′
+shrunk {n = n} {a = a} {b = b} {factor = factor} {t = t} {x = x} {y = y} ha ex ey R U = record {
   factor = factor;
   reciprocal = rw (in-y a ha) at R;
   size = U .size;
@@ -69,24 +67,23 @@ shrunk {n} {a} {b} {factor} {t} {t′} {x} {y} ha ex ey R U = record {
     in-y : (k : ℕ) → k < n → vector y k ≡ table n t k b
     in-y k h = ap (λ l. getD l k 0) ey ∙ getD-list-of n (λ k. table n t k b) k h
 
--- a reciprocal is one where the number is not 0
-pub unit : {x h : ℕ} → Reciprocal modulus (x % modulus) h → ¬ Congruent modulus x 0 → Congruent modulus (h * x) 1
-unit {x} {h} R d =
-    let nonzero : x % modulus % modulus ≢ 0 = λ e. d (flip (remainder x) ⨾ flip (remainder (x % modulus)) ⨾ equals e) in
-    linear (by-remainders (x % modulus * h) 1 (R .of-nonzero nonzero) ⊖ h ⊛ remainder x) (omega arith)
+-- the reciprocal of a remainder is one of the number itself, where that is not 0
+pub unit : {p x h : ℕ} → 1 < p → Reciprocal p (x % p) h → ¬ Congruent p x 0 → Congruent p (h * x) 1
+unit {x = x} {h = h} above R d =
+    linear (reciprocal-unit above R (λ z. d (flip (remainder x) ⨾ z)) ⊖ h ⊛ remainder x) (omega arith)
 
 -- words below p, entry by entry
-pub small-words : (n : ℕ) (t : List ℕ) → ((i j : ℕ) → i < n → j < n → table n t i j < modulus) → (x : ℕ) → x < n * n → getD t x 0 < modulus
+pub small-words : {p : ℕ} (n : ℕ) (t : List ℕ) → ((i j : ℕ) → i < n → j < n → table n t i j < p) → (x : ℕ) → x < n * n → getD t x 0 < p
 small-words n t h x l = rw (index-of n x) at (h (x / n) (x % n) (row-below n x l) (column-below n x l))
 
 -- the inverse for a set without a and b
-pub shrunk-inverse : (g : Graph) {L M : Subset} {a b : ℕ} {t t′ : List ℕ} → Without L a b M → a < g .n → b < g .n → InverseTable modulus g L t
-    → ¬ Congruent modulus (table (g .n) t a b) 0 → Shrunk (g .n) a b t t′ → InverseTable modulus g M t′
-shrunk-inverse g {t′ = t′} s ha hb I d S = record {
+pub shrunk-inverse : {p : ℕ} → OddPrime p → (g : Graph) {L M : Subset} {a b : ℕ} {t t′ : List ℕ} → Without L a b M → a < g .n → b < g .n → InverseTable p g L t
+    → ¬ Congruent p (table (g .n) t a b) 0 → Shrunk p (g .n) a b t t′ → InverseTable p g M t′
+shrunk-inverse {p} P g {t′ = t′} s ha hb I d S = record {
   small = small-words (g .n) t′ (S .small);
   is-inverse =
-      inverse-without modulus (g .n) (tutte g modulus) (modulus-prime .odd) (skew modulus-prime g) s ha hb (I .is-inverse)
-      (S .factor) (unit (S .reciprocal) d) (S .update);
+      inverse-without p (g .n) (tutte g p) (P .odd) (skew P g) s ha hb (I .is-inverse)
+      (S .factor) (unit (P .prime .above-one) (S .reciprocal) d) (S .update);
 }
 
 -- the first words of a buffer, and those that take their place
@@ -94,7 +91,7 @@ pub onto-part : (new old : List ℕ) {k : ℕ} → length new ≡ k → new ++ d
 onto-part new old e = ap (λ k. new ++ drop k old) (sym e)
 
 -- what appending is lent
-pub record Room (n made : ℕ) (inverse sequence marks : List ℕ) (a b : ℕ) : Type 0 where
+pub record AppendRoom (n made : ℕ) (inverse sequence marks : List ℕ) (a b : ℕ) : Type 0 where
   pub size : n ≤ 96
   pub entries : n * n ≤ length inverse
   pub bytes : made + made + 1 < length sequence
@@ -104,10 +101,10 @@ pub record Room (n made : ℕ) (inverse sequence marks : List ℕ) (a b : ℕ) :
   pub b-below : b < n
 
 -- and what it leaves
-pub record Appended (n made a b : ℕ) (inverse sequence marks : List ℕ) (e : Pair) (inverse′ sequence′ marks′ : List ℕ) : Type 0 where
+pub record Appended (p n made a b : ℕ) (inverse sequence marks : List ℕ) (e : Pair) (inverse′ sequence′ marks′ : List ℕ) : Type 0 where
   pub pair : e ≡ pair-of a b
   pub words : List ℕ
-  pub shrinks : Shrunk n a b (take (n * n) inverse) words
+  pub shrinks : Shrunk p n a b (take (n * n) inverse) words
   pub inverse-is : inverse′ ≡ onto words inverse
   pub sequence-is : sequence′ ≡ set (set sequence (made + made) (e .smaller)) (made + made + 1) (e .larger)
   pub marks-is : marks′ ≡ set (set marks (e .smaller) 0) (e .larger) 0

@@ -11,10 +11,9 @@ use Rattle.lists.specs.Table.{table, vector}
 use Rattle.lists.specs.Onto.{onto}
 use Rattle.modular.specs.Congruence.{Congruent, equals, _⊕_, _⊖_, _⊛_, linear}
 use Rattle.modular.specs.Sum.{sum, sum-equal, sum-add, sum-vanish}
-use Rattle.modular.specs.Prime.{remainder, below-equal}
+use Rattle.modular.specs.Prime.{OddPrime, remainder, below-equal}
 use Rattle.modular.specs.Operations.{negative, negative-plus}
 use Rattle.modular.specs.Reciprocal.{Reciprocal}
-use Rattle.residue.specs.Modulus.{modulus, modulus-prime}
 use Rattle.skew.specs.Subset.{Subset, Without}
 use Rattle.skew.specs.Inverse.{Matrix, Vector, apply, Skew, Invertible}
 use Rattle.skew.specs.Add.{Border, inverse-with, invertible-with}
@@ -27,15 +26,15 @@ use Rattle.update.specs.Rows.{Updated}
 use Rattle.pairing.specs.Appended.{unit, small-words}
 
 -- whether a set has an inverse, and the words then: the inverse for it, or those from before
-pub record GrownTo (g : Graph) (L : Subset) (t : List ℕ) (r : Bool) (t′ : List ℕ) : Type 0 where
-  pub held : r ≡ true → InverseTable modulus g L t′
-  pub none : r ≡ false → ¬ Invertible modulus (g .n) (tutte g modulus) L
+pub record GrownTo (p : ℕ) (g : Graph) (L : Subset) (t : List ℕ) (r : Bool) (t′ : List ℕ) : Type 0 where
+  pub held : r ≡ true → InverseTable p g L t′
+  pub none : r ≡ false → ¬ Invertible p (g .n) (tutte g p) L
 
 -- from the inverse for a set to that for the set with a and b
-pub record Grows (g : Graph) (a b : ℕ) (t : List ℕ) (r : Bool) (t′ : List ℕ) : Type 0 where
+pub record Grows (p : ℕ) (g : Graph) (a b : ℕ) (t : List ℕ) (r : Bool) (t′ : List ℕ) : Type 0 where
   pub size : length t′ ≡ length t
   pub same : r ≡ false → t′ ≡ t
-  pub grown : (L M : Subset) → Without L a b M → InverseTable modulus g M t → GrownTo g L t r t′
+  pub grown : (L M : Subset) → Without L a b M → InverseTable p g M t → GrownTo p g L t r t′
 
 -- in a skew matrix column b against a vector is minus row b against it
 turned : {p : ℕ} (n : ℕ) (A : Matrix) → Skew p n A → (x : Vector) (b : ℕ) → b < n → Congruent p (apply n A x b + sum n (λ k. A k b * x k)) 0
@@ -45,24 +44,24 @@ turned {p} n A K x b hb =
     (sum-vanish n {f = λ k. A b k * x k + A k b * x k} (λ k hk. linear (x k ⊛ K .turn b k hb hk) (omega arith)))
     (omega (arith, sum-add n (λ k. A b k * x k) (λ k. A k b * x k)))
 
-module _ (g : Graph) {a b d : ℕ} {t column₁ column₂ x y : List ℕ} (ha : a < g .n) (hb : b < g .n)
-    (first : column₁ ≡ list-of (g .n) (λ k. tutte g modulus k a)) (second : column₂ ≡ list-of (g .n) (λ k. tutte g modulus k b))
-    (X : Bordered (g .n) t column₁ a x) (Y : Bordered (g .n) t column₂ b y)
-    (against : d ≡ sum (g .n) (λ k. vector column₂ k * vector x k) % modulus) where
+module _ {p : ℕ} (P : OddPrime p) (g : Graph) {a b d : ℕ} {t column₁ column₂ x y : List ℕ} (ha : a < g .n) (hb : b < g .n)
+    (first : column₁ ≡ list-of (g .n) (λ k. tutte g p k a)) (second : column₂ ≡ list-of (g .n) (λ k. tutte g p k b))
+    (X : Bordered p (g .n) t column₁ a x) (Y : Bordered p (g .n) t column₂ b y)
+    (against : d ≡ sum (g .n) (λ k. vector column₂ k * vector x k) % p) where
   abbrev A : Matrix
-  A = tutte g modulus
+  A = tutte g p
 
-  border-x : Border modulus (g .n) A (table (g .n) t) a (vector x)
+  border-x : Border p (g .n) A (table (g .n) t) a (vector x)
   border-x = border-of X (λ k hk. equals (ap (λ l. getD l k 0) first ∙ getD-list-of _ _ k hk))
 
-  border-y : Border modulus (g .n) A (table (g .n) t) b (vector y)
+  border-y : Border p (g .n) A (table (g .n) t) b (vector y)
   border-y = border-of Y (λ k hk. equals (ap (λ l. getD l k 0) second ∙ getD-list-of _ _ k hk))
 
   -- the entry of the Schur complement is minus d
-  entry : Congruent modulus (apply (g .n) A (vector x) b + d) 0
+  entry : Congruent p (apply (g .n) A (vector x) b + d) 0
   entry =
       linear
-      (turned (g .n) A (skew modulus-prime g) (vector x) b hb
+      (turned (g .n) A (skew P g) (vector x) b hb
       ⊕ equals against
       ⊕ remainder (sum (g .n) (λ k. vector column₂ k * vector x k)))
       (omega (
@@ -71,19 +70,19 @@ module _ (g : Graph) {a b d : ℕ} {t column₁ column₂ x y : List ℕ} (ha : 
             (λ k hk. ap (λ w. w * vector x k) (ap (λ l. getD l k 0) second ∙ getD-list-of _ _ k hk)),
       ))
 
-  pub grows-not : d ≡ 0 → Grows g a b t false t
+  pub grows-not : d ≡ 0 → Grows p g a b t false t
   grows-not e = record {
     size = refl;
     same = λ _. refl;
     grown = λ L M s I. record {
       held = λ q. absurd (true≢false (sym q));
       none = λ _ J.
-          invertible-with modulus-prime (g .n) A (skew modulus-prime g) s ha hb (I .is-inverse) border-x border-y .0 J
+          invertible-with P (g .n) A (skew P g) s ha hb (I .is-inverse) border-x border-y .0 J
           (linear (entry ⊖ equals e) (omega arith));
     };
   }
 
-  pub grows-so : {h : ℕ} {t′ : List ℕ} → d ≢ 0 → d < modulus → Reciprocal modulus (d % modulus) h → Updated (g .n) x y (negative modulus h) t t′ → Grows g a b t true t′
+  pub grows-so : {h : ℕ} {t′ : List ℕ} → d ≢ 0 → d < p → Reciprocal p (d % p) h → Updated p (g .n) x y (negative p h) t t′ → Grows p g a b t true t′
   grows-so {h} {t′} nonzero small R U = record {
     size = U .size;
     same = λ q. absurd (true≢false q);
@@ -91,29 +90,29 @@ module _ (g : Graph) {a b d : ℕ} {t column₁ column₂ x y : List ℕ} (ha : 
       held = λ _. record {
         small = small-words (g .n) t′ (U .small);
         is-inverse =
-            inverse-with modulus (g .n) A (modulus-prime .odd) (skew modulus-prime g) s ha hb (I .is-inverse) border-x border-y
-            (negative modulus h) factor (U .update);
+            inverse-with p (g .n) A (P .odd) (skew P g) s ha hb (I .is-inverse) border-x border-y
+            (negative p h) factor (U .update);
       };
       none = λ q. absurd (true≢false q);
     };
   }
     where
-      positive : 0 < modulus
-      positive = omega (arith, modulus-prime .prime .above-one)
+      positive : 0 < p
+      positive = omega (arith, P .prime .above-one)
 
-      one : Congruent modulus (h * d) 1
-      one = unit R (λ z. nonzero (below-equal small positive z))
+      one : Congruent p (h * d) 1
+      one = unit (P .prime .above-one) R (λ z. nonzero (below-equal small positive z))
 
-      factor : Congruent modulus (negative modulus h * apply (g .n) A (vector x) b) 1
+      factor : Congruent p (negative p h * apply (g .n) A (vector x) b) 1
       factor =
           linear
           (apply (g .n) A (vector x) b ⊛ negative-plus positive h ⊖ h ⊛ entry ⊕ one)
           (omega arith)
 
 -- what removing a pair leaves; made is the number of pairs after it
-pub record Removed (g : Graph) (made a b : ℕ) (inverse sequence marks : List ℕ) (r : Bool) (inverse′ sequence′ marks′ : List ℕ) : Type 0 where
+pub record Removed (p : ℕ) (g : Graph) (made a b : ℕ) (inverse sequence marks : List ℕ) (r : Bool) (inverse′ sequence′ marks′ : List ℕ) : Type 0 where
   pub words : List ℕ
-  pub grows : Grows g a b (take (g .n * g .n) inverse) r words
+  pub grows : Grows p g a b (take (g .n * g .n) inverse) r words
   pub inverse-is : inverse′ ≡ onto words inverse
   pub sequence-same : r ≡ false → sequence′ ≡ sequence
   pub marks-same : r ≡ false → marks′ ≡ marks

@@ -7,10 +7,11 @@ ghost use Prim.Native.Nat.{_<_};
 ghost use lib.ListN.{length};
 ghost use Rattle.lists.specs.Values.{list-of};
 ghost use Rattle.lists.specs.Table.{table, Square};
+ghost use Rattle.residue.specs.Modulus.{modulus};
 ghost use Rattle.matching.specs.Pairs.{pair-of};
 ghost use Rattle.matching.specs.Graph.{over};
 ghost use Rattle.tutte.specs.Table.{Complete};
-ghost use Rattle.pairing.specs.Appended.{pair-is, Shrunk, Room, Appended};
+ghost use Rattle.pairing.specs.Appended.{pair-is, Shrunk, AppendRoom, Appended};
 ghost use Rattle.pairing.specs.Removed.{Grows, Removed};
 
 // Two different vertices, the smaller first.
@@ -51,7 +52,7 @@ fn column(t: &[u16], n: usize, c: usize, x: &mut [u16])
 // The update by columns a and b, with room for both.
 fn shrink_over(t: &mut [u16], n: usize, a: usize, b: usize, x: &mut [u16], y: &mut [u16])
     requires { ⌜ Square n (now t) × (a < n) × (b < n) × (length (now x) ≡ n) × (length (now y) ≡ n) ⌝ }
-    ensures { λ _. ⌜ Shrunk n a b (now (t .entry)) (now (t .exit)) ⌝ }
+    ensures { λ _. ⌜ Shrunk modulus n a b (now (t .entry)) (now (t .exit)) ⌝ }
 {
     column(t, n, a, x);
     column(t, n, b, y);
@@ -62,7 +63,7 @@ fn shrink_over(t: &mut [u16], n: usize, a: usize, b: usize, x: &mut [u16], y: &m
 // The inverse for a set of vertices becomes that for the set without a and b.
 fn shrink(t: &mut [u16], n: usize, a: usize, b: usize)
     requires { ⌜ Square n (now t) × (a < n) × (b < n) ⌝ }
-    ensures { λ _. ⌜ Shrunk n a b (now (t .entry)) (now (t .exit)) ⌝ }
+    ensures { λ _. ⌜ Shrunk modulus n a b (now (t .entry)) (now (t .exit)) ⌝ }
 {
     let mut x = [0u16; 96];
     let mut y = [0u16; 96];
@@ -79,11 +80,13 @@ pub fn append(
     a: usize,
     b: usize,
 ) -> Pair
-    requires { ⌜ Room n made (now inverse) (now sequence) (now marks) a b ⌝ }
-    ensures { λ e. ⌜ Appended n made a b (now (inverse .entry)) (now (sequence .entry)) (now (marks .entry)) (pair-is e) (now (inverse .exit)) (now (sequence .exit)) (now (marks .exit)) ⌝ }
+    requires { ⌜ AppendRoom n made (now inverse) (now sequence) (now marks) a b ⌝ }
+    ensures { λ e.
+        ⌜ Appended modulus n made a b (now (inverse .entry)) (now (sequence .entry)) (now (marks .entry)) (pair-is e)
+        (now (inverse .exit)) (now (sequence .exit)) (now (marks .exit)) ⌝ }
 {
-    let size = n * n;
-    shrink(&mut inverse[..size], n, a, b);
+    let cells = n * n;
+    shrink(&mut inverse[..cells], n, a, b);
     let e = ordered(a, b);
     let smaller = e.smaller;
     let larger = e.larger;
@@ -110,7 +113,7 @@ fn grow_over(
 ) -> bool
     requires { ⌜ Complete n (now adjacency) (now weights) × Square n (now t) × (a < n) × (b < n) ⌝ }
     requires { ⌜ (length (now column) ≡ n) × (length (now x) ≡ n) × (length (now y) ≡ n) ⌝ }
-    ensures { λ r. ⌜ Grows (over n (now (adjacency .entry)) (now (weights .entry))) a b (now (t .entry)) r (now (t .exit)) ⌝ }
+    ensures { λ r. ⌜ Grows modulus (over n (now (adjacency .entry)) (now (weights .entry))) a b (now (t .entry)) r (now (t .exit)) ⌝ }
 {
     tutte::column(n, adjacency, weights, a, column);
     border::border(t, n, column, a, x);
@@ -129,7 +132,7 @@ fn grow_over(
 // The inverse for a set of vertices becomes that for the set with a and b; whether it has one.
 fn grow(n: usize, adjacency: &[u8], weights: &[u16], t: &mut [u16], a: usize, b: usize) -> bool
     requires { ⌜ Complete n (now adjacency) (now weights) × Square n (now t) × (a < n) × (b < n) ⌝ }
-    ensures { λ r. ⌜ Grows (over n (now (adjacency .entry)) (now (weights .entry))) a b (now (t .entry)) r (now (t .exit)) ⌝ }
+    ensures { λ r. ⌜ Grows modulus (over n (now (adjacency .entry)) (now (weights .entry))) a b (now (t .entry)) r (now (t .exit)) ⌝ }
 {
     let mut column = [0u16; 96];
     let mut x = [0u16; 96];
@@ -160,11 +163,14 @@ pub fn remove(
     a: usize,
     b: usize,
 ) -> bool
-    requires { ⌜ Complete n (now adjacency) (now weights) × Room n made (now inverse) (now sequence) (now marks) a b ⌝ }
-    ensures { λ r. ⌜ Removed (over n (now (adjacency .entry)) (now (weights .entry))) made a b (now (inverse .entry)) (now (sequence .entry)) (now (marks .entry)) r (now (inverse .exit)) (now (sequence .exit)) (now (marks .exit)) ⌝ }
+    requires { ⌜ Complete n (now adjacency) (now weights) × AppendRoom n made (now inverse) (now sequence) (now marks) a b ⌝ }
+    ensures { λ r.
+        let g = over n (now (adjacency .entry)) (now (weights .entry)) in
+        ⌜ Removed modulus g made a b (now (inverse .entry)) (now (sequence .entry)) (now (marks .entry)) r
+        (now (inverse .exit)) (now (sequence .exit)) (now (marks .exit)) ⌝ }
 {
-    let size = n * n;
-    let grown = grow(n, adjacency, weights, &mut inverse[..size], a, b);
+    let cells = n * n;
+    let grown = grow(n, adjacency, weights, &mut inverse[..cells], a, b);
     if !grown {
         return false;
     }

@@ -15,17 +15,17 @@ use Rattle.skew.specs.Subset.{Subset, _∈_, marked, marked-in, clash, marked-o
 use Rattle.skew.specs.Remove.{invertible-without}
 use Rattle.matching.specs.Decision as decision
 use Rattle.matching.specs.Decision.{because, accepted, refused, not?, both?, Cause}
-use Rattle.matching.specs.Graph.{Graph, over, largest, cell, tutte, fault, kind-of, InOrder}
+use Rattle.matching.specs.Graph.{Graph, over, largest, cell, tutte, fault, cell-fault, InOrder}
 use Rattle.matching.specs.Pairs.{Pairs, pair-of, unmatched, in?}
 use Rattle.matching.specs.Session.{InverseTable}
 use Rattle.matching.specs.Model.{Named, named?, needs, adjacent?, skew, Nonsingular, nonsingular?, pick-ruling, OpenPartner}
 use Rattle.matching.specs.Calls.{bit-of}
-use Rattle.laws.specs.Faults.{fault-kind, kind-large, kind-unequal}
-use Rattle.laws.specs.Facts.{pair-of-smaller, pair-of-larger, unmatched-without}
+use Rattle.laws.specs.Faults.{fault-of-cell, fault-large, fault-unequal}
+use Rattle.laws.specs.ModelLaws.{pair-of-smaller, pair-of-larger, unmatched-without}
 use Rattle.laws.specs.Judge.{judge-refused, judge-next, when-at, unless-absent}
 use Rattle.refusals.specs.declared.Ruling.{Ruling}
 use Rattle.refusals.specs.declared.Finding.{Finding}
-use Rattle.refusals.specs.Answers.{ruling-of, Finds}
+use Rattle.refusals.specs.Meaning.{ruling-of, Finds}
 
 -- the tables of n vertices are long enough, and there is a mark for each
 pub record Tables (n : ℕ) (adjacency inverse marks : List ℕ) : Type 0 where
@@ -80,9 +80,9 @@ RowOf n adjacency inverse marks a row v row′ =
 
 -- in a graph in order a cell is its mirror
 module _ {g : Graph} (order : InOrder modulus g) where
-  faultless : (i j : ℕ) → i < g .n → j < g .n → kind-of (cell g i j) (cell g j i) i j ≡ 0
+  faultless : (i j : ℕ) → i < g .n → j < g .n → cell-fault (cell g i j) (cell g j i) i j ≡ 0
   faultless i j hi hj =
-      sym (fault-kind g i j)
+      sym (fault-of-cell g i j)
       ∙ sym (ap₂ (fault g) (index-row (g .n) i j hj) (index-column (g .n) i j hj))
       ∙ order .cells (i * g .n + j) (index-below (g .n) i j hi hj)
 
@@ -91,8 +91,8 @@ module _ {g : Graph} (order : InOrder modulus g) where
     where
       go : Dec (1 < cell g i j) → Dec (cell g i j ≡ cell g j i) → cell g i j ≡ cell g j i
       go _ (yes e) = e
-      go (yes l) (no _) = absurd (omega (arith, faultless i j hi hj, kind-large (cell g i j) (cell g j i) i j l))
-      go (no l) (no e) = absurd (omega (arith, faultless i j hi hj, kind-unequal (cell g i j) (cell g j i) i j (omega arith) d e))
+      go (yes l) (no _) = absurd (omega (arith, faultless i j hi hj, fault-large (cell g i j) (cell g j i) i j l))
+      go (no l) (no e) = absurd (omega (arith, faultless i j hi hj, fault-unequal (cell g i j) (cell g j i) i j (omega arith) d e))
 
   pub cell-pair : (a b : ℕ) → Named (g .n) a b → cell g (pair-of a b .smaller) (pair-of a b .larger) ≡ cell g a b
   cell-pair a b h = go (decLt a b) (decLt b a)

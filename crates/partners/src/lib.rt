@@ -7,7 +7,7 @@ ghost use mathlib.Core.Path.{_≡_};
 ghost use Prim.Native.Nat.{_<_};
 ghost use lib.ListN.{length};
 ghost use Rattle.matching.specs.Calls.{bit-of};
-ghost use Rattle.refusals.specs.Answers.{ruling-of, Finds};
+ghost use Rattle.refusals.specs.Meaning.{ruling-of, Finds};
 ghost use Rattle.partners.specs.Standing.{Tables, Judges, Marked, FindsPartner, ShowsPartners, RowOf};
 
 // Whether a pick of a and b is accepted: causes 7 to 10. For proved callers.
@@ -109,7 +109,9 @@ pub fn row(
     row: &mut [u8],
 ) -> Ruling
     requires { ⌜ Tables n (now adjacency) (now inverse) (now marks) × (length (now row) ≡ n) ⌝ }
-    ensures { λ r. ⌜ RowOf n (now (adjacency .entry)) (now (inverse .entry)) (now (marks .entry)) a (now (row .entry)) (ruling-of r) (now (row .exit)) ⌝ }
+    ensures { λ r.
+        ⌜ RowOf n (now (adjacency .entry)) (now (inverse .entry)) (now (marks .entry)) a (now (row .entry)) (ruling-of r)
+        (now (row .exit)) ⌝ }
 {
     if n <= a {
         return refusals::refuse(7, 0);

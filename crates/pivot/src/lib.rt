@@ -30,7 +30,9 @@ fn take(t: &mut [u64], n: usize, k: usize, c: usize) -> u64
 // Column c, whose entries become 0, with those of row c.
 fn take_column(t: &mut [u64], n: usize, c: usize, x: &mut [u64])
     requires { ⌜ Square n (now t) × (c < n) × (length (now x) ≡ n) ⌝ }
-    ensures { λ _. ⌜ Taken n n c (now (t .entry)) (now (t .exit)) × Words (λ k. residue k c (getD (now (t .entry)) (place n k c) 0)) (now (x .exit)) ⌝ }
+    ensures { λ _.
+        ⌜ Taken n n c (now (t .entry)) (now (t .exit))
+        × Words (λ k. residue k c (getD (now (t .entry)) (place n k c) 0)) (now (x .exit)) ⌝ }
 {
     let mut k = 0;
     while k < n {
@@ -55,8 +57,10 @@ fn scale(x: &mut [u64], h: u16)
 // Adds a times x and b times y to a row that starts in column lo. The remainders are of numbers below 2^32, and so change nothing; they
 // let the compiler multiply halves.
 fn add(row: &mut [u64], lo: usize, x: &[u64], y: &[u64], a: u32, b: u32)
-    requires { ⌜ (lo + length (now row) ≤ length (now x)) × (lo + length (now row) ≤ length (now y)) × Below limit (now row) × Below modulus (now x) × Below modulus (now y) × (a < modulus) × (b < modulus) ⌝ }
-    ensures { λ _. ⌜ Words (plus-two (vector (now (row .entry))) lo (vector (now (x .entry))) (vector (now (y .entry))) a b) (now (row .exit)) ⌝ }
+    requires { ⌜ (lo + length (now row) ≤ length (now x)) × (lo + length (now row) ≤ length (now y)) × Below limit (now row)
+        × Below modulus (now x) × Below modulus (now y) × (a < modulus) × (b < modulus) ⌝ }
+    ensures { λ _.
+        ⌜ Words (plus-two (vector (now (row .entry))) lo (vector (now (x .entry))) (vector (now (y .entry))) a b) (now (row .exit)) ⌝ }
 {
     if a + b == 0 {
         return;

@@ -1,7 +1,7 @@
 // A refusal, a ruling and a finding: what every check of the library answers. A refusal is made here alone.
 ghost use mathlib.Core.Path.{_≡_};
 ghost use Rattle.matching.specs.Decision.{because, refused};
-ghost use Rattle.refusals.specs.Answers.{refusal-of, ruling-of};
+ghost use Rattle.refusals.specs.Meaning.{refusal-of, ruling-of};
 
 // Why a call is refused: the number of the cause, and the place returned with it.
 pub struct Refusal {

@@ -19,7 +19,7 @@ use Rattle.matching.specs.Host.{answer-number}
 use Rattle.matching.specs.Replay.{call-of, call-count, first-calls, calls-of, lent-answers, list-causes, replay-ruling, numbers-of, Replays, replays, refuses-replay, DemandThreeOf}
 use Rattle.matching.specs.Demand.{FollowsModel}
 use Rattle.laws.specs.Outcomes.{replay-accepted}
-use Rattle.laws.specs.Carried.{refused-keeps, runs-unique, runs-more}
+use Rattle.laws.specs.CallOutcome.{refused-keeps, runs-unique, runs-more}
 use Rattle.laws.specs.Demand.{follows}
 use Rattle.laws.specs.Judge.{judge-first, judge-second}
 

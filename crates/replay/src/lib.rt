@@ -11,8 +11,8 @@ ghost use Rattle.residue.specs.Modulus.{modulus-prime};
 ghost use Rattle.matching.specs.Calls.{Returned, Runs};
 ghost use Rattle.matching.specs.Replay.{calls-of, Replays, DemandThreeOf};
 ghost use Rattle.matching.specs.Session.{state};
-ghost use Rattle.refusals.specs.Answers.{ruling-of};
-ghost use Rattle.calls.specs.Answers.{answer-of};
+ghost use Rattle.refusals.specs.Meaning.{ruling-of};
+ghost use Rattle.calls.specs.Meaning.{answer-of};
 ghost use Rattle.calls.specs.Known.{Known};
 ghost use Rattle.replay.specs.Run.{changed-by, changes, Ran};
 
@@ -56,7 +56,9 @@ fn run(
     requires { ⌜ 3 * length (now answers) ≤ length (now list) ⌝ }
     ensures { λ r.
         let before = state n start (now (adjacency .entry)) (now (weights .entry)) (now (inverse .entry)) (now (sequence .entry)) in
-        ⌜ Ran before (now (list .entry)) (now (answers .entry)) (length (now (answers .entry))) (state n (r .made) (now (adjacency .entry)) (now (weights .entry)) (now (inverse .exit)) (now (sequence .exit))) (now (answers .exit)) (r .changed) ⌝ }
+        let after = state n (r .made) (now (adjacency .entry)) (now (weights .entry)) (now (inverse .exit)) (now (sequence .exit)) in
+        ⌜ Ran before (now (list .entry)) (now (answers .entry)) (length (now (answers .entry))) after
+        (now (answers .exit)) (r .changed) ⌝ }
 {
     let mut made = start;
     let mut changed = false;
@@ -88,14 +90,22 @@ pub fn replay(
     answers: &mut [u64],
 ) -> Replayed
     ensures run { λ r.
-        let before = state (session .size) (session .made) (now (adjacency .entry)) (now (weights .entry)) (now (inverse .entry)) (now (sequence .entry)) in
-        ⌜ Replays modulus-prime before (now (list .entry)) (now (answers .entry)) (ruling-of (r .ruling)) (state (r .session .size) (r .session .made) (now (adjacency .entry)) (now (weights .entry)) (now (inverse .exit)) (now (sequence .exit))) (now (answers .exit)) ⌝ }
+        let before = state (session .size) (session .made)
+        (now (adjacency .entry)) (now (weights .entry)) (now (inverse .entry)) (now (sequence .entry)) in
+        let after = state (r .session .size) (r .session .made)
+        (now (adjacency .entry)) (now (weights .entry)) (now (inverse .exit)) (now (sequence .exit)) in
+        ⌜ Replays modulus-prime before (now (list .entry)) (now (answers .entry)) (ruling-of (r .ruling)) after (now (answers .exit)) ⌝ }
     ensures demand { λ r.
-        let before = state (session .size) (session .made) (now (adjacency .entry)) (now (weights .entry)) (now (inverse .entry)) (now (sequence .entry)) in
-        ⌜ DemandThreeOf modulus-prime before (now (list .entry)) (now (answers .entry)) (state (r .session .size) (r .session .made) (now (adjacency .entry)) (now (weights .entry)) (now (inverse .exit)) (now (sequence .exit))) (now (answers .exit)) ⌝ }
+        let before = state (session .size) (session .made)
+        (now (adjacency .entry)) (now (weights .entry)) (now (inverse .entry)) (now (sequence .entry)) in
+        let after = state (r .session .size) (r .session .made)
+        (now (adjacency .entry)) (now (weights .entry)) (now (inverse .exit)) (now (sequence .exit)) in
+        ⌜ DemandThreeOf modulus-prime before (now (list .entry)) (now (answers .entry)) after (now (answers .exit)) ⌝ }
     ensures changed { λ r.
-        let before = state (session .size) (session .made) (now (adjacency .entry)) (now (weights .entry)) (now (inverse .entry)) (now (sequence .entry)) in
-        ⌜ ((returned : List Returned) → Runs modulus-prime before (calls-of (now (list .entry))) returned → r .changed ≡ changes (ruling-of (r .ruling)) returned) ⌝ }
+        let before = state (session .size) (session .made)
+        (now (adjacency .entry)) (now (weights .entry)) (now (inverse .entry)) (now (sequence .entry)) in
+        ⌜ ((returned : List Returned) → Runs modulus-prime before (calls-of (now (list .entry))) returned
+        → r .changed ≡ changes (ruling-of (r .ruling)) returned) ⌝ }
 {
     let n = session.size;
     let made = session.made;

@@ -1,3 +1,3 @@
 -- What the contracts cite, with its laws.
 pub mod Wide
-pub mod Through
+pub mod HostReplay

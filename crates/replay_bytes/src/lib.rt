@@ -8,15 +8,15 @@ ghost use Rattle.residue.specs.Modulus.{modulus-prime};
 ghost use Rattle.matching.specs.Host.{unpacked-state, handed-back};
 ghost use Rattle.matching.specs.Replay.{HostReplays, HostDemandThree};
 ghost use Rattle.matching.specs.Session.{state};
-ghost use Rattle.crossing.specs.Fit.{HostFits};
-ghost use Rattle.replay_bytes.specs.Through.{extent, ReplaysOver};
+ghost use Rattle.crossing.specs.HostFits.{HostFits};
+ghost use Rattle.replay_bytes.specs.HostReplay.{extent, ReplaysOver};
 
 // Returns how many words are to be stored: none where nothing has changed.
-fn extent(changed: bool, size: usize) -> usize
-    ensures { λ r. ⌜ r ≡ extent changed size ⌝ }
+fn extent(changed: bool, cells: usize) -> usize
+    ensures { λ r. ⌜ r ≡ extent changed cells ⌝ }
 {
     if changed {
-        return size;
+        return cells;
     }
     0
 }
@@ -36,15 +36,16 @@ fn replay_over(
     requires { ⌜ 2 * length (now table) ≤ length (now inverse) ⌝ }
     ensures { λ r.
         let before = state n made (now (adjacency .entry)) (now (weights .entry)) (now (table .entry)) (now (sequence .entry)) in
-        ⌜ ReplaysOver before (now (list .entry)) (now (answers .entry)) (now (inverse .entry)) r (now (inverse .exit)) (now (sequence .exit)) (now (answers .exit)) ⌝ }
+        ⌜ ReplaysOver before (now (list .entry)) (now (answers .entry)) (now (inverse .entry)) r
+        (now (inverse .exit)) (now (sequence .exit)) (now (answers .exit)) ⌝ }
 {
-    let size = table.len();
+    let cells = table.len();
     let session = Session { size: n, made };
     let replayed = replay::replay(session, adjacency, weights, table, sequence, list, answers);
     let after = replayed.session;
     let ruling = replayed.ruling;
     let changed = replayed.changed;
-    let count = extent(changed, size);
+    let count = extent(changed, cells);
     packing::store(table, count, inverse);
     numbers::ruled(5, ruling, after.made)
 }
@@ -63,19 +64,20 @@ fn replay_words(
     requires { ⌜ HostFits (unpacked-state (state n made (now adjacency) (now weights) (now inverse) (now sequence))) ⌝ }
     ensures { λ r.
         let before = state n made (now (adjacency .entry)) (now (weights .entry)) (now (inverse .entry)) (now (sequence .entry)) in
-        ⌜ HostReplays modulus-prime before (now (list .entry)) (now (answers .entry)) r (handed-back before r (now (inverse .exit)) (now (sequence .exit))) (now (answers .exit)) ⌝ }
+        ⌜ HostReplays modulus-prime before (now (list .entry)) (now (answers .entry)) r
+        (handed-back before r (now (inverse .exit)) (now (sequence .exit))) (now (answers .exit)) ⌝ }
 {
     let mut values = [0u16; 4560];
     let mut table = [0u16; 9216];
     crossing::unpack(n, weights, inverse, &mut values, &mut table);
     let count = checks::weights_needed(n);
-    let size = n * n;
+    let cells = n * n;
     replay_over(
         n,
         made,
         adjacency,
         &values[..count],
-        &mut table[..size],
+        &mut table[..cells],
         inverse,
         sequence,
         list,
@@ -96,10 +98,12 @@ pub fn replay(
 ) -> u64
     ensures run { λ r.
         let before = state n made (now (adjacency .entry)) (now (weights .entry)) (now (inverse .entry)) (now (sequence .entry)) in
-        ⌜ HostReplays modulus-prime before (now (list .entry)) (now (answers .entry)) r (handed-back before r (now (inverse .exit)) (now (sequence .exit))) (now (answers .exit)) ⌝ }
+        ⌜ HostReplays modulus-prime before (now (list .entry)) (now (answers .entry)) r
+        (handed-back before r (now (inverse .exit)) (now (sequence .exit))) (now (answers .exit)) ⌝ }
     ensures demand { λ r.
         let before = state n made (now (adjacency .entry)) (now (weights .entry)) (now (inverse .entry)) (now (sequence .entry)) in
-        ⌜ HostDemandThree modulus-prime before (now (list .entry)) (now (answers .entry)) (handed-back before r (now (inverse .exit)) (now (sequence .exit))) (now (answers .exit)) ⌝ }
+        ⌜ HostDemandThree modulus-prime before (now (list .entry)) (now (answers .entry))
+        (handed-back before r (now (inverse .exit)) (now (sequence .exit))) (now (answers .exit)) ⌝ }
 {
     let lengths = checks::judge_lengths(
         n,

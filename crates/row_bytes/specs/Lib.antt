@@ -1,2 +1,2 @@
 -- What the contracts cite, with its laws.
-pub mod Through
+pub mod HostRow

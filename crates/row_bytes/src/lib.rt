@@ -4,8 +4,8 @@ use session::Session;
 ghost use Rattle.residue.specs.Modulus.{modulus-prime};
 ghost use Rattle.matching.specs.Host.{unpacked-state, HostShowsRow};
 ghost use Rattle.matching.specs.Session.{state};
-ghost use Rattle.crossing.specs.Fit.{HostFits};
-ghost use Rattle.row_bytes.specs.Through.{ShowsOver};
+ghost use Rattle.crossing.specs.HostFits.{HostFits};
+ghost use Rattle.row_bytes.specs.HostRow.{ShowsOver};
 
 // Open row over lent words, answered by one number.
 fn row_over(
@@ -18,7 +18,9 @@ fn row_over(
     sequence: &[u8],
     row: &mut [u8],
 ) -> u64
-    ensures { λ r. ⌜ ShowsOver (state n made (now (adjacency .entry)) (now (weights .entry)) (now (inverse .entry)) (now (sequence .entry))) a (now (row .entry)) r (now (row .exit)) ⌝ }
+    ensures { λ r.
+        let before = state n made (now (adjacency .entry)) (now (weights .entry)) (now (inverse .entry)) (now (sequence .entry)) in
+        ⌜ ShowsOver before a (now (row .entry)) r (now (row .exit)) ⌝ }
 {
     let session = Session { size: n, made };
     let shown = session.row(adjacency, weights, inverse, sequence, a, row);
@@ -46,14 +48,14 @@ fn row_words(
     let mut table = [0u16; 9216];
     crossing::unpack(n, weights, inverse, &mut values, &mut table);
     let count = checks::weights_needed(n);
-    let size = n * n;
+    let cells = n * n;
     row_over(
         n,
         made,
         a,
         adjacency,
         &values[..count],
-        &table[..size],
+        &table[..cells],
         sequence,
         row,
     )

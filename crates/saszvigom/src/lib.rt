@@ -5,7 +5,7 @@ ghost use Rattle.matching.specs.Host.{HostOpens, HostOpenedExactly, HostHandles
 ghost use Rattle.matching.specs.Model.{pick, automatic, undo};
 ghost use Rattle.matching.specs.Replay.{HostReplays, HostDemandThree};
 ghost use Rattle.matching.specs.Session.{state};
-ghost use Rattle.opening.specs.Answers.{buffers};
+ghost use Rattle.opening.specs.Meaning.{buffers};
 ghost use Rattle.saszvigom.specs.Version.{version};
 
 // The version of the library: 0.5.0.
@@ -29,7 +29,8 @@ pub extern "C" fn saszvigom_open(
 ) -> u64
     ensures { λ r.
         let lent = buffers (now (inverse .entry)) (now (sequence .entry)) (now (witness .entry)) (now (work .entry)) in
-        ⌜ HostOpens modulus n (now (adjacency .entry)) (now (weights .entry)) lent r (buffers (now (inverse .exit)) (now (sequence .exit)) (now (witness .exit)) (now (work .exit))) ⌝ }
+        let after = buffers (now (inverse .exit)) (now (sequence .exit)) (now (witness .exit)) (now (work .exit)) in
+        ⌜ HostOpens modulus n (now (adjacency .entry)) (now (weights .entry)) lent r after ⌝ }
     ensures { λ r.
         let lent = buffers (now (inverse .entry)) (now (sequence .entry)) (now (witness .entry)) (now (work .entry)) in
         ⌜ HostOpenedExactly modulus n (now (adjacency .entry)) (now (weights .entry)) lent r ⌝ }
@@ -60,7 +61,9 @@ pub extern "C" fn saszvigom_pick(
     ensures handled { λ r.
         let before = state n made (now (adjacency .entry)) (now (weights .entry)) (now (inverse .entry)) (now (sequence .entry)) in
         ⌜ HostHandles modulus-prime before (pick a b) r (handed-back before r (now (inverse .exit)) (now (sequence .exit))) ⌝ }
-    ensures exactly { λ r. ⌜ HostPickedExactly modulus-prime (state n made (now (adjacency .entry)) (now (weights .entry)) (now (inverse .entry)) (now (sequence .entry))) a b r ⌝ }
+    ensures exactly { λ r.
+        let before = state n made (now (adjacency .entry)) (now (weights .entry)) (now (inverse .entry)) (now (sequence .entry)) in
+        ⌜ HostPickedExactly modulus-prime before a b r ⌝ }
 {
     crossing::pick(
         n as usize,
@@ -164,10 +167,12 @@ pub extern "C" fn saszvigom_replay(
 ) -> u64
     ensures run { λ r.
         let before = state n made (now (adjacency .entry)) (now (weights .entry)) (now (inverse .entry)) (now (sequence .entry)) in
-        ⌜ HostReplays modulus-prime before (now (calls .entry)) (now (answers .entry)) r (handed-back before r (now (inverse .exit)) (now (sequence .exit))) (now (answers .exit)) ⌝ }
+        ⌜ HostReplays modulus-prime before (now (calls .entry)) (now (answers .entry)) r
+        (handed-back before r (now (inverse .exit)) (now (sequence .exit))) (now (answers .exit)) ⌝ }
     ensures demand { λ r.
         let before = state n made (now (adjacency .entry)) (now (weights .entry)) (now (inverse .entry)) (now (sequence .entry)) in
-        ⌜ HostDemandThree modulus-prime before (now (calls .entry)) (now (answers .entry)) (handed-back before r (now (inverse .exit)) (now (sequence .exit))) (now (answers .exit)) ⌝ }
+        ⌜ HostDemandThree modulus-prime before (now (calls .entry)) (now (answers .entry))
+        (handed-back before r (now (inverse .exit)) (now (sequence .exit))) (now (answers .exit)) ⌝ }
 {
     replay_bytes::replay(
         n as usize,
@@ -184,7 +189,9 @@ pub extern "C" fn saszvigom_replay(
 // Reads a sheet into an adjacency table and weights: document 01, "Sheet records", through the host.
 #[no_mangle]
 pub extern "C" fn saszvigom_read(sheet: &[u8], adjacency: &mut [u8], weights: &mut [u8]) -> u64
-    ensures { λ r. ⌜ HostReads (now (sheet .entry)) (now (adjacency .entry)) (now (weights .entry)) r (now (adjacency .exit)) (now (weights .exit)) ⌝ }
+    ensures { λ r.
+        ⌜ HostReads (now (sheet .entry)) (now (adjacency .entry)) (now (weights .entry)) r
+        (now (adjacency .exit)) (now (weights .exit)) ⌝ }
 {
     sheet_bytes::read(sheet, adjacency, weights)
 }

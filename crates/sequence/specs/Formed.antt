@@ -17,7 +17,7 @@ use Rattle.matching.specs.Session.{WellFormed}
 use Rattle.laws.specs.Sequence.{left-on, used-on}
 
 -- an adjacency table that is long enough
-pub record Lent (n : ℕ) (adjacency : List ℕ) : Type 0 where
+pub record AdjacencyFits (n : ℕ) (adjacency : List ℕ) : Type 0 where
   pub size : n ≤ largest
   pub cells : n * n ≤ length adjacency
 

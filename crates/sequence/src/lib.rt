@@ -3,14 +3,14 @@
 ghost use mathlib.Core.Path.{_≡_};
 ghost use Prim.Native.Nat.{_+_, _≤_, _<_};
 ghost use lib.ListN.{length, set};
-ghost use Rattle.sequence.specs.Formed.{Lent, Tells, PairFits, Left, Taken, UnusedFrom, Formed};
+ghost use Rattle.sequence.specs.Formed.{AdjacencyFits, Tells, PairFits, Left, Taken, UnusedFrom, Formed};
 
 // The byte of a place that no pair has.
 pub const UNUSED: u8 = 255;
 
 // Whether a and b are a pair in order: the smaller first, both below n, adjacent, and both marked.
 fn fits(n: usize, adjacency: &[u8], marks: &[u8], a: usize, b: usize) -> bool
-    requires { ⌜ Lent n (now adjacency) × (length (now marks) ≡ n) ⌝ }
+    requires { ⌜ AdjacencyFits n (now adjacency) × (length (now marks) ≡ n) ⌝ }
     ensures { λ r. ⌜ Tells (PairFits n (now (adjacency .entry)) (now (marks .entry)) a b) r ⌝ }
 {
     if b <= a {
@@ -42,7 +42,7 @@ fn unmark(marks: &mut [u8], a: usize, b: usize)
 
 // Takes the marks of the first pairs away, as long as the pairs are in order; whether all of them are.
 fn take_pairs(n: usize, adjacency: &[u8], sequence: &[u8], made: usize, marks: &mut [u8]) -> bool
-    requires { ⌜ Lent n (now adjacency) × (made + made ≤ n) × (n ≤ length (now sequence)) × Left n (now sequence) 0 (now marks) ⌝ }
+    requires { ⌜ AdjacencyFits n (now adjacency) × (made + made ≤ n) × (n ≤ length (now sequence)) × Left n (now sequence) 0 (now marks) ⌝ }
     ensures { λ r. ⌜ Taken n (now (adjacency .entry)) (now (sequence .entry)) made (now (marks .exit)) r ⌝ }
 {
     let mut k = 0;
@@ -77,7 +77,7 @@ fn unused_from(sequence: &[u8], start: usize, n: usize) -> bool
 
 // Whether a sequence with so many pairs is well formed; then the marks are those of the vertices left. For proved callers.
 pub fn formed(n: usize, adjacency: &[u8], sequence: &[u8], made: usize, marks: &mut [u8]) -> bool
-    requires { ⌜ Lent n (now adjacency) × (n ≤ length (now sequence)) × (length (now marks) ≡ n) ⌝ }
+    requires { ⌜ AdjacencyFits n (now adjacency) × (n ≤ length (now sequence)) × (length (now marks) ≡ n) ⌝ }
     ensures { λ r. ⌜ Formed n (now (adjacency .entry)) (now (sequence .entry)) made (now (marks .exit)) r ⌝ }
 {
     if n / 2 < made {

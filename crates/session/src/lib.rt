@@ -7,8 +7,8 @@ ghost use Rattle.residue.specs.Modulus.{modulus-prime};
 ghost use Rattle.matching.specs.Model.{pick, automatic, undo};
 ghost use Rattle.matching.specs.Calls.{Handles, PickedExactly, ShowsRow};
 ghost use Rattle.matching.specs.Session.{state};
-ghost use Rattle.refusals.specs.Answers.{ruling-of};
-ghost use Rattle.calls.specs.Answers.{call-is, answer-of};
+ghost use Rattle.refusals.specs.Meaning.{ruling-of};
+ghost use Rattle.calls.specs.Meaning.{call-is, answer-of};
 
 // The size and the number of pairs made.
 pub struct Session {
@@ -39,8 +39,11 @@ impl Session {
         sequence: &mut [u8],
     ) -> Returned
         ensures { λ r.
-            let before = state (self .size) (self .made) (now (adjacency .entry)) (now (weights .entry)) (now (inverse .entry)) (now (sequence .entry)) in
-            ⌜ Handles modulus-prime before (call-is call) (answer-of (r .answer)) (state (r .session .size) (r .session .made) (now (adjacency .entry)) (now (weights .entry)) (now (inverse .exit)) (now (sequence .exit))) ⌝ }
+            let before = state (self .size) (self .made)
+            (now (adjacency .entry)) (now (weights .entry)) (now (inverse .entry)) (now (sequence .entry)) in
+            let after = state (r .session .size) (r .session .made)
+            (now (adjacency .entry)) (now (weights .entry)) (now (inverse .exit)) (now (sequence .exit)) in
+            ⌜ Handles modulus-prime before (call-is call) (answer-of (r .answer)) after ⌝ }
     {
         let n = self.size;
         let made = self.made;
@@ -81,10 +84,14 @@ impl Session {
         b: usize,
     ) -> Returned
         ensures handled { λ r.
-            let before = state (self .size) (self .made) (now (adjacency .entry)) (now (weights .entry)) (now (inverse .entry)) (now (sequence .entry)) in
-            ⌜ Handles modulus-prime before (pick a b) (answer-of (r .answer)) (state (r .session .size) (r .session .made) (now (adjacency .entry)) (now (weights .entry)) (now (inverse .exit)) (now (sequence .exit))) ⌝ }
+            let before = state (self .size) (self .made)
+            (now (adjacency .entry)) (now (weights .entry)) (now (inverse .entry)) (now (sequence .entry)) in
+            let after = state (r .session .size) (r .session .made)
+            (now (adjacency .entry)) (now (weights .entry)) (now (inverse .exit)) (now (sequence .exit)) in
+            ⌜ Handles modulus-prime before (pick a b) (answer-of (r .answer)) after ⌝ }
         ensures exactly { λ r.
-            let before = state (self .size) (self .made) (now (adjacency .entry)) (now (weights .entry)) (now (inverse .entry)) (now (sequence .entry)) in
+            let before = state (self .size) (self .made)
+            (now (adjacency .entry)) (now (weights .entry)) (now (inverse .entry)) (now (sequence .entry)) in
             ⌜ PickedExactly modulus-prime before a b (answer-of (r .answer)) ⌝ }
     {
         self.call(Call::Pick(a, b), adjacency, weights, inverse, sequence)
@@ -99,8 +106,11 @@ impl Session {
         sequence: &mut [u8],
     ) -> Returned
         ensures { λ r.
-            let before = state (self .size) (self .made) (now (adjacency .entry)) (now (weights .entry)) (now (inverse .entry)) (now (sequence .entry)) in
-            ⌜ Handles modulus-prime before automatic (answer-of (r .answer)) (state (r .session .size) (r .session .made) (now (adjacency .entry)) (now (weights .entry)) (now (inverse .exit)) (now (sequence .exit))) ⌝ }
+            let before = state (self .size) (self .made)
+            (now (adjacency .entry)) (now (weights .entry)) (now (inverse .entry)) (now (sequence .entry)) in
+            let after = state (r .session .size) (r .session .made)
+            (now (adjacency .entry)) (now (weights .entry)) (now (inverse .exit)) (now (sequence .exit)) in
+            ⌜ Handles modulus-prime before automatic (answer-of (r .answer)) after ⌝ }
     {
         self.call(Call::Automatic, adjacency, weights, inverse, sequence)
     }
@@ -114,8 +124,11 @@ impl Session {
         sequence: &mut [u8],
     ) -> Returned
         ensures { λ r.
-            let before = state (self .size) (self .made) (now (adjacency .entry)) (now (weights .entry)) (now (inverse .entry)) (now (sequence .entry)) in
-            ⌜ Handles modulus-prime before undo (answer-of (r .answer)) (state (r .session .size) (r .session .made) (now (adjacency .entry)) (now (weights .entry)) (now (inverse .exit)) (now (sequence .exit))) ⌝ }
+            let before = state (self .size) (self .made)
+            (now (adjacency .entry)) (now (weights .entry)) (now (inverse .entry)) (now (sequence .entry)) in
+            let after = state (r .session .size) (r .session .made)
+            (now (adjacency .entry)) (now (weights .entry)) (now (inverse .exit)) (now (sequence .exit)) in
+            ⌜ Handles modulus-prime before undo (answer-of (r .answer)) after ⌝ }
     {
         self.call(Call::Undo, adjacency, weights, inverse, sequence)
     }
@@ -131,8 +144,11 @@ impl Session {
         row: &mut [u8],
     ) -> Shown
         ensures { λ r.
-            let before = state (self .size) (self .made) (now (adjacency .entry)) (now (weights .entry)) (now (inverse .entry)) (now (sequence .entry)) in
-            ⌜ ShowsRow modulus-prime before a (now (row .entry)) (ruling-of (r .ruling)) (state (r .session .size) (r .session .made) (now (adjacency .entry)) (now (weights .entry)) (now (inverse .entry)) (now (sequence .entry))) (now (row .exit)) ⌝ }
+            let before = state (self .size) (self .made)
+            (now (adjacency .entry)) (now (weights .entry)) (now (inverse .entry)) (now (sequence .entry)) in
+            let after = state (r .session .size) (r .session .made)
+            (now (adjacency .entry)) (now (weights .entry)) (now (inverse .entry)) (now (sequence .entry)) in
+            ⌜ ShowsRow modulus-prime before a (now (row .entry)) (ruling-of (r .ruling)) after (now (row .exit)) ⌝ }
     {
         let n = self.size;
         let made = self.made;

@@ -10,7 +10,7 @@ use Rattle.records.specs.Stands.{Stands}
 use Rattle.records.specs.declared.Record.{Record}
 use Rattle.records.specs.declared.Record.the-variants.{Size, Seed}
 use Rattle.records.specs.declared.Next.the-variants.{Whole}
-use Rattle.refusals.specs.Answers.{refusal-of}
+use Rattle.refusals.specs.Meaning.{refusal-of}
 use Rattle.due.specs.Follows.{ReadsOn, Follows, taken-here, rejected-here, undue-here}
 use Rattle.due.specs.Others.{Left, other-kind}
 use Rattle.sheet.specs.declared.Start.{Start}

@@ -10,7 +10,7 @@ ghost use Prim.Native.Nat.{_≤_};
 ghost use Rattle.lists.specs.Table.{Square};
 ghost use Rattle.matching.specs.Graph.{largest};
 ghost use Rattle.matching.specs.Records.{start, sized, cells, FillsFrom};
-ghost use Rattle.sheet.specs.Answers.{read-of};
+ghost use Rattle.sheet.specs.Meaning.{read-of};
 ghost use Rattle.sheet.specs.Headed.{Heads};
 ghost use Rattle.sheet.specs.Filled.{Finishes, Continues};
 
@@ -87,7 +87,9 @@ fn write_graph(
     weights: &mut [u16],
 ) -> Read
     requires { ⌜ Square n (now table) ⌝ }
-    ensures { λ r. ⌜ Finishes n seed count (now (table .entry)) (now (adjacency .entry)) (now (weights .entry)) (read-of r) (now (adjacency .exit)) (now (weights .exit)) ⌝ }
+    ensures { λ r.
+        ⌜ Finishes n seed count (now (table .entry)) (now (adjacency .entry)) (now (weights .entry)) (read-of r)
+        (now (adjacency .exit)) (now (weights .exit)) ⌝ }
 {
     let cells = n * n;
     if adjacency.len() < cells {
@@ -117,7 +119,9 @@ fn read_over(
     weights: &mut [u16],
 ) -> Read
     requires { ⌜ Square n (now table) × (now table ≡ cells n []) ⌝ }
-    ensures { λ r. ⌜ Continues (now (bytes .entry)) next n seed (now (adjacency .entry)) (now (weights .entry)) (read-of r) (now (adjacency .exit)) (now (weights .exit)) ⌝ }
+    ensures { λ r.
+        ⌜ Continues (now (bytes .entry)) next n seed (now (adjacency .entry)) (now (weights .entry)) (read-of r)
+        (now (adjacency .exit)) (now (weights .exit)) ⌝ }
 {
     let edges = edges::read_edges(bytes, next, n, table);
     match edges {
@@ -136,7 +140,9 @@ fn read_rest(
     weights: &mut [u16],
 ) -> Read
     requires { ⌜ n ≤ largest ⌝ }
-    ensures { λ r. ⌜ Continues (now (bytes .entry)) next n seed (now (adjacency .entry)) (now (weights .entry)) (read-of r) (now (adjacency .exit)) (now (weights .exit)) ⌝ }
+    ensures { λ r.
+        ⌜ Continues (now (bytes .entry)) next n seed (now (adjacency .entry)) (now (weights .entry)) (read-of r)
+        (now (adjacency .exit)) (now (weights .exit)) ⌝ }
 {
     // 96 * 96 bytes.
     let mut table = [0u8; 9216];
@@ -155,7 +161,9 @@ fn read_rest(
 // Reads bytes from offset at to their end. A graph fills the first cells of adjacency and the first of weights; a refusal leaves both
 // as they were.
 pub fn read_at(bytes: &[u8], at: usize, adjacency: &mut [u8], weights: &mut [u16]) -> Read
-    ensures { λ r. ⌜ FillsFrom (now (bytes .entry)) at (now (adjacency .entry)) (now (weights .entry)) (read-of r) (now (adjacency .exit)) (now (weights .exit)) ⌝ }
+    ensures { λ r.
+        ⌜ FillsFrom (now (bytes .entry)) at (now (adjacency .entry)) (now (weights .entry)) (read-of r)
+        (now (adjacency .exit)) (now (weights .exit)) ⌝ }
 {
     let head = read_head(bytes, at);
     match head {

@@ -13,7 +13,7 @@ use Rattle.matching.specs.Records.{Read, graph-read, not-read, room, Fills, ref
 use Rattle.matching.specs.Listing.{input-limit}
 use Rattle.matching.specs.Host.{words, Bytes, bytes-of, read-number, HostReads}
 use Rattle.laws.specs.Reading.{reads-fit}
-use Rattle.laws.specs.Bounds.{Answers, more-within, fills-answer}
+use Rattle.laws.specs.Bounds.{AnswerBounds, more-within, fills-answer}
 use Rattle.checks.specs.Weights.{needed, needed-all, needed-small}
 use Rattle.sheet.specs.Filled.{drawn-needed}
 use Rattle.laws.specs.Words.{words-length, stored-front}
@@ -24,7 +24,7 @@ stored-of (graph-read n m) = needed n
 stored-of (not-read why) = 0
 
 -- values has as many words as weights has room for, or as the largest graph needs; the sheet is not longer than what is read of one
-pub record Room (sheet values weights : List ℕ) : Type 0 where
+pub record ReadRoom (sheet values weights : List ℕ) : Type 0 where
   pub few : length sheet ≤ input-limit
   pub within : length values ≤ length (words weights)
   pub enough : (k : ℕ) → k ≤ 4560 → k ≤ length (words weights) → k ≤ length values
@@ -57,7 +57,7 @@ room-weights n adjacency ws = go (decLt (length adjacency) (n * n)) (decLt (leng
     go (yes c) (yes d) e = absurd (let z : _≡_ {A = ℕ} 0 1 = cc in omega arith)
     go (no c) (yes d) e = absurd (let z : _≡_ {A = ℕ} 0 1 = cc in omega arith)
 
-module _ {sheet values weights : List ℕ} (R : Room sheet values weights) where
+module _ {sheet values weights : List ℕ} (R : ReadRoom sheet values weights) where
   -- for a graph of at most 96 vertices
   same : (n : ℕ) (adjacency : List ℕ) → n ≤ largest → room n adjacency values ≡ room n adjacency (words weights)
   same n adjacency h =
@@ -74,10 +74,10 @@ module _ {sheet values weights : List ℕ} (R : Room sheet values weights) where
         omega (arith, needed-all n (F .small), R .within, words-length weights .0),
       )
 
-  pub answers : {adjacency adjacency′ left : List ℕ} {given : Read} → Fills sheet adjacency values given adjacency′ left → Answers given input-limit
+  pub answers : {adjacency adjacency′ left : List ℕ} {given : Read} → Fills sheet adjacency values given adjacency′ left → AnswerBounds given input-limit
   answers {given = given} F = go given (fills-answer F)
     where
-      go : (o : Read) → Answers o (length sheet) → Answers o input-limit
+      go : (o : Read) → AnswerBounds o (length sheet) → AnswerBounds o input-limit
       go (graph-read n m) h = (h .0, omega (arith, h .1, R .few))
       go (not-read why) h = more-within (omega (arith, R .few)) h
 

@@ -7,13 +7,13 @@ ghost use Rattle.lists.specs.Onto.{onto};
 ghost use Rattle.draws.specs.Draws.{draws};
 ghost use Rattle.matching.specs.Listing.{input-limit};
 ghost use Rattle.matching.specs.Host.{bytes-of, read-number, HostReads, HostDraws};
-ghost use Rattle.laws.specs.Bounds.{Answers};
-ghost use Rattle.sheet.specs.Answers.{read-of};
-ghost use Rattle.sheet_bytes.specs.Reads.{stored-of, Room, ReadsFront};
+ghost use Rattle.laws.specs.Bounds.{AnswerBounds};
+ghost use Rattle.sheet.specs.Meaning.{read-of};
+ghost use Rattle.sheet_bytes.specs.Reads.{stored-of, ReadRoom, ReadsFront};
 
 // Returns the host's number for read.
 fn number(read: Read) -> u64
-    requires { ⌜ Answers (read-of read) input-limit ⌝ }
+    requires { ⌜ AnswerBounds (read-of read) input-limit ⌝ }
     ensures { λ r. ⌜ r ≡ read-number (read-of read) ⌝ }
 {
     match read {
@@ -34,8 +34,10 @@ fn stored(read: Read) -> usize
 
 // Reads sheet into adjacency and values, and stores the weights of its graph in weights as bytes.
 fn read_over(sheet: &[u8], adjacency: &mut [u8], values: &mut [u16], weights: &mut [u8]) -> u64
-    requires { ⌜ Room (now sheet) (now values) (now weights) ⌝ }
-    ensures { λ r. ⌜ ReadsFront (now (sheet .entry)) (now (adjacency .entry)) (now (weights .entry)) r (now (adjacency .exit)) (now (weights .exit)) ⌝ }
+    requires { ⌜ ReadRoom (now sheet) (now values) (now weights) ⌝ }
+    ensures { λ r.
+        ⌜ ReadsFront (now (sheet .entry)) (now (adjacency .entry)) (now (weights .entry)) r
+        (now (adjacency .exit)) (now (weights .exit)) ⌝ }
 {
     let read = reader::read(sheet, adjacency, values);
     let count = stored(read);
@@ -46,7 +48,9 @@ fn read_over(sheet: &[u8], adjacency: &mut [u8], values: &mut [u16], weights: &m
 // Calls read_over with words of its own: as many as weights has room for, but at most those that the largest graph needs.
 fn read_words(sheet: &[u8], adjacency: &mut [u8], weights: &mut [u8]) -> u64
     requires { ⌜ length (now sheet) ≤ input-limit ⌝ }
-    ensures { λ r. ⌜ ReadsFront (now (sheet .entry)) (now (adjacency .entry)) (now (weights .entry)) r (now (adjacency .exit)) (now (weights .exit)) ⌝ }
+    ensures { λ r.
+        ⌜ ReadsFront (now (sheet .entry)) (now (adjacency .entry)) (now (weights .entry)) r
+        (now (adjacency .exit)) (now (weights .exit)) ⌝ }
 {
     // 96 * 95 / 2 weights.
     let mut values = [0u16; 4560];
@@ -59,7 +63,9 @@ fn read_words(sheet: &[u8], adjacency: &mut [u8], weights: &mut [u8]) -> u64
 
 // Reads the first 16,384 bytes of sheet, or all of them if it has fewer.
 pub fn read(sheet: &[u8], adjacency: &mut [u8], weights: &mut [u8]) -> u64
-    ensures { λ r. ⌜ HostReads (now (sheet .entry)) (now (adjacency .entry)) (now (weights .entry)) r (now (adjacency .exit)) (now (weights .exit)) ⌝ }
+    ensures { λ r.
+        ⌜ HostReads (now (sheet .entry)) (now (adjacency .entry)) (now (weights .entry)) r
+        (now (adjacency .exit)) (now (weights .exit)) ⌝ }
 {
     if sheet.len() < 16384 {
         return read_words(sheet, adjacency, weights);

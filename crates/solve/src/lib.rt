@@ -101,7 +101,10 @@ fn solve_over(
 ) -> Outcome
     requires { ⌜ Complete n (now adjacency) (now weights) × (length (now set) ≡ n) × Blank n (now t) ⌝ }
     requires { ⌜ (length (now inverse) ≡ n * n) × (length (now witness) ≡ n) ⌝ }
-    ensures { λ o. ⌜ ((S : Subset) → ((i : ℕ) → i < n → S i ≡ marked (now (set .entry)) i) → Solved (over n (now (adjacency .entry)) (now (weights .entry))) S o (now (inverse .entry)) (now (witness .entry)) (now (inverse .exit)) (now (witness .exit))) ⌝ }
+    ensures { λ o.
+        let g = over n (now (adjacency .entry)) (now (weights .entry)) in
+        ⌜ ((S : Subset) → ((i : ℕ) → i < n → S i ≡ marked (now (set .entry)) i)
+        → Solved g S o (now (inverse .entry)) (now (witness .entry)) (now (inverse .exit)) (now (witness .exit))) ⌝ }
 {
     tutte::fill(n, adjacency, weights, set, t);
     let outcome = exchange::run(t, n, set);
@@ -129,12 +132,23 @@ fn solve_small(
 ) -> Outcome
     requires { ⌜ Complete n (now adjacency) (now weights) × (length (now set) ≡ n) × (n ≤ 32) ⌝ }
     requires { ⌜ (length (now inverse) ≡ n * n) × (length (now witness) ≡ n) ⌝ }
-    ensures { λ o. ⌜ ((S : Subset) → ((i : ℕ) → i < n → S i ≡ marked (now (set .entry)) i) → Solved (over n (now (adjacency .entry)) (now (weights .entry))) S o (now (inverse .entry)) (now (witness .entry)) (now (inverse .exit)) (now (witness .exit))) ⌝ }
+    ensures { λ o.
+        let g = over n (now (adjacency .entry)) (now (weights .entry)) in
+        ⌜ ((S : Subset) → ((i : ℕ) → i < n → S i ≡ marked (now (set .entry)) i)
+        → Solved g S o (now (inverse .entry)) (now (witness .entry)) (now (inverse .exit)) (now (witness .exit))) ⌝ }
 {
-    let size = n * n;
+    let cells = n * n;
     // 32 * 32 words.
     let mut t = [0u64; 1024];
-    solve_over(n, adjacency, weights, set, &mut t[..size], inverse, witness)
+    solve_over(
+        n,
+        adjacency,
+        weights,
+        set,
+        &mut t[..cells],
+        inverse,
+        witness,
+    )
 }
 
 // Solves for any graph.
@@ -148,12 +162,23 @@ fn solve_large(
 ) -> Outcome
     requires { ⌜ Complete n (now adjacency) (now weights) × (length (now set) ≡ n) ⌝ }
     requires { ⌜ (length (now inverse) ≡ n * n) × (length (now witness) ≡ n) ⌝ }
-    ensures { λ o. ⌜ ((S : Subset) → ((i : ℕ) → i < n → S i ≡ marked (now (set .entry)) i) → Solved (over n (now (adjacency .entry)) (now (weights .entry))) S o (now (inverse .entry)) (now (witness .entry)) (now (inverse .exit)) (now (witness .exit))) ⌝ }
+    ensures { λ o.
+        let g = over n (now (adjacency .entry)) (now (weights .entry)) in
+        ⌜ ((S : Subset) → ((i : ℕ) → i < n → S i ≡ marked (now (set .entry)) i)
+        → Solved g S o (now (inverse .entry)) (now (witness .entry)) (now (inverse .exit)) (now (witness .exit))) ⌝ }
 {
-    let size = n * n;
+    let cells = n * n;
     // 96 * 96 words.
     let mut t = [0u64; 9216];
-    solve_over(n, adjacency, weights, set, &mut t[..size], inverse, witness)
+    solve_over(
+        n,
+        adjacency,
+        weights,
+        set,
+        &mut t[..cells],
+        inverse,
+        witness,
+    )
 }
 
 // The inverse for a set of vertices, 0 in the other rows and columns; or the witness. What is not found is left as it was. For proved callers,
@@ -168,7 +193,10 @@ pub fn solve(
 ) -> Outcome
     requires { ⌜ Complete n (now adjacency) (now weights) × (length (now set) ≡ n) ⌝ }
     requires { ⌜ (length (now inverse) ≡ n * n) × (length (now witness) ≡ n) ⌝ }
-    ensures { λ o. ⌜ ((S : Subset) → ((i : ℕ) → i < n → S i ≡ marked (now (set .entry)) i) → Solved (over n (now (adjacency .entry)) (now (weights .entry))) S o (now (inverse .entry)) (now (witness .entry)) (now (inverse .exit)) (now (witness .exit))) ⌝ }
+    ensures { λ o.
+        let g = over n (now (adjacency .entry)) (now (weights .entry)) in
+        ⌜ ((S : Subset) → ((i : ℕ) → i < n → S i ≡ marked (now (set .entry)) i)
+        → Solved g S o (now (inverse .entry)) (now (witness .entry)) (now (inverse .exit)) (now (witness .exit))) ⌝ }
 {
     if n <= 32 {
         return solve_small(n, adjacency, weights, set, inverse, witness);

@@ -1,3 +1,3 @@
 -- What the contracts cite, with its laws.
 pub mod Sound
-pub mod Lent
+pub mod Besides

@@ -14,8 +14,8 @@ use Rattle.matching.specs.Causes.{lent-always, lent-to-session, opening-causes,
 use Rattle.laws.specs.Sound.{session-fits, graph-in-order}
 use Rattle.laws.specs.Judge.{judge-accepted, judge-first, judge-second, judge-refused, judge-next, when-at, unless-absent}
 use Rattle.refusals.specs.declared.Ruling.{Ruling}
-use Rattle.refusals.specs.Answers.{ruling-of}
-use Rattle.sequence.specs.Formed.{Lent, Left}
+use Rattle.refusals.specs.Meaning.{ruling-of}
+use Rattle.sequence.specs.Formed.{AdjacencyFits, Left}
 use Rattle.tutte.specs.Table.{Complete}
 
 -- the ruling of causes 1 to 6, and the marks of the vertices left where none applies
@@ -33,13 +33,13 @@ pub judged : (n : ℕ) (adjacency weights inverse sequence : List ℕ)
 judged n adjacency weights inverse sequence e = record { four = sym e }
 
 -- what this makes ready
-pub record Ready (n : ℕ) (adjacency weights inverse sequence : List ℕ) : Type 0 where
-  pub lent : Lent n adjacency
+pub record SessionReady (n : ℕ) (adjacency weights inverse sequence : List ℕ) : Type 0 where
+  pub lent : AdjacencyFits n adjacency
   pub complete : Complete n adjacency weights
   pub inverse-fits : n * n ≤ length inverse
   pub sequence-fits : n ≤ length sequence
 
-pub ready : {n : ℕ} {adjacency weights inverse sequence : List ℕ} → Judged n adjacency weights inverse sequence → Ready n adjacency weights inverse sequence
+pub ready : {n : ℕ} {adjacency weights inverse sequence : List ℕ} → Judged n adjacency weights inverse sequence → SessionReady n adjacency weights inverse sequence
 ready {n} {adjacency} {weights} {inverse} {sequence} J =
     let s = state n 0 adjacency weights inverse sequence in
     let causes = opening-causes modulus (graph-of s) (lent-to-session s []) in

@@ -5,7 +5,7 @@ ghost use mathlib.Core.Path.{_≡_};
 ghost use Prim.Native.Nat.{_≤_};
 ghost use lib.ListN.{length, take};
 ghost use Rattle.soundness.specs.Sound.{Judged, Confirmed};
-ghost use Rattle.soundness.specs.Lent.{ConfirmedLent};
+ghost use Rattle.soundness.specs.Besides.{ConfirmedLent};
 
 // Causes 5 and 6, where none of 1 to 4 applies; where these do not either, the marks are those of the vertices left.
 fn confirm_rest(
@@ -18,7 +18,9 @@ fn confirm_rest(
     marks: &mut [u8],
 ) -> Ruling
     requires { ⌜ Judged n (now adjacency) (now weights) (now inverse) (now sequence) × (length (now marks) ≡ n) ⌝ }
-    ensures { λ r. ⌜ Confirmed n made (now (adjacency .entry)) (now (weights .entry)) (now (inverse .entry)) (now (sequence .entry)) (now (marks .exit)) r ⌝ }
+    ensures { λ r.
+        ⌜ Confirmed n made (now (adjacency .entry)) (now (weights .entry)) (now (inverse .entry)) (now (sequence .entry))
+        (now (marks .exit)) r ⌝ }
 {
     let formed = sequence::formed(n, adjacency, sequence, made, marks);
     if !formed {
@@ -43,7 +45,9 @@ pub fn confirm(
     marks: &mut [u8],
 ) -> Ruling
     requires { ⌜ 96 ≤ length (now marks) ⌝ }
-    ensures { λ r. ⌜ Confirmed n made (now (adjacency .entry)) (now (weights .entry)) (now (inverse .entry)) (now (sequence .entry)) (take n (now (marks .exit))) r ⌝ }
+    ensures { λ r.
+        ⌜ Confirmed n made (now (adjacency .entry)) (now (weights .entry)) (now (inverse .entry)) (now (sequence .entry))
+        (take n (now (marks .exit))) r ⌝ }
 {
     let ruling = checks::judge_session(n, adjacency, weights, inverse.len(), sequence.len());
     if let Ruling::Refused(refusal) = ruling {
@@ -75,7 +79,9 @@ pub fn confirm_lent(
     marks: &mut [u8],
 ) -> Ruling
     requires { ⌜ 96 ≤ length (now marks) ⌝ }
-    ensures { λ r. ⌜ ConfirmedLent (record { number = buffer; length = room; needed = needed }) n made (now (adjacency .entry)) (now (weights .entry)) (now (inverse .entry)) (now (sequence .entry)) (take n (now (marks .exit))) r ⌝ }
+    ensures { λ r.
+        ⌜ ConfirmedLent (record { number = buffer; length = room; needed = needed }) n made (now (adjacency .entry))
+        (now (weights .entry)) (now (inverse .entry)) (now (sequence .entry)) (take n (now (marks .exit))) r ⌝ }
 {
     let lengths = checks::judge_lengths(
         n,

@@ -43,7 +43,9 @@ fn entry(n: usize, adjacency: &[u8], weights: &[u16], set: &[u8], i: usize, j: u
 fn fill_row(n: usize, adjacency: &[u8], weights: &[u16], set: &[u8], i: usize, row: &mut [u64])
     requires { ⌜ Complete n (now adjacency) (now weights) × (length (now set) ≡ n) ⌝ }
     requires { ⌜ (i < n) × (i + 1 + length (now row) ≡ n) ⌝ }
-    ensures { λ _. ⌜ now (row .exit) ≡ row-of (restricted (over n (now (adjacency .entry)) (now (weights .entry))) (marked (now (set .entry)))) i (length (now (row .entry))) ⌝ }
+    ensures { λ _.
+        let g = over n (now (adjacency .entry)) (now (weights .entry)) in
+        ⌜ now (row .exit) ≡ row-of (restricted g (marked (now (set .entry)))) i (length (now (row .entry))) ⌝ }
 {
     let mut k = 0;
     while k < row.len() {
@@ -56,7 +58,9 @@ fn fill_row(n: usize, adjacency: &[u8], weights: &[u16], set: &[u8], i: usize, r
 pub fn fill(n: usize, adjacency: &[u8], weights: &[u16], set: &[u8], table: &mut [u64])
     requires { ⌜ Complete n (now adjacency) (now weights) × (length (now set) ≡ n) ⌝ }
     requires { ⌜ length (now table) ≡ n * n ⌝ }
-    ensures { λ _. ⌜ Filled n (restricted (over n (now (adjacency .entry)) (now (weights .entry))) (marked (now (set .entry)))) n (now (table .entry)) (now (table .exit)) ⌝ }
+    ensures { λ _.
+        let g = over n (now (adjacency .entry)) (now (weights .entry)) in
+        ⌜ Filled n (restricted g (marked (now (set .entry)))) n (now (table .entry)) (now (table .exit)) ⌝ }
 {
     let mut i = 0;
     while i < n {
@@ -79,7 +83,9 @@ fn listed_row(
 )
     requires { ⌜ Complete n (now adjacency) (now weights) × Ascending n (now vertices) ⌝ }
     requires { ⌜ (i < length (now vertices)) × (i + 1 + length (now row) ≡ length (now vertices)) ⌝ }
-    ensures { λ _. ⌜ now (row .exit) ≡ row-of (listed (over n (now (adjacency .entry)) (now (weights .entry))) (now (vertices .entry))) i (length (now (row .entry))) ⌝ }
+    ensures { λ _.
+        let g = over n (now (adjacency .entry)) (now (weights .entry)) in
+        ⌜ now (row .exit) ≡ row-of (listed g (now (vertices .entry))) i (length (now (row .entry))) ⌝ }
 {
     let a = vertices[i] as usize;
     let mut k = 0;
@@ -95,14 +101,17 @@ fn listed_row(
 pub fn fill_listed(n: usize, adjacency: &[u8], weights: &[u16], vertices: &[u8], table: &mut [u64])
     requires { ⌜ Complete n (now adjacency) (now weights) × Ascending n (now vertices) ⌝ }
     requires { ⌜ Square (length (now vertices)) (now table) ⌝ }
-    ensures { λ _. ⌜ Filled (length (now (vertices .entry))) (listed (over n (now (adjacency .entry)) (now (weights .entry))) (now (vertices .entry))) (length (now (vertices .entry))) (now (table .entry)) (now (table .exit)) ⌝ }
+    ensures { λ _.
+        let g = over n (now (adjacency .entry)) (now (weights .entry)) in
+        ⌜ Filled (length (now (vertices .entry))) (listed g (now (vertices .entry))) (length (now (vertices .entry)))
+        (now (table .entry)) (now (table .exit)) ⌝ }
 {
-    let size = vertices.len();
+    let count = vertices.len();
     let mut i = 0;
-    while i < size {
+    while i < count {
         let lo = i + 1;
-        let at = i * size + lo;
-        let end = i * size + size;
+        let at = i * count + lo;
+        let end = i * count + count;
         listed_row(n, adjacency, weights, vertices, i, &mut table[at..end]);
         i += 1;
     }
@@ -130,7 +139,9 @@ fn whole_entry(n: usize, adjacency: &[u8], weights: &[u16], i: usize, j: usize) 
 // Column c of the whole matrix, one word for each row. For proved callers.
 pub fn column(n: usize, adjacency: &[u8], weights: &[u16], c: usize, x: &mut [u16])
     requires { ⌜ Complete n (now adjacency) (now weights) × (c < n) × (length (now x) ≡ n) ⌝ }
-    ensures { λ _. ⌜ now (x .exit) ≡ list-of (length (now (x .entry))) (λ k. tutte (over n (now (adjacency .entry)) (now (weights .entry))) modulus k c) ⌝ }
+    ensures { λ _.
+        let g = over n (now (adjacency .entry)) (now (weights .entry)) in
+        ⌜ now (x .exit) ≡ list-of (length (now (x .entry))) (λ k. tutte g modulus k c) ⌝ }
 {
     let mut k = 0;
     while k < x.len() {

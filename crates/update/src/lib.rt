@@ -10,7 +10,7 @@ ghost use Rattle.update.specs.Rows.{combined, multiple, Updating, Update
 
 // f times a and h times b, added to c and reduced: the only product of this crate.
 fn combine(f: u16, a: u16, h: u16, b: u16, c: u16) -> u16
-    ensures { λ r. ⌜ r ≡ combined f a h b c ⌝ }
+    ensures { λ r. ⌜ r ≡ combined modulus f a h b c ⌝ }
 {
     let sum = f as u64 * a as u64 + h as u64 * b as u64 + c as u64;
     Residue::make(sum).value
@@ -19,7 +19,7 @@ fn combine(f: u16, a: u16, h: u16, b: u16, c: u16) -> u16
 // The words of x times g, reduced.
 fn multiples(x: &[u16], g: u16, u: &mut [u16])
     requires { ⌜ length (now u) ≡ length (now x) ⌝ }
-    ensures { λ _. ⌜ now (u .exit) ≡ list-of (length (now (u .entry))) (multiple g (vector (now (x .entry)))) ⌝ }
+    ensures { λ _. ⌜ now (u .exit) ≡ list-of (length (now (u .entry))) (multiple modulus g (vector (now (x .entry)))) ⌝ }
 {
     let mut j = 0;
     while j < u.len() {
@@ -30,7 +30,7 @@ fn multiples(x: &[u16], g: u16, u: &mut [u16])
 
 // Reduces a row.
 fn reduce_row(row: &mut [u16])
-    ensures { λ _. ⌜ now (row .exit) ≡ list-of (length (now (row .entry))) (λ j. combined 0 0 0 0 (vector (now (row .entry)) j)) ⌝ }
+    ensures { λ _. ⌜ now (row .exit) ≡ list-of (length (now (row .entry))) (λ j. combined modulus 0 0 0 0 (vector (now (row .entry)) j)) ⌝ }
 {
     let mut j = 0;
     while j < row.len() {
@@ -42,7 +42,9 @@ fn reduce_row(row: &mut [u16])
 // Adds f times u and h times v to a row, and reduces it.
 fn combine_row(row: &mut [u16], u: &[u16], v: &[u16], f: u16, h: u16)
     requires { ⌜ (length (now u) ≡ length (now row)) × (length (now v) ≡ length (now row)) ⌝ }
-    ensures { λ _. ⌜ now (row .exit) ≡ list-of (length (now (row .entry))) (λ j. combined f (vector (now (u .entry)) j) h (vector (now (v .entry)) j) (vector (now (row .entry)) j)) ⌝ }
+    ensures { λ _.
+        ⌜ now (row .exit) ≡ list-of (length (now (row .entry)))
+        (λ j. combined modulus f (vector (now (u .entry)) j) h (vector (now (v .entry)) j) (vector (now (row .entry)) j)) ⌝ }
 {
     let mut j = 0;
     while j < row.len() {
@@ -54,7 +56,9 @@ fn combine_row(row: &mut [u16], u: &[u16], v: &[u16], f: u16, h: u16)
 // The same; a row to which nothing is added takes less time.
 fn update_row(row: &mut [u16], u: &[u16], v: &[u16], f: u16, h: u16)
     requires { ⌜ (length (now u) ≡ length (now row)) × (length (now v) ≡ length (now row)) ⌝ }
-    ensures { λ _. ⌜ now (row .exit) ≡ list-of (length (now (row .entry))) (λ j. combined f (vector (now (u .entry)) j) h (vector (now (v .entry)) j) (vector (now (row .entry)) j)) ⌝ }
+    ensures { λ _.
+        ⌜ now (row .exit) ≡ list-of (length (now (row .entry)))
+        (λ j. combined modulus f (vector (now (u .entry)) j) h (vector (now (v .entry)) j) (vector (now (row .entry)) j)) ⌝ }
 {
     if f as u32 + h as u32 == 0 {
         reduce_row(row);
@@ -66,7 +70,7 @@ fn update_row(row: &mut [u16], u: &[u16], v: &[u16], f: u16, h: u16)
 // Adds y(i) times u and x(i) times v to each row i.
 fn update_rows(t: &mut [u16], n: usize, x: &[u16], y: &[u16], u: &[u16], v: &[u16])
     requires { ⌜ Updating n (now t) (now x) (now y) (now u) (now v) ⌝ }
-    ensures { λ _. ⌜ UpdatedTo n n (now (x .entry)) (now (y .entry)) (now (u .entry)) (now (v .entry)) (now (t .entry)) (now (t .exit)) ⌝ }
+    ensures { λ _. ⌜ UpdatedTo modulus n n (now (x .entry)) (now (y .entry)) (now (u .entry)) (now (v .entry)) (now (t .entry)) (now (t .exit)) ⌝ }
 {
     let mut i = 0;
     while i < n {
@@ -80,7 +84,7 @@ fn update_rows(t: &mut [u16], n: usize, x: &[u16], y: &[u16], u: &[u16], v: &[u1
 // The update, with room for the multiples of x and y.
 fn update_over(t: &mut [u16], n: usize, x: &[u16], y: &[u16], g: u16, u: &mut [u16], v: &mut [u16])
     requires { ⌜ Updating n (now t) (now x) (now y) (now u) (now v) × (g < modulus) ⌝ }
-    ensures { λ _. ⌜ Updated n (now (x .entry)) (now (y .entry)) g (now (t .entry)) (now (t .exit)) ⌝ }
+    ensures { λ _. ⌜ Updated modulus n (now (x .entry)) (now (y .entry)) g (now (t .entry)) (now (t .exit)) ⌝ }
 {
     let negative = residue::negative(g as u32);
     multiples(x, g, u);
@@ -91,7 +95,7 @@ fn update_over(t: &mut [u16], n: usize, x: &[u16], y: &[u16], g: u16, u: &mut [u
 // T + g (y xᵀ - x yᵀ), every word reduced. For proved callers.
 pub fn update(t: &mut [u16], n: usize, x: &[u16], y: &[u16], g: u16)
     requires { ⌜ Square n (now t) × (length (now x) ≡ n) × (length (now y) ≡ n) × (g < modulus) ⌝ }
-    ensures { λ _. ⌜ Updated n (now (x .entry)) (now (y .entry)) g (now (t .entry)) (now (t .exit)) ⌝ }
+    ensures { λ _. ⌜ Updated modulus n (now (x .entry)) (now (y .entry)) g (now (t .entry)) (now (t .exit)) ⌝ }
 {
     let mut u = [0u16; 96];
     let mut v = [0u16; 96];

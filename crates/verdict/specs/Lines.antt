@@ -19,7 +19,7 @@ use Rattle.laws.specs.Sound.{GraphFits, opening-accepted}
 use Rattle.laws.specs.Fresh.{opened-sound}
 use Rattle.sequence.specs.Formed.{left-start}
 use Rattle.calls.specs.Known.{Known}
-use Rattle.opening.specs.Answers.{buffers}
+use Rattle.opening.specs.Meaning.{buffers}
 use Rattle.completion.specs.Completed.{Completed}
 use Rattle.text.specs.Puts.{Puts, puts-then}
 
@@ -82,12 +82,12 @@ pub full-lines : {g : Graph} {made : ℕ} {sequence : List ℕ} → Nonsingular 
 full-lines I C = rw (C .pairs-are) (full I (C .come))
 
 -- a graph in order, over tables that are long enough
-pub record Lent (g : Graph) : Type 0 where
+pub record Acceptable (g : Graph) : Type 0 where
   pub in-order : InOrder modulus g
   pub long : GraphFits g
 
 -- opening accepts it, over buffers for the largest graph
-pub accepts : {g : Graph} → Lent g → opening-ruling modulus g 9216 96 96 9216 ≡ accepted
+pub accepts : {g : Graph} → Acceptable g → opening-ruling modulus g 9216 96 96 9216 ≡ accepted
 accepts {g} L =
     let small = L .in-order .size in
     opening-accepted modulus g 9216 96 96 9216 .1 (

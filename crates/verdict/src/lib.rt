@@ -8,7 +8,7 @@ ghost use Rattle.residue.specs.Modulus.{modulus};
 ghost use Rattle.matching.specs.Decision.{accepted};
 ghost use Rattle.matching.specs.Graph.{over};
 ghost use Rattle.matching.specs.Causes.{opening-ruling};
-ghost use Rattle.verdict.specs.Lines.{Writes, Verdict, GraphLines, Fresh, FreshFor, Lent};
+ghost use Rattle.verdict.specs.Lines.{Writes, Verdict, GraphLines, Fresh, FreshFor, Acceptable};
 
 // The lines of a session fresh from opening: its pairs, at most 48 lines of 13 bytes, and the verdict that all vertices are matched, 10 bytes.
 fn full_lines(
@@ -21,7 +21,10 @@ fn full_lines(
     at: usize,
 ) -> usize
     requires { ⌜ FreshFor n (now adjacency) (now inverse) (now sequence) (now marks) × (at + 634 ≤ length (now text)) ⌝ }
-    ensures { λ r. ⌜ ((weights : List ℕ) → Fresh n (now (adjacency .entry)) weights (now (inverse .entry)) (now (sequence .entry)) (now (marks .entry)) → Writes (Verdict (over n (now (adjacency .entry)) weights)) at (now (text .entry)) (now (text .exit)) r) ⌝ }
+    ensures { λ r.
+        ⌜ ((weights : List ℕ)
+        → Fresh n (now (adjacency .entry)) weights (now (inverse .entry)) (now (sequence .entry)) (now (marks .entry))
+        → Writes (Verdict (over n (now (adjacency .entry)) weights)) at (now (text .entry)) (now (text .exit)) r) ⌝ }
 {
     let made = completion::complete(n, adjacency, inverse, sequence, marks);
     let next = text::pair_lines(text, at, sequence, made);
@@ -41,9 +44,12 @@ fn verdict_lines(
     text: &mut [u8],
     at: usize,
 ) -> usize
-    requires { ⌜ opening-ruling modulus (over n (now adjacency) (now weights)) (length (now inverse)) (length (now sequence)) (length (now witness)) (length (now work)) ≡ accepted ⌝ }
+    requires { ⌜ opening-ruling modulus (over n (now adjacency) (now weights)) (length (now inverse)) (length (now sequence))
+        (length (now witness)) (length (now work)) ≡ accepted ⌝ }
     requires { ⌜ (n ≤ 96) × (now marks ≡ replicate n 1) × (at + 1642 ≤ length (now text)) ⌝ }
-    ensures { λ r. ⌜ Writes (Verdict (over n (now (adjacency .entry)) (now (weights .entry)))) at (now (text .entry)) (now (text .exit)) r ⌝ }
+    ensures { λ r.
+        let g = over n (now (adjacency .entry)) (now (weights .entry)) in
+        ⌜ Writes (Verdict g) at (now (text .entry)) (now (text .exit)) r ⌝ }
 {
     let opened = opening::begin(n, adjacency, weights, inverse, sequence, witness, work);
     match opened {
@@ -65,8 +71,10 @@ pub fn graph_lines(
     weights: &[u16],
     text: &mut [u8],
 ) -> usize
-    requires { ⌜ Lent (over n (now adjacency) (now weights)) × (edges < 100000) × (2048 ≤ length (now text)) ⌝ }
-    ensures { λ r. ⌜ Writes (GraphLines (over n (now (adjacency .entry)) (now (weights .entry))) edges) 0 (now (text .entry)) (now (text .exit)) r ⌝ }
+    requires { ⌜ Acceptable (over n (now adjacency) (now weights)) × (edges < 100000) × (2048 ≤ length (now text)) ⌝ }
+    ensures { λ r.
+        let g = over n (now (adjacency .entry)) (now (weights .entry)) in
+        ⌜ Writes (GraphLines g edges) 0 (now (text .entry)) (now (text .exit)) r ⌝ }
 {
     // The words and bytes of the largest graph: 96 * 96, and 96.
     let mut inverse = [0u16; 9216];

@@ -1,4 +1,5 @@
 -- `border::border` meets its contract: T v, with the word at a stored over. Assumes nothing.
+use lib.Dec.{lit<}
 use Rattle.border.specs.Column.{bordered}
 use borrow.Author.Needs.{needs}
 use Rattle.border.proofs.border.Statement.{statement}
@@ -19,7 +20,7 @@ same-length c = search needs
 returns : tie.Need-returns
 returns c =
     let s = c .before .before .before .before .before .before .before in
-    bordered (s .pre .2) (rw (s .pre .3) at (c .before .before .image .ensures))
+    bordered (lit< tt) (s .pre .2) (rw (s .pre .3) at (c .before .before .image .ensures))
 
 pub border-spec : {M : Type 1} → statement M
 border-spec =

@@ -6,7 +6,7 @@ use native.Mathlib.Omega.{arith}
 use lib.ListN.{length, take, drop}
 use Rattle.lists.specs.Written.{Written, written-start, written-more, written-all}
 use Rattle.lists.specs.Part.{part-length}
-use Rattle.lists.specs.Table.{Room, row-room}
+use Rattle.lists.specs.Table.{RowRoom, row-room}
 use Rattle.residue.specs.Modulus.{modulus}
 use Rattle.border.specs.Column.{reduced, row-against}
 use borrow.Author.Needs.{needs}
@@ -14,7 +14,7 @@ use Rattle.border.proofs.image.Statement.{statement}
 use Rattle.border.proofs.image.Tie as tie
 
 abbrev Inv-loop : tie.InvT-loop
-Inv-loop t n v x₀ i₀ x i = Written (reduced n t v) x₀ x i
+Inv-loop t n v x₀ i₀ x i = Written (reduced modulus n t v) x₀ x i
 
 abbrev μ-loop : tie.MeasureT-loop
 μ-loop t n v x₀ i₀ x i = length x₀ - i
@@ -23,7 +23,7 @@ abbrev μ-loop : tie.MeasureT-loop
 abbrev start : tie.In-loop Inv-loop μ-loop → tie.Start Inv-loop μ-loop
 start w = w .before .before .before .before .before
 
-room : (w : tie.In-loop Inv-loop μ-loop) → Room (start w .args .n) (w .before .loop .i) (start w .args .t .now)
+room : (w : tie.In-loop Inv-loop μ-loop) → RowRoom (start w .args .n) (w .before .loop .i) (start w .args .t .now)
 room w = row-room (start w .pre .0) (omega arith)
 
 row-length : (w : tie.In-loop Inv-loop μ-loop)

@@ -9,7 +9,7 @@ use native.Mathlib.Decide.{ℕ-discrete}
 use borrow.Author.Needs.{needs}
 use Rattle.lists.specs.Table.{index-below}
 use Rattle.matching.specs.Graph.{Graph, fault, over}
-use Rattle.checks.specs.Cells.{kind-at}
+use Rattle.checks.specs.Cells.{fault-at}
 use Rattle.checks.proofs.row_fault.Statement.{statement}
 use Rattle.checks.proofs.row_fault.Tie as tie
 
@@ -43,20 +43,20 @@ loop-holds c = record {
   clean = λ l a b. absurd (omega arith);
 }
 
-shared-slice-read-kind-of : tie.Need-shared-slice-read-kind-of Inv-loop μ-loop
-shared-slice-read-kind-of c =
+shared-slice-read-cell-fault : tie.Need-shared-slice-read-cell-fault Inv-loop μ-loop
+shared-slice-read-cell-fault c =
     let at = c .before .before in
     let args = at .before .before .args in
     omega (arith, index-below (args .n) (args .row) (at .loop .column) (omega arith) (omega arith))
 
-shared-slice-read-kind-of-2 : tie.Need-shared-slice-read-kind-of-2 Inv-loop μ-loop
-shared-slice-read-kind-of-2 c =
+shared-slice-read-cell-fault-2 : tie.Need-shared-slice-read-cell-fault-2 Inv-loop μ-loop
+shared-slice-read-cell-fault-2 c =
     let at = c .before .before .before in
     let args = at .before .before .args in
     omega (arith, index-below (args .n) (at .loop .column) (args .row) (omega arith) (omega arith))
 
-kind-of-requires : tie.Need-kind-of-requires Inv-loop μ-loop
-kind-of-requires c κs = search needs
+cell-fault-requires : tie.Need-cell-fault-requires Inv-loop μ-loop
+cell-fault-requires c κs = search needs
 
 returns : tie.Need-returns Inv-loop μ-loop
 returns c =
@@ -65,7 +65,7 @@ returns c =
     record {
       row = search needs;
       column = omega arith;
-      kind = c .before .kind-of .ensures ∙ kind-at _ _ _ _ _ (inv .here) (inv .across);
+      kind = c .before .cell-fault .ensures ∙ fault-at _ _ _ _ _ (inv .here) (inv .across);
       faulty = c .if1 .taken;
       before = inv .clean;
     }
@@ -102,7 +102,7 @@ loop-again c =
       to = omega arith;
       here = omega arith;
       across = omega arith;
-      clean = one-more _ _ _ (inv .clean) (sym (c .before .kind-of .ensures ∙ kind-at _ _ _ _ _ (inv .here) (inv .across)) ∙ c .if1 .left);
+      clean = one-more _ _ _ (inv .clean) (sym (c .before .cell-fault .ensures ∙ fault-at _ _ _ _ _ (inv .here) (inv .across)) ∙ c .if1 .left);
     }
 
 returns-2 : tie.Need-returns-2 Inv-loop μ-loop
@@ -115,9 +115,9 @@ row-fault-spec =
     Inv-loop
     μ-loop
     loop-holds
-    shared-slice-read-kind-of
-    shared-slice-read-kind-of-2
-    kind-of-requires
+    shared-slice-read-cell-fault
+    shared-slice-read-cell-fault-2
+    cell-fault-requires
     returns
     add-column
     add-index

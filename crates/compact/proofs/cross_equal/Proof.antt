@@ -13,10 +13,10 @@ use Rattle.compact.proofs.cross_equal.Statement.{statement}
 use Rattle.compact.proofs.cross_equal.Tie as tie
 
 abbrev Inv-loop : tie.InvT-loop
-Inv-loop inverse n vertices t i size a j₀ j = (i < j) × (j ≤ length vertices) × CrossEqual n inverse vertices t i j
+Inv-loop inverse n vertices t i count a j₀ j = (i < j) × (j ≤ length vertices) × CrossEqual n inverse vertices t i j
 
 abbrev μ-loop : tie.MeasureT-loop
-μ-loop inverse n vertices t i size a j₀ j = length vertices - j
+μ-loop inverse n vertices t i count a j₀ j = length vertices - j
 
 -- the place on the diagonal
 diagonal : (s : tie.Start Inv-loop μ-loop) → let a = vector (s .args .vertices .now) (s .args .i) in (a * s .args .n + a < s .args .n * s .args .n) × (a * s .args .n + a < 9216)

@@ -15,8 +15,8 @@ use Rattle.compact.proofs.is_inverse_of.Tie as tie
 most : (s : tie.Start) → length (s .args .vertices .now) ≤ 96
 most s = let h = numbered-most (s .pre .1) in let l = s .pre .0 .0 .size in omega arith
 
-mul-size : tie.Need-mul-size
-mul-size c = let h = square-small _ (most (c .before .before .before .before .before)) in omega arith
+mul-cells : tie.Need-mul-cells
+mul-cells c = let h = square-small _ (most (c .before .before .before .before .before)) in omega arith
 
 array-borrow-prefix-t : tie.Need-array-borrow-prefix-t
 array-borrow-prefix-t c = search needs
@@ -64,7 +64,7 @@ pub is-inverse-of-spec : {M : Type 1} → statement M
 is-inverse-of-spec =
     tie.close
     (tie.spec
-    mul-size
+    mul-cells
     array-borrow-prefix-t
     slice-aggregate-is-inverse-over
     is-inverse-over-requires

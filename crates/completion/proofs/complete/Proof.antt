@@ -8,7 +8,7 @@ use borrow.Author.Needs.{needs}
 use lib.ListN.{length}
 use Rattle.matching.specs.Graph.{over}
 use Rattle.matching.specs.Pairs.{pairs-on}
-use Rattle.calls.specs.Answers.{answer-of}
+use Rattle.calls.specs.Meaning.{answer-of}
 use Rattle.calls.specs.Known.{Known, called-known, few}
 use Rattle.completion.specs.Completed.{Picked, picked-none, picked-more, completes}
 use Rattle.completion.proofs.complete.Statement.{statement}

@@ -1,8 +1,8 @@
 -- `crossing::call_over` meets its contract: the parts of an answer fit their bits, and the words left are stored where a pair is answered.
 -- Assumes nothing.
 use mathlib.Core.Path.{refl, ap}
-use Rattle.calls.specs.Answers.{answer-of, handles-fit}
-use Rattle.crossing.specs.Through.{answers}
+use Rattle.calls.specs.Meaning.{answer-of, handles-fit}
+use Rattle.crossing.specs.HostCall.{answers}
 use borrow.Author.Needs.{needs}
 use Rattle.crossing.proofs.call_over.Statement.{statement}
 use Rattle.crossing.proofs.call_over.Tie as tie

@@ -9,9 +9,9 @@ use Rattle.matching.specs.Host.{unpacked-state}
 use Rattle.laws.specs.Numbers.{handles-small}
 use Rattle.refusals.specs.declared.Refusal.{Refusal}
 use Rattle.refusals.specs.declared.Ruling.the-variants.{Refused}
-use Rattle.crossing.specs.Fit.{room-refused, room-accepted}
-use Rattle.calls.specs.Answers.{call-is}
-use Rattle.crossing.specs.Through.{host-refuses}
+use Rattle.crossing.specs.HostFits.{room-refused, room-accepted}
+use Rattle.calls.specs.Meaning.{call-is}
+use Rattle.crossing.specs.HostCall.{host-refuses}
 use borrow.Author.Needs.{needs}
 use Rattle.crossing.proofs.handle.Statement.{statement}
 use Rattle.crossing.proofs.handle.Tie as tie

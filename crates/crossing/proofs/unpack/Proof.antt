@@ -26,8 +26,8 @@ squared at = omega (arith, square-small (start at .args .n) (start at .pre .0 .s
 weights-needed-requires : tie.Need-weights-needed-requires
 weights-needed-requires c κs = search needs
 
-mul-size : tie.Need-mul-size
-mul-size c = search needs
+mul-cells : tie.Need-mul-cells
+mul-cells c = search needs
 
 slice-relend-prefix-unpack : tie.Need-slice-relend-prefix-unpack
 slice-relend-prefix-unpack c = counted c
@@ -60,24 +60,28 @@ returns c =
     let first = c .before .before .before .before .before .before .unpack in
     let second = c .before .before .unpack2 in
     let count = at .weights-needed .result in
-    let size = a .n * a .n in
+    let cells = a .n * a .n in
     let front = length-take-le count (a .values .now) (counted at) in
-    let square = length-take-le size (a .table .now) (squared at) in (
-      ap (λ k. take k (first .last .1 .0 ++ drop count (a .values .now))) (sym (at .weights-needed .ensures))
-          ∙ part-filled count (first .last .1 .0) _ (first .kept .1 .0 ∙ front) .1
+    let square = length-take-le cells (a .table .now) (squared at) in
+    let values-back = part-filled count (first .last .1 .0) (drop count (a .values .now)) (first .kept .1 .0 ∙ front) in
+    let table-back = part-filled cells (second .last .1 .0) (drop cells (a .table .now)) (second .kept .1 .0 ∙ square) in
+    record {
+      weights-room = omega (arith, values-back .0, at .weights-needed .ensures);
+      inverse-room = table-back .0;
+      weights-are =
+          ap (λ k. take k (first .last .1 .0 ++ drop count (a .values .now))) (sym (at .weights-needed .ensures))
+          ∙ values-back .1
           ∙ first .ensures
-          ∙ ap (λ k. take k (words (a .weights .now))) (front ∙ at .weights-needed .ensures),
-      part-filled size (second .last .1 .0) _ (second .kept .1 .0 ∙ square) .1
-          ∙ second .ensures
-          ∙ ap (λ k. take k (words (a .inverse .now))) square,
-    )
+          ∙ ap (λ k. take k (words (a .weights .now))) (front ∙ at .weights-needed .ensures);
+      inverse-are = table-back .1 ∙ second .ensures ∙ ap (λ k. take k (words (a .inverse .now))) square;
+    }
 
 pub unpack-spec : {M : Type 1} → statement M
 unpack-spec =
     tie.close
     (tie.spec
     weights-needed-requires
-    mul-size
+    mul-cells
     slice-relend-prefix-unpack
     slice-aggregate-unpack
     unpack-requires

@@ -44,8 +44,8 @@ refused-line-requires c κs =
 enum-known-read-2 : tie.Need-enum-known-read-2
 enum-known-read-2 c = search needs
 
-mul-size : tie.Need-mul-size
-mul-size c = omega (arith, square-small (c .before .read3 .given .0 .0 .size) (read c .small))
+mul-cells : tie.Need-mul-cells
+mul-cells c = omega (arith, square-small (c .before .read3 .given .0 .0 .size) (read c .small))
 
 weights-needed-requires : tie.Need-weights-needed-requires
 weights-needed-requires c κs = search needs
@@ -115,7 +115,7 @@ sheet-lines-spec =
     cast-refused-line
     refused-line-requires
     enum-known-read-2
-    mul-size
+    mul-cells
     weights-needed-requires
     slice-reshare-prefix-graph-lines
     slice-aggregate-graph-lines

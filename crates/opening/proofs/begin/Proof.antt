@@ -11,12 +11,12 @@ use Rattle.matching.specs.Decision.{accepted}
 use Rattle.matching.specs.Graph.{over}
 use Rattle.matching.specs.Pairs.{everything}
 use Rattle.matching.specs.Opening.{ruling, Opens, OpenedExactly, refuses-opening}
-use Rattle.laws.specs.Determined.{opened-exactly}
+use Rattle.laws.specs.OpeningOutcome.{opened-exactly}
 use Rattle.exchange.specs.declared.Outcome.{Outcome}
-use Rattle.opening.specs.Answers.{found, buffers}
-use Rattle.opening.specs.Begun.{Ready, ready, Cleared, begun-whole}
+use Rattle.opening.specs.Meaning.{found, buffers}
+use Rattle.opening.specs.OpeningState.{OpeningReady, ready, Cleared, begun-whole}
 use borrow.Author.Needs.{needs}
-use Rattle.refusals.specs.Answers.{ruling-of}
+use Rattle.refusals.specs.Meaning.{ruling-of}
 use Rattle.opening.proofs.begin.Statement.{statement}
 use Rattle.opening.proofs.begin.Tie as tie
 
@@ -28,7 +28,7 @@ accepts : (at : tie.After-enum-told)
 accepts at = sym (at .before .before .judge-opening .ensures) ∙ ap ruling-of (at .enum-told .given .1)
 
 fits : (at : tie.After-enum-told)
-    → (let a = start (at .before .before) .args in Ready (a .n) (a .adjacency .now) (a .weights .now) (a .inverse .now) (a .sequence .now) (a .witness .now) × (a .n * a .n ≤ length (a .work .now)))
+    → (let a = start (at .before .before) .args in OpeningReady (a .n) (a .adjacency .now) (a .weights .now) (a .inverse .now) (a .sequence .now) (a .witness .now) × (a .n * a .n ≤ length (a .work .now)))
 fits at = ready _ _ _ _ _ _ _ (accepts at)
 
 -- what is left where one is found and the other cleared
@@ -63,8 +63,8 @@ returns c =
 enum-told : tie.Need-enum-told
 enum-told c = search needs
 
-mul-size : tie.Need-mul-size
-mul-size c = record { fits = omega (arith, square-small _ (fits c .0 .lent .size)) }
+mul-cells : tie.Need-mul-cells
+mul-cells c = record { fits = omega (arith, square-small _ (fits c .0 .lent .size)) }
 
 fill-words-requires : tie.Need-fill-words-requires
 fill-words-requires c κs = fits (c .before) .1
@@ -128,7 +128,7 @@ begin-spec =
     enum-known-ruling
     returns
     enum-told
-    mul-size
+    mul-cells
     fill-words-requires
     begin-accepted-requires
     enum-told-2

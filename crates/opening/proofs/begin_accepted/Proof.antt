@@ -5,13 +5,13 @@ use lib.Seq.{length-take-le}
 use Rattle.lists.specs.Part.{length-part}
 use Rattle.matching.specs.Pairs.{everything}
 use Rattle.solve.specs.Solved.{all-in}
-use Rattle.opening.specs.Begun.{begun}
+use Rattle.opening.specs.OpeningState.{begun}
 use borrow.Author.Needs.{needs}
 use Rattle.opening.proofs.begin_accepted.Statement.{statement}
 use Rattle.opening.proofs.begin_accepted.Tie as tie
 
-mul-size : tie.Need-mul-size
-mul-size c = search needs
+mul-cells : tie.Need-mul-cells
+mul-cells c = search needs
 
 fill-bytes-requires : tie.Need-fill-bytes-requires
 fill-bytes-requires c κs = search needs
@@ -61,7 +61,7 @@ pub begin-accepted-spec : {M : Type 1} → statement M
 begin-accepted-spec =
     tie.close
     (tie.spec
-    mul-size
+    mul-cells
     fill-bytes-requires
     array-borrow-prefix-all
     slice-aggregate-solve

@@ -6,10 +6,10 @@ use Rattle.matching.specs.Decision.{because, refused}
 use Rattle.matching.specs.Graph.{over}
 use Rattle.matching.specs.Opening.{Buffers, ruling}
 use Rattle.matching.specs.Host.{words, unpacked, HostOpens}
-use Rattle.laws.specs.Determined.{host-opened-exactly}
+use Rattle.laws.specs.OpeningOutcome.{host-opened-exactly}
 use Rattle.refusals.specs.declared.Refusal.{Refusal}
 use Rattle.refusals.specs.declared.Ruling.the-variants.{Refused}
-use Rattle.opening.specs.Answers.{buffers}
+use Rattle.opening.specs.Meaning.{buffers}
 use Rattle.opening_bytes.specs.Opened.{room-refused, room-accepted, host-refuses, refusal-small}
 use borrow.Author.Needs.{needs}
 use Rattle.opening_bytes.proofs.begin.Statement.{statement}

@@ -8,9 +8,9 @@ use Rattle.matching.specs.Graph.{over}
 use Rattle.matching.specs.Opening.{Buffers, Opens}
 use Rattle.matching.specs.Pairs.{everything}
 use Rattle.matching.specs.Host.{words}
-use Rattle.opening.specs.Answers.{opening-of, buffers}
+use Rattle.opening.specs.Meaning.{opening-of, buffers}
 use Rattle.crossing.specs.Needed.{needed-weights}
-use Rattle.opening_bytes.specs.Opened.{fits-bits, weights-fit, inverse-fits, witness-fits, work-fits, host-opens}
+use Rattle.opening_bytes.specs.Opened.{opening-number-fits, weights-fit, inverse-fits, witness-fits, work-fits, host-opens}
 use borrow.Author.Needs.{needs}
 use Rattle.opening_bytes.proofs.open_over.Statement.{statement}
 use Rattle.opening_bytes.proofs.open_over.Tie as tie
@@ -49,7 +49,7 @@ pack-requires c κs =
     let s = start (read at) in
     let L = s .pre .1 in
     let kept = at .begin .kept in
-    ((omega (arith, kept .1 .1 .1 .0, L .cells), omega (arith, kept .1 .1 .1 .1 .1 .0, L .vertices), omega (arith, kept .1 .1 .1 .1 .1 .1 .0, L .spare-cells)), ((inverse-fits (s .args .n) (s .args .adjacency .now) (s .args .weights .now) (host s) (s .pre .0), witness-fits (s .args .n) (s .args .adjacency .now) (s .args .weights .now) (host s) (s .pre .0), work-fits (s .args .n) (s .args .adjacency .now) (s .args .weights .now) (host s) (s .pre .0)), fits-bits (opens at)))
+    ((omega (arith, kept .1 .1 .1 .0, L .cells), omega (arith, kept .1 .1 .1 .1 .1 .0, L .vertices), omega (arith, kept .1 .1 .1 .1 .1 .1 .0, L .spare-cells)), ((inverse-fits (s .args .n) (s .args .adjacency .now) (s .args .weights .now) (host s) (s .pre .0), witness-fits (s .args .n) (s .args .adjacency .now) (s .args .weights .now) (host s) (s .pre .0), work-fits (s .args .n) (s .args .adjacency .now) (s .args .weights .now) (host s) (s .pre .0)), opening-number-fits (opens at)))
 
 same-length : tie.Need-same-length
 same-length c = search needs

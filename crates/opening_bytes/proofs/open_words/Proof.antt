@@ -40,8 +40,8 @@ lends at i j k counted cells vertices = record {
 weights-needed-requires : tie.Need-weights-needed-requires
 weights-needed-requires c κs = search needs
 
-mul-size : tie.Need-mul-size
-mul-size c = search needs
+mul-cells : tie.Need-mul-cells
+mul-cells c = search needs
 
 array-borrow-prefix-values : tie.Need-array-borrow-prefix-values
 array-borrow-prefix-values c = few (c .before) (c .if1 .taken)
@@ -140,27 +140,27 @@ slice-aggregate-open-over-9 : tie.Need-slice-aggregate-open-over-9
 slice-aggregate-open-over-9 c = sym (length-part _ 4560 0 (most (c .before .before .before)))
 
 array-borrow-prefix-table-3 : tie.Need-array-borrow-prefix-table-3
-array-borrow-prefix-table-3 c = square-small _ (start (c .before .before .before) .pre .0)
+array-borrow-prefix-table-3 c = square-small _ (start (c .before .before .before) .pre .size)
 
 slice-aggregate-open-over-10 : tie.Need-slice-aggregate-open-over-10
-slice-aggregate-open-over-10 c = sym (length-part _ 9216 0 (square-small _ (start (c .before .before .before .before) .pre .0)))
+slice-aggregate-open-over-10 c = sym (length-part _ 9216 0 (square-small _ (start (c .before .before .before .before) .pre .size)))
 
 array-borrow-prefix-vector-3 : tie.Need-array-borrow-prefix-vector-3
 array-borrow-prefix-vector-3 c = search needs
 
 slice-aggregate-open-over-11 : tie.Need-slice-aggregate-open-over-11
-slice-aggregate-open-over-11 c = sym (length-part _ 96 0 (start (c .before .before .before .before .before) .pre .0))
+slice-aggregate-open-over-11 c = sym (length-part _ 96 0 (start (c .before .before .before .before .before) .pre .size))
 
 array-borrow-prefix-spare-3 : tie.Need-array-borrow-prefix-spare-3
-array-borrow-prefix-spare-3 c = square-small _ (start (c .before .before .before .before .before) .pre .0)
+array-borrow-prefix-spare-3 c = square-small _ (start (c .before .before .before .before .before) .pre .size)
 
 slice-aggregate-open-over-12 : tie.Need-slice-aggregate-open-over-12
-slice-aggregate-open-over-12 c = sym (length-part _ 9216 0 (square-small _ (start (c .before .before .before .before .before .before) .pre .0)))
+slice-aggregate-open-over-12 c = sym (length-part _ 9216 0 (square-small _ (start (c .before .before .before .before .before .before) .pre .size)))
 
 open-over-requires-3 : tie.Need-open-over-requires-3
 open-over-requires-3 c κs =
     let at = c .before .before .before .before .before .before .before .before .before .before in
-    let h = start at .pre .0 in
+    let h = start at .pre .size in
     (start at .pre, lends at 4560 9216 96 (most at) (square-small _ h) h)
 
 same-length-9 : tie.Need-same-length-9
@@ -183,7 +183,7 @@ open-words-spec =
     tie.close
     (tie.spec
     weights-needed-requires
-    mul-size
+    mul-cells
     array-borrow-prefix-values
     slice-aggregate-open-over
     array-borrow-prefix-table

@@ -2,8 +2,8 @@
 use mathlib.Core.Path.{_≡_, refl, subst}
 use native.Mathlib.Omega.{arith}
 use Rattle.opening.specs.declared.Opening.{Opening}
-use Rattle.opening.specs.Answers.{opening-of}
-use Rattle.opening_bytes.specs.Opened.{FitsBits}
+use Rattle.opening.specs.Meaning.{opening-of}
+use Rattle.opening_bytes.specs.Opened.{OpeningNumberFits}
 use borrow.Author.Needs.{needs}
 use Rattle.opening_bytes.proofs.pack.Statement.{statement}
 use Rattle.opening_bytes.proofs.pack.Tie as tie
@@ -11,8 +11,8 @@ use Rattle.opening_bytes.proofs.pack.Tie as tie
 abbrev start : tie.After-slice-known3 → tie.Start
 start at = at .before .before .before .before .before .before
 
-fits : (s : tie.Start) {o : Opening} → s .args .opened ≡ o → FitsBits (opening-of o)
-fits s e = subst (λ (o : Opening). FitsBits (opening-of o)) e (s .pre .1 .1)
+fits : (s : tie.Start) {o : Opening} → s .args .opened ≡ o → OpeningNumberFits (opening-of o)
+fits s e = subst (λ (o : Opening). OpeningNumberFits (opening-of o)) e (s .pre .1 .1)
 
 enum-known-opened : tie.Need-enum-known-opened
 enum-known-opened c = search needs

@@ -8,8 +8,8 @@ use Rattle.pairing.specs.Appended.{pair-below, onto-part}
 use Rattle.pairing.proofs.append.Statement.{statement}
 use Rattle.pairing.proofs.append.Tie as tie
 
-mul-size : tie.Need-mul-size
-mul-size c = search needs
+mul-cells : tie.Need-mul-cells
+mul-cells c = search needs
 
 slice-relend-prefix-shrink : tie.Need-slice-relend-prefix-shrink
 slice-relend-prefix-shrink c = search needs
@@ -78,7 +78,7 @@ pub append-spec : {M : Type 1} → statement M
 append-spec =
     tie.close
     (tie.spec
-    mul-size
+    mul-cells
     slice-relend-prefix-shrink
     slice-aggregate-shrink
     shrink-requires

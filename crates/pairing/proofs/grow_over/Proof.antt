@@ -4,7 +4,7 @@ use native.Mathlib.Nat.{mod-lt}
 use lib.Dec.{lit<}
 use lib.ListN.{length}
 use Rattle.lists.specs.Values.{length-list-of, list-of}
-use Rattle.residue.specs.Modulus.{modulus}
+use Rattle.residue.specs.Modulus.{modulus, modulus-prime}
 use Rattle.matching.specs.Graph.{Graph, over, tutte}
 use Rattle.pairing.specs.Removed.{grows-not, grows-so}
 use borrow.Author.Needs.{needs}
@@ -59,7 +59,7 @@ same-length-4 c = search needs
 returns : tie.Need-returns
 returns c =
     let at = c .before .before .before .before .before .before in
-    grows-not (graph at) (start at .pre .0 .2) (start at .pre .0 .3) (first at) (second at) (at .before .before .before .before .before .before .before .before .before .before .border .ensures) (at .border2 .ensures)
+    grows-not modulus-prime (graph at) (start at .pre .0 .2) (start at .pre .0 .3) (first at) (second at) (at .before .before .before .before .before .before .before .before .before .before .border .ensures) (at .border2 .ensures)
     (rw (column-length at) at (c .before .dot .ensures)) (c .if1 .taken)
 
 cast-make : tie.Need-cast-make
@@ -95,7 +95,7 @@ returns-2 : tie.Need-returns-2
 returns-2 c =
     let at = c .before .before .before .before .before .before .before .before .before .before .before .before .before .before .before in
     let dot = c .before .before .before .before .before .before .before .before .before .before .dot in
-    grows-so (graph at) (start at .pre .0 .2) (start at .pre .0 .3) (first at) (second at) (at .before .before .before .before .before .before .before .before .before .before .border .ensures) (at .border2 .ensures)
+    grows-so modulus-prime (graph at) (start at .pre .0 .2) (start at .pre .0 .3) (first at) (second at) (at .before .before .before .before .before .before .before .before .before .before .border .ensures) (at .border2 .ensures)
     (rw (column-length at) at (dot .ensures)) (c .before .before .before .before .before .before .before .before .before .if1 .left) (rw (dot .ensures) (mod-lt _ (lit< tt)))
     (rw (c .before .before .before .before .before .before .before .before .make .ensures) at (c .before .before .before .before .before .before .before .invert .ensures .0)) (rw (c .before .before .before .before .before .before .negate .ensures) at (c .before .before .update .ensures))
 

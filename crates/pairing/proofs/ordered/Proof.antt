@@ -1,7 +1,7 @@
 -- `pairing::ordered` meets its contract. Assumes nothing.
 use mathlib.Core.Path.{sym}
 use Rattle.pairing.specs.Appended.{pair-unordered}
-use Rattle.laws.specs.Facts.{pair-of-smaller}
+use Rattle.laws.specs.ModelLaws.{pair-of-smaller}
 use Rattle.pairing.proofs.ordered.Statement.{statement}
 use Rattle.pairing.proofs.ordered.Tie as tie
 

@@ -10,8 +10,8 @@ use Rattle.pairing.specs.Appended.{onto-part}
 use Rattle.pairing.proofs.remove.Statement.{statement}
 use Rattle.pairing.proofs.remove.Tie as tie
 
-mul-size : tie.Need-mul-size
-mul-size c = search needs
+mul-cells : tie.Need-mul-cells
+mul-cells c = search needs
 
 slice-relend-prefix-grow : tie.Need-slice-relend-prefix-grow
 slice-relend-prefix-grow c = search needs
@@ -89,7 +89,7 @@ pub remove-spec : {M : Type 1} → statement M
 remove-spec =
     tie.close
     (tie.spec
-    mul-size
+    mul-cells
     slice-relend-prefix-grow
     slice-aggregate-grow
     grow-requires

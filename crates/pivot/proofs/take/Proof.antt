@@ -4,13 +4,13 @@ use mathlib.Core.Path.{sym, refl, _∙_}
 use native.Mathlib.Nat.{mod-lt}
 use native.Mathlib.Omega.{arith}
 use lib.Dec.{lit<}
-use Rattle.lists.specs.Table.{Room, row-room}
+use Rattle.lists.specs.Table.{RowRoom, row-room}
 use Rattle.pivot.specs.Words.{place-above, place-below, residue-above, residue-below}
 use borrow.Author.Needs.{needs}
 use Rattle.pivot.proofs.take.Statement.{statement}
 use Rattle.pivot.proofs.take.Tie as tie
 
-room : (s : tie.Start) → Room (s .args .n) (s .args .k) (s .args .t .now) × Room (s .args .n) (s .args .c) (s .args .t .now)
+room : (s : tie.Start) → RowRoom (s .args .n) (s .args .k) (s .args .t .now) × RowRoom (s .args .n) (s .args .c) (s .args .t .now)
 room s = (row-room (s .pre .0) (s .pre .1), row-room (s .pre .0) (s .pre .2))
 
 mul-at : tie.Need-mul-at

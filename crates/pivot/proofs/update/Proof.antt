@@ -6,7 +6,7 @@ use native.Mathlib.Nat.{mod-lt, mod-eq-of-lt}
 use native.Mathlib.Omega.{arith}
 use lib.Dec.{lit<}
 use lib.ListN.{getD}
-use Rattle.lists.specs.Table.{Room, row-room}
+use Rattle.lists.specs.Table.{RowRoom, row-room}
 use Rattle.modular.specs.Operations.{negative}
 use Rattle.residue.specs.Modulus.{modulus}
 use Rattle.pivot.specs.Step.{UpdatedTo, updated-start, row-length, row-small, updated-next}
@@ -24,7 +24,7 @@ abbrev μ-loop : tie.MeasureT-loop
 abbrev start : tie.In-loop Inv-loop μ-loop → tie.Start Inv-loop μ-loop
 start w = w .before .before .before .before .before
 
-room : (w : tie.In-loop Inv-loop μ-loop) → Room (start w .args .n) (w .before .loop .i) (w .before .loop .t)
+room : (w : tie.In-loop Inv-loop μ-loop) → RowRoom (start w .args .n) (w .before .loop .i) (w .before .loop .t)
 room w =
     let s = start w in
     row-room (record { small = s .pre .table-square .small; size = w .before .loop .inv .1 .size ∙ s .pre .table-square .size }) (w .loop-test .taken)

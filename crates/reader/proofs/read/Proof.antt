@@ -41,7 +41,7 @@ use denote.Triple.Walked.{says, Stays, stay-none-slice, gave-slice, walkOf, goes
 use denote.Exit.{yes}
 use denote.Triple.Clauses.{ensured, lasts}
 use Rattle.matching.specs.Records.{Fills}
-use Rattle.sheet.specs.Answers.{read-of}
+use Rattle.sheet.specs.Meaning.{read-of}
 use Rattle.sheet.specs.declared.Read.{Read}
 use Rattle.reader.specs.declared.Reader.{Reader}
 use Rattle.sheet.proofs.Read as S

@@ -4,7 +4,7 @@ use native.Mathlib.Omega.{arith}
 use lib.Seq.{length-take-le}
 use borrow.Author.Needs.{needs}
 use Rattle.matching.specs.Session.{State, state}
-use Rattle.soundness.specs.Lent.{lent-room}
+use Rattle.soundness.specs.Besides.{lent-room}
 use Rattle.calls.specs.Known.{known-lent, tables}
 use Rattle.replay.specs.Run.{session-refused, list-refused, replayed-so}
 use Rattle.replay.proofs.replay.Statement.{statement}

@@ -6,7 +6,7 @@ use native.Mathlib.Omega.{arith}
 use lib.ListN.{length, length-set}
 use borrow.Author.Needs.{needs}
 use Rattle.matching.specs.Session.{state}
-use Rattle.calls.specs.Answers.{handles-fit}
+use Rattle.calls.specs.Meaning.{handles-fit}
 use Rattle.calls.specs.Known.{Known, called-known}
 use Rattle.replay.specs.Run.{Ran, ran-none, ran-more}
 use Rattle.replay.proofs.run.Statement.{statement}

@@ -1,7 +1,7 @@
 -- `replay_bytes::replay` meets its contract: a refusal for the size or the lengths writes nothing, and else words are lent. Assumes nothing.
 use borrow.Author.Needs.{needs}
-use Rattle.crossing.specs.Fit.{room-accepted}
-use Rattle.replay_bytes.specs.Through.{refusal-fits, host-refuses, host-demand}
+use Rattle.crossing.specs.HostFits.{room-accepted}
+use Rattle.replay_bytes.specs.HostReplay.{refusal-fits, host-refuses, host-demand}
 use Rattle.replay_bytes.proofs.replay.Statement.{statement}
 use Rattle.replay_bytes.proofs.replay.Tie as tie
 

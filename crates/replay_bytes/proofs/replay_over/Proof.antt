@@ -4,7 +4,7 @@ use native.Mathlib.Omega.{arith}
 use lib.ListN.{length}
 use borrow.Author.Needs.{needs}
 use Rattle.replay.specs.Run.{unchanged}
-use Rattle.replay_bytes.specs.Through.{extent-small, replays-fit}
+use Rattle.replay_bytes.specs.HostReplay.{extent-small, replays-fit}
 use Rattle.replay_bytes.proofs.replay_over.Statement.{statement}
 use Rattle.replay_bytes.proofs.replay_over.Tie as tie
 

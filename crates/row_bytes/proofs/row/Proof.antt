@@ -6,8 +6,8 @@ use Rattle.matching.specs.Model.{automatic}
 use Rattle.matching.specs.Calls.{unsound}
 use Rattle.matching.specs.Host.{unpacked-state}
 use Rattle.laws.specs.Numbers.{handles-small}
-use Rattle.crossing.specs.Fit.{room-refused, room-accepted}
-use Rattle.row_bytes.specs.Through.{host-refuses}
+use Rattle.crossing.specs.HostFits.{room-refused, room-accepted}
+use Rattle.row_bytes.specs.HostRow.{host-refuses}
 use Rattle.row_bytes.proofs.row.Statement.{statement}
 use Rattle.row_bytes.proofs.row.Tie as tie
 

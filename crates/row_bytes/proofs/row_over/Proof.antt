@@ -1,7 +1,7 @@
 -- `row_bytes::row_over` meets its contract. Assumes nothing.
 use native.Mathlib.Omega.{arith}
 use borrow.Author.Needs.{needs}
-use Rattle.row_bytes.specs.Through.{shown-fits, state-same}
+use Rattle.row_bytes.specs.HostRow.{shown-fits, state-same}
 use Rattle.row_bytes.proofs.row_over.Statement.{statement}
 use Rattle.row_bytes.proofs.row_over.Tie as tie
 

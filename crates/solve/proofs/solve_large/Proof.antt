@@ -8,8 +8,8 @@ use borrow.Author.Needs.{needs}
 use Rattle.solve.proofs.solve_large.Statement.{statement}
 use Rattle.solve.proofs.solve_large.Tie as tie
 
-mul-size : tie.Need-mul-size
-mul-size c = search needs
+mul-cells : tie.Need-mul-cells
+mul-cells c = search needs
 
 array-borrow-prefix-t : tie.Need-array-borrow-prefix-t
 array-borrow-prefix-t c = square-small _ (c .before .before .before .before .before .before .pre .0 .0 .size)
@@ -41,7 +41,7 @@ pub solve-large-spec : {M : Type 1} → statement M
 solve-large-spec =
     tie.close
     (tie.spec
-    mul-size
+    mul-cells
     array-borrow-prefix-t
     slice-aggregate-solve-over
     solve-over-requires

@@ -4,7 +4,7 @@ use mathlib.Core.Path.{_≡_, sym, _∙_}
 use Prim.Native.Nat.{_-_, _≤_, _<_}
 use native.Mathlib.Omega.{arith}
 use lib.ListN.{length-set}
-use Rattle.lists.specs.Table.{Square, Room, row-room}
+use Rattle.lists.specs.Table.{Square, RowRoom, row-room}
 use Rattle.exchange.specs.Run.{word-small}
 use Rattle.solve.specs.Solved.{Crossed, word-below, crossed-start, crossed-next, crossed-end}
 use borrow.Author.Needs.{needs}
@@ -18,11 +18,11 @@ abbrev μ-loop : tie.MeasureT-loop
 μ-loop t n m inverse₀ diagonal k₀ inverse k = n - k
 
 -- before the loop, and within its body
-room : (s : tie.Start Inv-loop μ-loop) → Room (s .args .n) (s .args .m) (s .args .inverse .now)
+room : (s : tie.Start Inv-loop μ-loop) → RowRoom (s .args .n) (s .args .m) (s .args .inverse .now)
 room s = row-room (record { small = s .pre .0 .small; size = s .pre .2 .size }) (s .pre .1)
 
 rooms : (w : tie.In-loop Inv-loop μ-loop)
-    → (let a = w .before .before .before .before .args in Room (a .n) (a .m) (w .before .loop .inverse) × Room (a .n) (w .before .loop .k) (w .before .loop .inverse))
+    → (let a = w .before .before .before .before .args in RowRoom (a .n) (a .m) (w .before .loop .inverse) × RowRoom (a .n) (w .before .loop .k) (w .before .loop .inverse))
 rooms w =
     let s = w .before .before .before .before in
     let full : Square (s .args .n) (w .before .loop .inverse) = record { small = s .pre .0 .small; size = w .before .loop .inv .2 .before .size } in

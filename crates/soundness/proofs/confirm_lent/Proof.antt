@@ -2,7 +2,7 @@
 use mathlib.Core.Path.{refl}
 use native.Mathlib.Omega.{arith}
 use borrow.Author.Needs.{needs}
-use Rattle.soundness.specs.Lent.{lengths-refuse, too-little, enough}
+use Rattle.soundness.specs.Besides.{lengths-refuse, too-little, enough}
 use Rattle.soundness.proofs.confirm_lent.Statement.{statement}
 use Rattle.soundness.proofs.confirm_lent.Tie as tie
 

@@ -5,7 +5,7 @@ use Prim.Native.Nat.{_+_, _*_, _-_, _≤_}
 use native.Mathlib.Omega.{arith}
 use lib.ListN.{length, take, drop}
 use Rattle.lists.specs.Part.{part-length}
-use Rattle.lists.specs.Table.{Room, row-room}
+use Rattle.lists.specs.Table.{RowRoom, row-room}
 use Rattle.skew.specs.Subset.{marked}
 use Rattle.matching.specs.Graph.{over}
 use Rattle.tutte.specs.Table.{restricted, Filled, filled-start, filled-next}
@@ -23,7 +23,7 @@ abbrev μ-loop : tie.MeasureT-loop
 abbrev start : tie.In-loop Inv-loop μ-loop → tie.Start Inv-loop μ-loop
 start w = w .before .before .before .before .before .before
 
-room : (w : tie.In-loop Inv-loop μ-loop) → Room (start w .args .n) (w .before .loop .i) (w .before .loop .table)
+room : (w : tie.In-loop Inv-loop μ-loop) → RowRoom (start w .args .n) (w .before .loop .i) (w .before .loop .table)
 room w =
     let s = start w in
     row-room (record { small = s .pre .0 .0 .size; size = w .before .loop .inv .1 .size ∙ s .pre .1 }) (w .loop-test .taken)

@@ -5,7 +5,7 @@ use Prim.Native.Nat.{_+_, _*_, _-_, _≤_}
 use native.Mathlib.Omega.{arith}
 use lib.ListN.{length, take, drop}
 use Rattle.lists.specs.Part.{part-length}
-use Rattle.lists.specs.Table.{Room, row-room}
+use Rattle.lists.specs.Table.{RowRoom, row-room}
 use Rattle.matching.specs.Graph.{over}
 use Rattle.tutte.specs.Table.{listed, Filled, filled-start, filled-next}
 use borrow.Author.Needs.{needs}
@@ -13,16 +13,16 @@ use Rattle.tutte.proofs.fill_listed.Statement.{statement}
 use Rattle.tutte.proofs.fill_listed.Tie as tie
 
 abbrev Inv-loop : tie.InvT-loop
-Inv-loop n adjacency weights vertices table₀ size i₀ table i = (i ≤ length vertices) × Filled (length vertices) (listed (over n adjacency weights) vertices) i table₀ table
+Inv-loop n adjacency weights vertices table₀ count i₀ table i = (i ≤ length vertices) × Filled (length vertices) (listed (over n adjacency weights) vertices) i table₀ table
 
 abbrev μ-loop : tie.MeasureT-loop
-μ-loop n adjacency weights vertices table₀ size i₀ table i = length vertices - i
+μ-loop n adjacency weights vertices table₀ count i₀ table i = length vertices - i
 
 -- within the loop's body
 abbrev start : tie.In-loop Inv-loop μ-loop → tie.Start Inv-loop μ-loop
 start w = w .before .before .before .before .before .before
 
-room : (w : tie.In-loop Inv-loop μ-loop) → Room (length (start w .args .vertices .now)) (w .before .loop .i) (w .before .loop .table)
+room : (w : tie.In-loop Inv-loop μ-loop) → RowRoom (length (start w .args .vertices .now)) (w .before .loop .i) (w .before .loop .table)
 room w =
     let s = start w in
     row-room (record { small = s .pre .1 .small; size = w .before .loop .inv .1 .size ∙ s .pre .1 .size }) (w .loop-test .taken)

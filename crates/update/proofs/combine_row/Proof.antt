@@ -6,12 +6,13 @@ use borrow.Author.Needs.{needs}
 use lib.ListN.{length}
 use Rattle.lists.specs.Table.{vector}
 use Rattle.lists.specs.Written.{Written, written-start, written-more, written-all, written-rest}
+use Rattle.residue.specs.Modulus.{modulus}
 use Rattle.update.specs.Rows.{combined}
 use Rattle.update.proofs.combine_row.Statement.{statement}
 use Rattle.update.proofs.combine_row.Tie as tie
 
 abbrev Inv-loop : tie.InvT-loop
-Inv-loop row₀ u v f h j₀ row j = Written (λ k. combined f (vector u k) h (vector v k) (vector row₀ k)) row₀ row j
+Inv-loop row₀ u v f h j₀ row j = Written (λ k. combined modulus f (vector u k) h (vector v k) (vector row₀ k)) row₀ row j
 
 abbrev μ-loop : tie.MeasureT-loop
 μ-loop row₀ u v f h j₀ row j = length row₀ - j
@@ -57,7 +58,7 @@ loop-again c =
     let at = c .before .before .before .before .before in
     let a = at .before .before .before .before .args in
     written-more _ (at .loop .inv) (omega arith)
-    (c .combine .ensures ∙ ap (λ w. combined (a .f) (vector (a .u .now) (at .loop .j)) (a .h) (vector (a .v .now) (at .loop .j)) w) (written-rest (at .loop .inv) (at .loop .j) (omega arith)))
+    (c .combine .ensures ∙ ap (λ w. combined modulus (a .f) (vector (a .u .now) (at .loop .j)) (a .h) (vector (a .v .now) (at .loop .j)) w) (written-rest (at .loop .inv) (at .loop .j) (omega arith)))
 
 same-length : tie.Need-same-length Inv-loop μ-loop
 same-length c = c .before .loop .inv .size

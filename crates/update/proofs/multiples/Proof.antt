@@ -5,12 +5,13 @@ use borrow.Author.Needs.{needs}
 use lib.ListN.{length}
 use Rattle.lists.specs.Table.{vector}
 use Rattle.lists.specs.Written.{Written, written-start, written-more, written-all}
+use Rattle.residue.specs.Modulus.{modulus}
 use Rattle.update.specs.Rows.{multiple}
 use Rattle.update.proofs.multiples.Statement.{statement}
 use Rattle.update.proofs.multiples.Tie as tie
 
 abbrev Inv-loop : tie.InvT-loop
-Inv-loop x g u₀ j₀ u j = Written (multiple g (vector x)) u₀ u j
+Inv-loop x g u₀ j₀ u j = Written (multiple modulus g (vector x)) u₀ u j
 
 abbrev μ-loop : tie.MeasureT-loop
 μ-loop x g u₀ j₀ u j = length u₀ - j

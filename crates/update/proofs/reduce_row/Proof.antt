@@ -6,12 +6,13 @@ use borrow.Author.Needs.{needs}
 use lib.ListN.{length}
 use Rattle.lists.specs.Table.{vector}
 use Rattle.lists.specs.Written.{Written, written-start, written-more, written-all, written-rest}
+use Rattle.residue.specs.Modulus.{modulus}
 use Rattle.update.specs.Rows.{combined}
 use Rattle.update.proofs.reduce_row.Statement.{statement}
 use Rattle.update.proofs.reduce_row.Tie as tie
 
 abbrev Inv-loop : tie.InvT-loop
-Inv-loop row₀ j₀ row j = Written (λ k. combined 0 0 0 0 (vector row₀ k)) row₀ row j
+Inv-loop row₀ j₀ row j = Written (λ k. combined modulus 0 0 0 0 (vector row₀ k)) row₀ row j
 
 abbrev μ-loop : tie.MeasureT-loop
 μ-loop row₀ j₀ row j = length row₀ - j
@@ -43,7 +44,7 @@ loop-less c = omega arith
 loop-again : tie.Need-loop-again Inv-loop μ-loop
 loop-again c =
     let at = c .before .before .before in
-    written-more _ (at .loop .inv) (omega arith) (c .combine .ensures ∙ ap (combined 0 0 0 0) (written-rest (at .loop .inv) (at .loop .j) (omega arith)))
+    written-more _ (at .loop .inv) (omega arith) (c .combine .ensures ∙ ap (combined modulus 0 0 0 0) (written-rest (at .loop .inv) (at .loop .j) (omega arith)))
 
 same-length : tie.Need-same-length Inv-loop μ-loop
 same-length c = c .before .loop .inv .size

@@ -9,7 +9,7 @@ use borrow.Author.Needs.{needs}
 use Rattle.update.proofs.update_row.Statement.{statement}
 use Rattle.update.proofs.update_row.Tie as tie
 
-nothing : (f a h b w : ℕ) → f ≡ 0 → h ≡ 0 → combined 0 0 0 0 w ≡ combined f a h b w
+nothing : (f a h b w : ℕ) → f ≡ 0 → h ≡ 0 → combined modulus 0 0 0 0 w ≡ combined modulus f a h b w
 nothing f a h b w e q = ap (λ x. x % modulus) (rw (e, q) (omega arith))
 
 add-if1 : tie.Need-add-if1

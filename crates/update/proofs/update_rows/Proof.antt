@@ -3,13 +3,14 @@ use mathlib.Core.Path.{_≡_, _∙_, sym}
 use Prim.Native.Nat.{_+_, _*_, _-_, _≤_}
 use native.Mathlib.Omega.{arith}
 use borrow.Author.Needs.{needs}
-use Rattle.lists.specs.Table.{Room, row-room}
+use Rattle.lists.specs.Table.{RowRoom, row-room}
+use Rattle.residue.specs.Modulus.{modulus}
 use Rattle.update.specs.Rows.{UpdatedTo, updated-start, row-length, updated-next}
 use Rattle.update.proofs.update_rows.Statement.{statement}
 use Rattle.update.proofs.update_rows.Tie as tie
 
 abbrev Inv-loop : tie.InvT-loop
-Inv-loop t₀ n x y u v i₀ t i = (i ≤ n) × UpdatedTo n i x y u v t₀ t
+Inv-loop t₀ n x y u v i₀ t i = (i ≤ n) × UpdatedTo modulus n i x y u v t₀ t
 
 abbrev μ-loop : tie.MeasureT-loop
 μ-loop t₀ n x y u v i₀ t i = n - i
@@ -18,13 +19,13 @@ abbrev μ-loop : tie.MeasureT-loop
 abbrev start : tie.In-loop Inv-loop μ-loop → tie.Start Inv-loop μ-loop
 start w = w .before .before .before .before .before .before .before
 
-room : (w : tie.In-loop Inv-loop μ-loop) → Room (start w .args .n) (w .before .loop .i) (w .before .loop .t)
+room : (w : tie.In-loop Inv-loop μ-loop) → RowRoom (start w .args .n) (w .before .loop .i) (w .before .loop .t)
 room w =
     let s = start w in
     row-room (record { small = s .pre .table-square .small; size = w .before .loop .inv .1 .size ∙ s .pre .table-square .size }) (w .loop-test .taken)
 
 loop-holds : tie.Need-loop-holds Inv-loop μ-loop
-loop-holds c = (omega arith, updated-start _ _ _ _ _ _)
+loop-holds c = (omega arith, updated-start _ _ _ _ _ _ _)
 
 mul-at : tie.Need-mul-at Inv-loop μ-loop
 mul-at c = let h = room c in omega arith

@@ -12,7 +12,7 @@ use Rattle.matching.specs.Opening.{Opens}
 use Rattle.laws.specs.Sound.{opening-accepted}
 use Rattle.text.specs.Puts.{puts-then, puts-length}
 use Rattle.opening.specs.declared.Opening.{Opening}
-use Rattle.opening.specs.Answers.{opening-of, buffers}
+use Rattle.opening.specs.Meaning.{opening-of, buffers}
 use Rattle.verdict.specs.Lines.{none, fresh, kernel, not-refused}
 use Rattle.verdict.proofs.verdict_lines.Statement.{statement}
 use Rattle.verdict.proofs.verdict_lines.Tie as tie

@@ -1,7 +1,7 @@
 -- `session::Session::pick` meets its contract. Assumes nothing.
 use borrow.Author.Needs.{needs}
 use Rattle.residue.specs.Modulus.{modulus-prime}
-use Rattle.laws.specs.Carried.{picked-exactly}
+use Rattle.laws.specs.CallOutcome.{picked-exactly}
 use Rattle.session.proofs.Session.pick.Statement.{statement}
 use Rattle.session.proofs.Session.pick.Tie as tie
 

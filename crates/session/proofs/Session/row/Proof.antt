@@ -3,7 +3,7 @@ use mathlib.Core.Path.{sym}
 use lib.ListN.{take-append-drop}
 use lib.Seq.{length-take-le}
 use borrow.Author.Needs.{needs}
-use Rattle.soundness.specs.Lent.{lent-room}
+use Rattle.soundness.specs.Besides.{lent-room}
 use Rattle.calls.specs.Known.{known-lent, tables, standing}
 use Rattle.session.specs.Row.{not-shown, row-shows}
 use Rattle.session.proofs.Session.row.Statement.{statement}

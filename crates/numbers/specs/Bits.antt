@@ -5,11 +5,11 @@ use Rattle.matching.specs.Session.{Session}
 use Rattle.laws.specs.Numbers.{SmallRuling}
 
 -- the pairs made, or the place of a refusal
-abbrev pub FitsNumber : Ruling → ℕ → Type 0
-FitsNumber accepted made = made < 2 ^ 8
-FitsNumber (refused r) made = r .place < 2 ^ 16
+abbrev pub RulingFits : Ruling → ℕ → Type 0
+RulingFits accepted made = made < 2 ^ 8
+RulingFits (refused r) made = r .place < 2 ^ 16
 
 -- those of a small ruling do
-pub fits-number : (v : Ruling) (s : Session) → SmallRuling v s → FitsNumber v (s .made)
-fits-number accepted s h = h
-fits-number (refused r) s h = h .place-below
+pub ruling-fits : (v : Ruling) (s : Session) → SmallRuling v s → RulingFits v (s .made)
+ruling-fits accepted s h = h
+ruling-fits (refused r) s h = h .place-below

@@ -9,11 +9,11 @@ use Rattle.matching.specs.Pairs.{unmatched}
 use Rattle.matching.specs.Session.{State, state, in-play, graph-of, pairs-of}
 use Rattle.matching.specs.Causes.{Lent, lent-to-session, session-causes, session-ruling, too-large, too-short, bad-cell, bad-weight, ill-formed, not-inverse}
 use Rattle.laws.specs.Sound.{more-accepted}
-use Rattle.checks.specs.Answers.{then}
+use Rattle.checks.specs.Meaning.{then}
 use Rattle.checks.specs.Lengths.{is-short, is-long, short-ruling, short-then, lengths-refused, lengths-accepted}
 use Rattle.refusals.specs.declared.Ruling as declared
 use Rattle.refusals.specs.declared.Ruling.the-variants.{Accepted}
-use Rattle.refusals.specs.Answers.{ruling-of}
+use Rattle.refusals.specs.Meaning.{ruling-of}
 use Rattle.soundness.specs.Sound.{Confirmed}
 
 -- the ruling of a list of causes, and then that of another

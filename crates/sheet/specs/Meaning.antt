@@ -1,6 +1,6 @@
 -- The answers of this crate in the terms of the definitions: what the contracts of `src/` cite. Assumes nothing.
 use Rattle.matching.specs.Records as definition
-use Rattle.refusals.specs.Answers.{refusal-of}
+use Rattle.refusals.specs.Meaning.{refusal-of}
 use Rattle.sheet.specs.declared.Read.{Read}
 use Rattle.sheet.specs.declared.Read.the-variants.{Graph, Refused}
 

@@ -11,9 +11,9 @@ use Rattle.matching.specs.Session.{State, in-play, graph-of, pairs-of, with-pai
 use Rattle.matching.specs.Causes.{session-ruling}
 use Rattle.matching.specs.Model.{Call, pick, Answer, done, denied, Step, Nonsingular, pick-ruling, Allowed, append, step}
 use Rattle.matching.specs.Calls.{Returned, state-after, model-step, Handles, unsound, refuses, carries, PickedExactly, Runs, none, more}
-use Rattle.laws.specs.Facts.{step-nonsingular, allowed-of-accepted, accepted-of-allowed, unlike}
+use Rattle.laws.specs.ModelLaws.{step-nonsingular, allowed-of-accepted, accepted-of-allowed, unlike}
 use Rattle.laws.specs.Sound.{session-accepted}
-use Rattle.laws.specs.Determined.{inverse-table-of, inverse-table-unique}
+use Rattle.laws.specs.OpeningOutcome.{inverse-table-of, inverse-table-unique}
 
 module _ {p : ℕ} (P : OddPrime p) where
   pub handles-some : (s : State) (c : Call) → (a : Answer) × (t : State) × Handles P s c a t

@@ -15,9 +15,9 @@ use Rattle.matching.specs.Host.{words, Bytes, bytes-of, refusal-number, unpacke
 use Rattle.matching.specs.Replay.{call-count, calls-of, lent-answers, list-causes, replay-ruling, Replays, refuses-replay, replays, replay-number, replay-stored, HostReplays, HostDemandThree}
 use Rattle.laws.specs.Numbers.{replays-small, host-replay-session}
 use Rattle.laws.specs.Words.{stored-words, own-front}
-use Rattle.numbers.specs.Fits.{FitsNumber, fits-number}
+use Rattle.numbers.specs.Bits.{RulingFits, ruling-fits}
 use Rattle.crossing.specs.Needed.{needed-weights, needed-agree, needed-counted}
-use Rattle.crossing.specs.Fit.{HostFits, needed-inverse, needed-state, room, room-first, table-length, more-same}
+use Rattle.crossing.specs.HostFits.{HostFits, needed-inverse, needed-state, room, room-first, table-length, more-same}
 use Rattle.replay.specs.Run.{replays-follow}
 use Rattle.replay_bytes.specs.Wide.{Wide, wide, WideRun, wide-runs}
 
@@ -42,8 +42,8 @@ extent-small true size = omega arith
 extent-small false size = omega arith
 
 pub replays-fit : {s t : State} {numbers answers answers′ : List ℕ} {v : Ruling} → Replays modulus-prime s numbers answers v t answers′
-    → FitsNumber v (t .session .made)
-replays-fit {t = t} {v = v} R = fits-number v (t .session) (replays-small modulus-prime R)
+    → RulingFits v (t .session .made)
+replays-fit {t = t} {v = v} R = ruling-fits v (t .session) (replays-small modulus-prime R)
 
 -- a replay over the words that the graph needs is one over all of the host's
 module _ (n made : ℕ) (adjacency weights inverse sequence : List ℕ) (numbers answers : List ℕ) where

@@ -23,11 +23,11 @@ answer-of (Done e) = done (pair-is e)
 answer-of (Denied r) = denied (because (r .cause) (r .place))
 
 -- the parts of an answer fit their bits of the host's number
-abbrev pub Fits : Answer → ℕ → Type 0
-Fits (Done e) made = (e .smaller < 2 ^ 8) × (e .larger < 2 ^ 8) × (made < 2 ^ 8)
-Fits (Denied r) made = r .place < 2 ^ 16
+abbrev pub AnswerFits : Answer → ℕ → Type 0
+AnswerFits (Done e) made = (e .smaller < 2 ^ 8) × (e .larger < 2 ^ 8) × (made < 2 ^ 8)
+AnswerFits (Denied r) made = r .place < 2 ^ 16
 
 -- those of a call do
-pub handles-fit : {s t : State} {c : model.Call} (a : Answer) → Handles modulus-prime s c (answer-of a) t → Fits a (t .session .made)
+pub handles-fit : {s t : State} {c : model.Call} (a : Answer) → Handles modulus-prime s c (answer-of a) t → AnswerFits a (t .session .made)
 handles-fit (Done e) H = let h = handles-small modulus-prime H in (h .0, h .1, made-small modulus-prime H)
 handles-fit (Denied r) H = handles-small modulus-prime H .place-below

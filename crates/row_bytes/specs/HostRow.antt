@@ -12,11 +12,11 @@ use Rattle.matching.specs.Causes.{lent-row}
 use Rattle.matching.specs.Calls.{bit-of, open-row, row-ruling, ShowsRow, shows, row-refused}
 use Rattle.matching.specs.Host.{words, row-number, unpacked-state, HostShowsRow}
 use Rattle.laws.specs.Numbers.{row-small}
-use Rattle.numbers.specs.Fits.{FitsNumber, fits-number}
+use Rattle.numbers.specs.Bits.{RulingFits, ruling-fits}
 use Rattle.partners.specs.Standing.{vertex-causes}
 use Rattle.crossing.specs.Needed.{needed-weights, needed-agree}
 use Rattle.crossing.specs.Steps.{pick-same}
-use Rattle.crossing.specs.Fit.{HostFits, needed-state, room, room-first, more-same}
+use Rattle.crossing.specs.HostFits.{HostFits, needed-state, room, room-first, more-same}
 
 -- open row over lent words
 pub record ShowsOver (s : State) (a : ℕ) (row : List ℕ) (answer : ℕ) (row′ : List ℕ) : Type 0 where
@@ -31,8 +31,8 @@ state-same (shows e) = shows e
 state-same (row-refused r e) = row-refused r e
 
 -- a refusal fits the number, and so do the pairs made
-pub shown-fits : {s t : State} {a : ℕ} {row row′ : List ℕ} {v : Ruling} → ShowsRow modulus-prime s a row v t row′ → FitsNumber v (s .session .made)
-shown-fits {s} {v = v} R = fits-number v (s .session) (row-small modulus-prime R)
+pub shown-fits : {s t : State} {a : ℕ} {row row′ : List ℕ} {v : Ruling} → ShowsRow modulus-prime s a row v t row′ → RulingFits v (s .session .made)
+shown-fits {s} {v = v} R = ruling-fits v (s .session) (row-small modulus-prime R)
 
 -- over the words that the graph needs it is as over all of the host's
 module _ (n made : ℕ) (adjacency weights inverse sequence : List ℕ) (a : ℕ) (row : List ℕ) (F : HostFits (unpacked-state (state n made adjacency weights inverse sequence))) where

@@ -14,10 +14,10 @@ use Rattle.matching.specs.Host.{words, unpacked-state}
 use Rattle.laws.specs.Sound.{short-absent, SessionFits, session-fits}
 use Rattle.laws.specs.Words.{words-length, words-half}
 use Rattle.laws.specs.Judge.{judge-accepted, when-absent}
-use Rattle.checks.specs.Answers.{then}
+use Rattle.checks.specs.Meaning.{then}
 use Rattle.checks.specs.Weights.{needed}
 use Rattle.checks.specs.Lengths.{lengths-accepted}
-use Rattle.soundness.specs.Lent.{lengths-first, more-parts}
+use Rattle.soundness.specs.Besides.{lengths-first, more-parts}
 use Rattle.crossing.specs.Needed.{needed-weights, needed-agree, needed-counted, needed-fits}
 use Rattle.crossing.specs.Steps.{session-same}
 
@@ -41,6 +41,27 @@ pub record Needed (n : ℕ) (weights inverse : List ℕ) : Type 0 where
   pub size : n ≤ largest
   pub weights-fit : 2 * needed n ≤ length weights
   pub inverse-fits : 2 * (n * n) ≤ length inverse
+
+-- two arrays begin with the words that n vertices need of these bytes
+pub record Unpacked (n : ℕ) (weights inverse values table : List ℕ) : Type 0 where
+  pub weights-room : needed n ≤ length values
+  pub inverse-room : n * n ≤ length table
+  pub weights-are : take (needed n) values ≡ needed-weights n weights
+  pub inverse-are : take (n * n) table ≡ needed-inverse n inverse
+
+-- so the parts that are lent of them have these words, k of them the weights
+module _ {n : ℕ} {weights inverse values table : List ℕ} (U : Unpacked n weights inverse values table) where
+  pub table-part : length (take (n * n) table) ≡ n * n
+  table-part = length-take-le (n * n) table (U .inverse-room)
+
+  pub values-within : {k : ℕ} → k ≡ needed n → k ≤ length values
+  values-within e = omega (arith, U .weights-room)
+
+  pub values-part : {k : ℕ} → k ≡ needed n → length (take k values) ≡ k
+  values-part {k} e = length-take-le k values (values-within e)
+
+  pub values-are : {k : ℕ} → k ≡ needed n → take k values ≡ needed-weights n weights
+  values-are e = ap (λ j. take j values) e ∙ U .weights-are
 
 -- the words lent in the place of a host's bytes
 abbrev pub needed-state : State → State

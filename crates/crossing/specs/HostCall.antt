@@ -19,7 +19,7 @@ use Rattle.laws.specs.Words.{stored-front}
 use Rattle.crossing.specs.Same.{table-same}
 use Rattle.crossing.specs.Needed.{needed-weights, needed-agree}
 use Rattle.crossing.specs.Steps.{step-same}
-use Rattle.crossing.specs.Fit.{HostFits, needed-inverse, needed-state, table-length, ruling-same}
+use Rattle.crossing.specs.HostFits.{HostFits, needed-inverse, needed-state, table-length, ruling-same}
 
 -- the first words of a table, so many of them, stored over bytes where a pair is answered
 abbrev pub stored : Answer → ℕ → (table bytes : List ℕ) → List ℕ

@@ -16,10 +16,10 @@ use Rattle.tutte.specs.Table.{Complete}
 use Rattle.exchange.specs.declared.Outcome.{Outcome}
 use Rattle.exchange.specs.declared.Outcome.the-variants.{Inverse, Column}
 use Rattle.solve.specs.Solved.{Solved}
-use Rattle.opening.specs.Answers.{found, buffers}
+use Rattle.opening.specs.Meaning.{found, buffers}
 
 -- what opening works on; an accepted graph makes it ready
-pub record Ready (n : ℕ) (adjacency weights inverse sequence witness : List ℕ) : Type 0 where
+pub record OpeningReady (n : ℕ) (adjacency weights inverse sequence witness : List ℕ) : Type 0 where
   pub lent : Complete n adjacency weights
   pub inverse-fits : n * n ≤ length inverse
   pub sequence-fits : n ≤ length sequence
@@ -27,7 +27,7 @@ pub record Ready (n : ℕ) (adjacency weights inverse sequence witness : List �
 
 pub ready : (n : ℕ) (adjacency weights inverse sequence witness : List ℕ) (work : ℕ)
     → opening-ruling modulus (over n adjacency weights) (length inverse) (length sequence) (length witness) work ≡ accepted
-    → Ready n adjacency weights inverse sequence witness × (n * n ≤ work)
+    → OpeningReady n adjacency weights inverse sequence witness × (n * n ≤ work)
 ready n adjacency weights inverse sequence witness work e =
     let k = opening-accepted modulus (over n adjacency weights) (length inverse) (length sequence) (length witness) work .0 e in (
       record {
