@@ -5,6 +5,7 @@ use Prim.Native.Nat.{ℕ, _+_, _≤_, _<_}
 use native.Mathlib.Omega.{arith}
 use lib.ListN.{length, drop, length-drop}
 use Rattle.matching.specs.Decision.{because}
+use Rattle.matching.specs.Edition.{Edition}
 use Rattle.matching.specs.Pairs.{Pair}
 use Rattle.matching.specs.Records as paper
 use Rattle.matching.specs.Records.{kind, Begins, begins-size, begins-share, begins-seed, begins-end, Progress, ended, Due, size-due, seed-due, share-due, end-due, Takes, Rejects, Reading, sheet, unread, Reads, whole, not-due, stops, cut, rejected, goes-on}
@@ -14,12 +15,12 @@ use Rattle.records.specs.declared.Record.{Record}
 use Rattle.records.specs.declared.Next.the-variants.{Whole, Cut, Unknown, Nothing}
 
 -- with this progress, the bytes from an offset on are read so
-abbrev pub ReadsOn : List ℕ → Progress → ℕ → Reading → Type 0
-ReadsOn bytes q at r = Reads (length bytes) q at (drop at bytes) r
+abbrev pub ReadsOn : Edition → List ℕ → Progress → ℕ → Reading → Type 0
+ReadsOn E bytes q at r = Reads E (length bytes) q at (drop at bytes) r
 
 -- reading comes from one offset to another: what is read from there on is what is read
-abbrev pub Follows : List ℕ → Progress → ℕ → Progress → ℕ → Type 0
-Follows bytes q at q′ at′ = (r : Reading) → ReadsOn bytes q′ at′ r → ReadsOn bytes q at r
+abbrev pub Follows : Edition → List ℕ → Progress → ℕ → Progress → ℕ → Type 0
+Follows E bytes q at q′ at′ = (r : Reading) → ReadsOn E bytes q′ at′ r → ReadsOn E bytes q at r
 
 -- a record has a kind, and takes a byte at least
 record First (k : ℕ) (bytes : List ℕ) : Type 0 where
@@ -49,45 +50,46 @@ due-kind seed-due = record { of = paper.seed 0; same = refl }
 due-kind share-due = record { of = paper.share 0 0; same = refl }
 due-kind end-due = record { of = paper.end; same = refl }
 
-module _ {bytes : List ℕ} {at : ℕ} where
-  -- a whole record ends within the bytes
-  pub stands-within : {r : Record} → Stands bytes at (Whole r) → at + width-of r ≤ length bytes
-  stands-within {r} (stands-whole b) = omega (arith, begins-width b, wide (record-of r), length-drop at bytes, length-drop (at + width-of r) bytes)
+-- a whole record ends within the bytes
+pub stands-within : {bytes : List ℕ} {at : ℕ} {r : Record} → Stands bytes at (Whole r) → at + width-of r ≤ length bytes
+stands-within {bytes} {at} {r} (stands-whole b) =
+    omega (arith, begins-width b, wide (record-of r), length-drop at bytes, length-drop (at + width-of r) bytes)
 
-  pub taken-here : {r : Record} {q next : Progress} → Stands bytes at (Whole r) → Takes q (record-of r) next → Follows bytes q at next (at + width-of r)
+module _ {E : Edition} {bytes : List ℕ} {at : ℕ} where
+  pub taken-here : {r : Record} {q next : Progress} → Stands bytes at (Whole r) → Takes E q (record-of r) next → Follows E bytes q at next (at + width-of r)
   taken-here (stands-whole b) t result R = goes-on b t R
 
   pub rejected-here : {r : Record} {q : Progress} {cause : ℕ} → Stands bytes at (Whole r) → Rejects q (record-of r) cause
-      → ReadsOn bytes q at (unread (because cause at))
+      → ReadsOn E bytes q at (unread (because cause at))
   rejected-here (stands-whole b) j = rejected b j
 
-  pub undue-here : {r : Record} {q : Progress} → Stands bytes at (Whole r) → ¬ Due q (kind (record-of r)) → ReadsOn bytes q at (unread (because 12 at))
+  pub undue-here : {r : Record} {q : Progress} → Stands bytes at (Whole r) → ¬ Due q (kind (record-of r)) → ReadsOn E bytes q at (unread (because 12 at))
   undue-here (stands-whole b) d = rw (begins-first b .begin) (not-due d)
 
-  pub cut-here : {k : ℕ} {q : Progress} → Stands bytes at (Cut k) → Due q k → ReadsOn bytes q at (unread (because 13 (length bytes)))
+  pub cut-here : {k : ℕ} {q : Progress} → Stands bytes at (Cut k) → Due q k → ReadsOn E bytes q at (unread (because 13 (length bytes)))
   cut-here (stands-cut r e none) d = rw e (cut d none)
 
-  pub undue-cut : {k : ℕ} {q : Progress} → Stands bytes at (Cut k) → ¬ Due q k → ReadsOn bytes q at (unread (because 12 at))
+  pub undue-cut : {k : ℕ} {q : Progress} → Stands bytes at (Cut k) → ¬ Due q k → ReadsOn E bytes q at (unread (because 12 at))
   undue-cut (stands-cut r e none) d = rw e (not-due d)
 
-  pub unknown-here : {q : Progress} → Stands bytes at Unknown → ReadsOn bytes q at (unread (because 12 at))
+  pub unknown-here : {q : Progress} → Stands bytes at Unknown → ReadsOn E bytes q at (unread (because 12 at))
   unknown-here (stands-unknown e none) = rw e (not-due (λ d. let k = due-kind d in none (k .of) (k .same)))
 
-  pub stops-here : {k : ℕ} {q : Progress} → Stands bytes at Nothing → Due q k → ReadsOn bytes q at (unread (because 13 (length bytes)))
+  pub stops-here : {k : ℕ} {q : Progress} → Stands bytes at Nothing → Due q k → ReadsOn E bytes q at (unread (because 13 (length bytes)))
   stops-here (stands-nothing e) d = rw e (stops d)
 
 -- after the end record there is no byte, or one too many
-module _ (bytes : List ℕ) (at n : ℕ) (weights : List ℕ) (edges : List Pair) where
-  pub ends-here : length bytes ≤ at → ReadsOn bytes (ended n weights edges) at (sheet n weights edges)
+module _ {E : Edition} (bytes : List ℕ) (at n : ℕ) (weights : List ℕ) (edges : List Pair) where
+  pub ends-here : length bytes ≤ at → ReadsOn E bytes (ended n weights edges) at (sheet n weights edges)
   ends-here l = none (drop at bytes) (omega (arith, length-drop at bytes))
     where
-      none : (rest : List ℕ) → length rest ≡ 0 → Reads (length bytes) (ended n weights edges) at rest (sheet n weights edges)
+      none : (rest : List ℕ) → length rest ≡ 0 → Reads E (length bytes) (ended n weights edges) at rest (sheet n weights edges)
       none [] _ = whole
       none (_ ∷ _) e = absurd (omega arith)
 
-  pub excess-here : at < length bytes → ReadsOn bytes (ended n weights edges) at (unread (because 12 at))
+  pub excess-here : at < length bytes → ReadsOn E bytes (ended n weights edges) at (unread (because 12 at))
   excess-here l = one (drop at bytes) (omega (arith, length-drop at bytes))
     where
-      one : (rest : List ℕ) → 0 < length rest → Reads (length bytes) (ended n weights edges) at rest (unread (because 12 at))
+      one : (rest : List ℕ) → 0 < length rest → Reads E (length bytes) (ended n weights edges) at rest (unread (because 12 at))
       one [] h = absurd (omega arith)
       one (_ ∷ _) h = not-due nothing-due

@@ -8,6 +8,7 @@ use lib.Dec.{eqb}
 use lib.ListN.{length}
 use borrow.Author.Tests.{eqb-true, eqb-false}
 use Rattle.matching.specs.Decision.{Refusal, because}
+use Rattle.matching.specs.Edition.{Edition}
 use Rattle.matching.specs.Pairs.{Pair}
 use Rattle.matching.specs.Records as paper
 use Rattle.matching.specs.Records.{Progress, start, sized, weighted, size-due, seed-due, share-due, end-due, unread}
@@ -71,7 +72,7 @@ module _ (k : ℕ) where
   admits-end d _ awaits-edges = says-equal k 4 (λ e. rw e end-due) (only-edges d)
 
 -- so the rest is refused; where no byte stands, some kind is due in every case
-pub missing-reads : {bytes : List ℕ} {at : ℕ} {q : Progress} {d : Due} {why : Refusal} → Awaits q d → Missing bytes at q why → ReadsOn bytes q at (unread why)
+pub missing-reads : {E : Edition} {bytes : List ℕ} {at : ℕ} {q : Progress} {d : Due} {why : Refusal} → Awaits q d → Missing bytes at q why → ReadsOn E bytes q at (unread why)
 missing-reads a (no-kind s) = unknown-here s
 missing-reads a (undue-body s u) = undue-cut s u
 missing-reads a (due-body s u) = cut-here s u

@@ -6,6 +6,7 @@ use native.Mathlib.Numerals.{add-one}
 use native.Mathlib.Omega.{arith}
 use lib.ListN.{length}
 use Rattle.matching.specs.Decision.{because}
+use Rattle.matching.specs.Edition.{Edition}
 use Rattle.matching.specs.Pairs.{Pair, pair-of}
 use Rattle.matching.specs.Records.{weighted, takes-end, sheet, unread, cells}
 use Rattle.matching.specs.Computed.{only-edges}
@@ -25,75 +26,75 @@ use Rattle.edges.specs.declared.Edges.{Edges}
 use Rattle.edges.specs.declared.Edges.the-variants as edges
 
 -- an edge more
-pub record OneMore (bytes : List ℕ) (at n : ℕ) (weights : List ℕ) (edges : List Pair) (next : ℕ) (table : List ℕ) : Type 0 where
+pub record OneMore (E : Edition) (bytes : List ℕ) (at n : ℕ) (weights : List ℕ) (edges : List Pair) (next : ℕ) (table : List ℕ) : Type 0 where
   pub edge : Pair
   pub marks : table ≡ cells n (edge ∷ edges)
-  pub follows : Follows bytes (weighted n weights edges) at (weighted n weights (edge ∷ edges)) next
+  pub follows : Follows E bytes (weighted n weights edges) at (weighted n weights (edge ∷ edges)) next
 
 abbrev pub Stepped : List ℕ → (at n : ℕ) → List ℕ → Step → List ℕ → Type 0
 Stepped bytes at n table (step.On next) table′ =
-    (at < next) × (next ≤ length bytes) × ((weights : List ℕ) (edges : List Pair) → table ≡ cells n edges → OneMore bytes at n weights edges next table′)
+    (at < next) × (next ≤ length bytes) × ((E : Edition) (weights : List ℕ) (edges : List Pair) → table ≡ cells n edges → OneMore E bytes at n weights edges next table′)
 Stepped bytes at n table step.Done table′ =
-    (table′ ≡ table) × ((weights : List ℕ) (edges : List Pair) → ReadsOn bytes (weighted n weights edges) at (sheet n weights edges))
+    (table′ ≡ table) × ((E : Edition) (weights : List ℕ) (edges : List Pair) → ReadsOn E bytes (weighted n weights edges) at (sheet n weights edges))
 Stepped bytes at n table (step.Refused why) table′ =
-    (weights : List ℕ) (edges : List Pair) → table ≡ cells n edges → ReadsOn bytes (weighted n weights edges) at (unread (refusal-of why))
+    (E : Edition) (weights : List ℕ) (edges : List Pair) → table ≡ cells n edges → ReadsOn E bytes (weighted n weights edges) at (unread (refusal-of why))
 
 module _ {bytes : List ℕ} {at n : ℕ} where
   -- another kind than share and end
-  pub step-undue : {r : Record} → Stands bytes at (Whole r) → Left (2 ∷ 4 ∷ []) r → (weights : List ℕ) (edges : List Pair)
-      → ReadsOn bytes (weighted n weights edges) at (unread (because 12 at))
-  step-undue {r} S left weights edges = undue-here S (only-edges (other-kind (2 ∷ 4 ∷ []) r 2 left tt) (other-kind (2 ∷ 4 ∷ []) r 4 left tt))
+  pub step-undue : {r : Record} → Stands bytes at (Whole r) → Left (2 ∷ 4 ∷ []) r → (E : Edition) (weights : List ℕ) (edges : List Pair)
+      → ReadsOn E bytes (weighted n weights edges) at (unread (because 12 at))
+  step-undue {r} S left E weights edges = undue-here S (only-edges (other-kind (2 ∷ 4 ∷ []) r 2 left tt) (other-kind (2 ∷ 4 ∷ []) r 4 left tt))
 
   pub step-share : {table table′ : List ℕ} (e : Ends) → Stands bytes at (Whole (Share e)) → Marked n (e .a) (e .b) table mark.Made table′
       → Stepped bytes at n table (step.On (at + 3)) table′
   step-share e S M = (
     omega arith,
     stands-within S,
-    λ weights edges t. record {
+    λ E weights edges t. record {
       edge = pair-of (e .a) (e .b);
-      marks = M weights edges t .marks;
-      follows = taken-here S (M weights edges t .takes);
+      marks = M E weights edges t .marks;
+      follows = taken-here S (M E weights edges t .takes);
     },
   )
 
   pub step-rejected : {table : List ℕ} {cause : ℕ} (e : Ends) → Stands bytes at (Whole (Share e)) → Marked n (e .a) (e .b) table (mark.Refused cause) table
-      → (weights : List ℕ) (edges : List Pair) → table ≡ cells n edges → ReadsOn bytes (weighted n weights edges) at (unread (because cause at))
-  step-rejected e S M weights edges t = rejected-here S (M weights edges t)
+      → (E : Edition) (weights : List ℕ) (edges : List Pair) → table ≡ cells n edges → ReadsOn E bytes (weighted n weights edges) at (unread (because cause at))
+  step-rejected e S M E weights edges t = rejected-here S (M weights edges t)
 
-  pub step-end : Stands bytes at (Whole End) → length bytes ≤ at + 1 → (weights : List ℕ) (edges : List Pair)
-      → ReadsOn bytes (weighted n weights edges) at (sheet n weights edges)
-  step-end S l weights edges = taken-here S takes-end _ (ends-here bytes (at + 1) n weights edges l)
+  pub step-end : Stands bytes at (Whole End) → length bytes ≤ at + 1 → (E : Edition) (weights : List ℕ) (edges : List Pair)
+      → ReadsOn E bytes (weighted n weights edges) at (sheet n weights edges)
+  step-end S l E weights edges = taken-here S takes-end _ (ends-here bytes (at + 1) n weights edges l)
 
-  pub step-excess : Stands bytes at (Whole End) → at + 1 < length bytes → (weights : List ℕ) (edges : List Pair)
-      → ReadsOn bytes (weighted n weights edges) at (unread (because 12 (at + 1)))
-  step-excess S l weights edges = taken-here S takes-end _ (excess-here bytes (at + 1) n weights edges l)
+  pub step-excess : Stands bytes at (Whole End) → at + 1 < length bytes → (E : Edition) (weights : List ℕ) (edges : List Pair)
+      → ReadsOn E bytes (weighted n weights edges) at (unread (because 12 (at + 1)))
+  step-excess S l E weights edges = taken-here S takes-end _ (excess-here bytes (at + 1) n weights edges l)
 
 -- count edges are read from one offset to another, and marked in the table
-pub record Reached (bytes : List ℕ) (from n : ℕ) (weights : List ℕ) (at count : ℕ) (table : List ℕ) : Type 0 where
+pub record Reached (E : Edition) (bytes : List ℕ) (from n : ℕ) (weights : List ℕ) (at count : ℕ) (table : List ℕ) : Type 0 where
   pub edges : List Pair
   pub counted : count ≡ length edges
   pub marks : table ≡ cells n edges
-  pub follows : Follows bytes (weighted n weights []) from (weighted n weights edges) at
+  pub follows : Follows E bytes (weighted n weights []) from (weighted n weights edges) at
 
 -- count edges are read up to the end record
-pub record AllRead (bytes : List ℕ) (from n : ℕ) (weights : List ℕ) (count : ℕ) (table : List ℕ) : Type 0 where
+pub record AllRead (E : Edition) (bytes : List ℕ) (from n : ℕ) (weights : List ℕ) (count : ℕ) (table : List ℕ) : Type 0 where
   pub edges : List Pair
   pub counted : count ≡ length edges
   pub marks : table ≡ cells n edges
-  pub reads : ReadsOn bytes (weighted n weights []) from (sheet n weights edges)
+  pub reads : ReadsOn E bytes (weighted n weights []) from (sheet n weights edges)
 
-abbrev pub EdgesRead : List ℕ → (from n : ℕ) → List ℕ → Edges → List ℕ → Type 0
-EdgesRead bytes from n weights (edges.Counted count) table = AllRead bytes from n weights count table
-EdgesRead bytes from n weights (edges.Refused why) table = ReadsOn bytes (weighted n weights []) from (unread (refusal-of why))
+abbrev pub EdgesRead : Edition → List ℕ → (from n : ℕ) → List ℕ → Edges → List ℕ → Type 0
+EdgesRead E bytes from n weights (edges.Counted count) table = AllRead E bytes from n weights count table
+EdgesRead E bytes from n weights (edges.Refused why) table = ReadsOn E bytes (weighted n weights []) from (unread (refusal-of why))
 
-module _ {bytes : List ℕ} {from n : ℕ} {weights : List ℕ} where
-  pub reached-start : {table : List ℕ} → table ≡ cells n [] → Reached bytes from n weights from 0 table
+module _ {E : Edition} {bytes : List ℕ} {from n : ℕ} {weights : List ℕ} where
+  pub reached-start : {table : List ℕ} → table ≡ cells n [] → Reached E bytes from n weights from 0 table
   reached-start e = record { edges = []; counted = refl; marks = e; follows = λ r R. R }
 
-  module _ {at count : ℕ} {table : List ℕ} (R : Reached bytes from n weights at count table) where
-    pub reached-more : {next : ℕ} {table′ : List ℕ} → Stepped bytes at n table (step.On next) table′ → Reached bytes from n weights next (count + 1) table′
+  module _ {at count : ℕ} {table : List ℕ} (R : Reached E bytes from n weights at count table) where
+    pub reached-more : {next : ℕ} {table′ : List ℕ} → Stepped bytes at n table (step.On next) table′ → Reached E bytes from n weights next (count + 1) table′
     reached-more S =
-        let more = S .2 weights (R .edges) (R .marks) in
+        let more = S .2 E weights (R .edges) (R .marks) in
         record {
           edges = more .edge ∷ R .edges;
           counted = ap (λ k. k + 1) (R .counted) ∙ simp add-one;
@@ -101,6 +102,6 @@ module _ {bytes : List ℕ} {from n : ℕ} {weights : List ℕ} where
           follows = λ r later. R .follows r (more .follows r later);
         }
 
-    pub reached-end : {table′ : List ℕ} → Stepped bytes at n table step.Done table′ → AllRead bytes from n weights count table′
+    pub reached-end : {table′ : List ℕ} → Stepped bytes at n table step.Done table′ → AllRead E bytes from n weights count table′
     reached-end S =
-        record { edges = R .edges; counted = R .counted; marks = S .0 ∙ R .marks; reads = R .follows _ (S .1 weights (R .edges)) }
+        record { edges = R .edges; counted = R .counted; marks = S .0 ∙ R .marks; reads = R .follows _ (S .1 E weights (R .edges)) }

@@ -7,6 +7,7 @@ ghost use mathlib.Core.Path.{_≡_};
 ghost use mathlib.Core.List.{List, []};
 ghost use Prim.Native.Nat.{ℕ};
 ghost use Rattle.lists.specs.Table.{Square};
+ghost use Rattle.matching.specs.Edition.{Edition};
 ghost use Rattle.matching.specs.Records.{cells};
 ghost use Rattle.edges.specs.Marked.{Marked};
 ghost use Rattle.edges.specs.Stepped.{Stepped, EdgesRead};
@@ -86,7 +87,7 @@ fn take_record(bytes: &[u8], at: usize, n: usize, table: &mut [u8]) -> Step
 // Behind each record, the table has the edges of the records so far, and count is their number.
 pub fn read_edges(bytes: &[u8], from: usize, n: usize, table: &mut [u8]) -> Edges
     requires { ⌜ Square n (now table) × (now table ≡ cells n []) ⌝ }
-    ensures { λ r. ⌜ ((weights : List ℕ) → EdgesRead (now (bytes .entry)) from n weights r (now (table .exit))) ⌝ }
+    ensures { λ r. ⌜ ((E : Edition) (weights : List ℕ) → EdgesRead E (now (bytes .entry)) from n weights r (now (table .exit))) ⌝ }
 {
     let mut at = from;
     let mut count = 0;

@@ -2,6 +2,7 @@
 use records::Next;
 use sheet::Read;
 ghost use mathlib.Core.Path.{_≡_};
+ghost use Rattle.matching.specs.Edition.{first-edition};
 ghost use Rattle.matching.specs.Records.{FillsFrom, Fills};
 ghost use Rattle.records.specs.Stands.{Stands};
 ghost use Rattle.sheet.specs.Meaning.{read-of};
@@ -40,8 +41,8 @@ impl<'a> Reader<'a> {
     // Reads a sheet from its place to the end of its bytes into adjacency and weights.
     pub fn fill(self, adjacency: &mut [u8], weights: &mut [u16]) -> Read
         ensures { λ r.
-            ⌜ FillsFrom (now (self .entry .bytes)) (self .entry .at) (now (adjacency .entry)) (now (weights .entry)) (read-of r)
-            (now (adjacency .exit)) (now (weights .exit)) ⌝ }
+            ⌜ FillsFrom first-edition (now (self .entry .bytes)) (self .entry .at) (now (adjacency .entry)) (now (weights .entry))
+            (read-of r) (now (adjacency .exit)) (now (weights .exit)) ⌝ }
     {
         sheet::read_at(self.bytes, self.at, adjacency, weights)
     }
@@ -50,7 +51,7 @@ impl<'a> Reader<'a> {
 // Reads a sheet that is all of bytes into adjacency and weights.
 pub fn read(bytes: &[u8], adjacency: &mut [u8], weights: &mut [u16]) -> Read
     ensures { λ r.
-        ⌜ Fills (now (bytes .entry)) (now (adjacency .entry)) (now (weights .entry)) (read-of r)
+        ⌜ Fills first-edition (now (bytes .entry)) (now (adjacency .entry)) (now (weights .entry)) (read-of r)
         (now (adjacency .exit)) (now (weights .exit)) ⌝ }
 {
     Reader::new(bytes).fill(adjacency, weights)

@@ -7,6 +7,7 @@ use Rattle.lists.specs.Onto.{onto}
 use Rattle.draws.specs.Draws.{draws}
 use Rattle.draws.specs.Laws.{draws-length}
 use Rattle.matching.specs.Decision.{because, accepted, refused}
+use Rattle.matching.specs.Edition.{Edition}
 use Rattle.matching.specs.Graph.{pair-count}
 use Rattle.matching.specs.Pairs.{Pair}
 use Rattle.matching.specs.Records.{start, sheet, ReadsFrom, cells, Read, graph-read, not-read, room, FillsFrom, lacks-room, fills}
@@ -28,32 +29,32 @@ module _ (n : ℕ) (adjacency weights : List ℕ) where
   room-enough g h = ap short-ruling (is-long (length adjacency) (n * n) 1 _ g ∙ is-long (length weights) (pair-count n) 2 _ h)
 
 -- for whatever bytes were read as a sheet with the edges of the table
-abbrev pub Finishes : (n seed count : ℕ) → List ℕ → (adjacency weights : List ℕ) → Read → (adjacency′ weights′ : List ℕ) → Type 0
-Finishes n seed count table adjacency weights r adjacency′ weights′ =
-    (bytes : List ℕ) (at : ℕ) (edges : List Pair) → ReadsFrom bytes at (sheet n (draws seed (pair-count n)) edges) → count ≡ length edges → table ≡ cells n edges
-    → FillsFrom bytes at adjacency weights r adjacency′ weights′
+abbrev pub Finishes : Edition → (n seed count : ℕ) → List ℕ → (adjacency weights : List ℕ) → Read → (adjacency′ weights′ : List ℕ) → Type 0
+Finishes E n seed count table adjacency weights r adjacency′ weights′ =
+    (bytes : List ℕ) (at : ℕ) (edges : List Pair) → ReadsFrom E bytes at (sheet n (draws (E .draw) seed (pair-count n)) edges) → count ≡ length edges → table ≡ cells n edges
+    → FillsFrom E bytes at adjacency weights r adjacency′ weights′
 
 -- for whatever offset the bytes are read from, where reading has come behind the first two records
-abbrev pub Continues : List ℕ → (next n seed : ℕ) → (adjacency weights : List ℕ) → Read → (adjacency′ weights′ : List ℕ) → Type 0
-Continues bytes next n seed adjacency weights r adjacency′ weights′ =
-    (at : ℕ) → Behind bytes start at n seed next → FillsFrom bytes at adjacency weights r adjacency′ weights′
+abbrev pub Continues : Edition → List ℕ → (next n seed : ℕ) → (adjacency weights : List ℕ) → Read → (adjacency′ weights′ : List ℕ) → Type 0
+Continues E bytes next n seed adjacency weights r adjacency′ weights′ =
+    (at : ℕ) → Behind E bytes start at n seed next → FillsFrom E bytes at adjacency weights r adjacency′ weights′
 
-module _ (n seed : ℕ) {count : ℕ} {table adjacency weights : List ℕ} where
-  pub lacks-adjacency : length adjacency < n * n → Finishes n seed count table adjacency weights (not-read (because 2 1)) adjacency weights
+module _ (E : Edition) (n seed : ℕ) {count : ℕ} {table adjacency weights : List ℕ} where
+  pub lacks-adjacency : length adjacency < n * n → Finishes E n seed count table adjacency weights (not-read (because 2 1)) adjacency weights
   lacks-adjacency h bytes at edges R _ _ = lacks-room R (room-adjacency n adjacency weights h)
 
   pub lacks-weights : n * n ≤ length adjacency → length weights < pair-count n
-      → Finishes n seed count table adjacency weights (not-read (because 2 2)) adjacency weights
+      → Finishes E n seed count table adjacency weights (not-read (because 2 2)) adjacency weights
   lacks-weights g h bytes at edges R _ _ = lacks-room R (room-weights n adjacency weights g h)
 
   pub written : {cells′ drawn : List ℕ} (size pairs : ℕ) → size ≡ n * n → pairs ≡ pair-count n → n * n ≤ length adjacency → pair-count n ≤ length weights
-      → cells′ ≡ table → drawn ≡ draws seed (pair-count n)
-      → Finishes n seed count table adjacency weights (graph-read n count) (cells′ ++ drop size adjacency) (drawn ++ drop pairs weights)
+      → cells′ ≡ table → drawn ≡ draws (E .draw) seed (pair-count n)
+      → Finishes E n seed count table adjacency weights (graph-read n count) (cells′ ++ drop size adjacency) (drawn ++ drop pairs weights)
   written {cells′} {drawn} size pairs es ep g h ec ed bytes at edges R k t =
       let a : onto (cells n edges) adjacency ≡ cells′ ++ drop size adjacency = rw (ec, t, es, cells-length n edges) in
-      let w : onto (draws seed (pair-count n)) weights ≡ drawn ++ drop pairs weights = rw (ed, ep, draws-length seed (pair-count n)) in
+      let w : onto (draws (E .draw) seed (pair-count n)) weights ≡ drawn ++ drop pairs weights = rw (ed, ep, draws-length (E .draw) seed (pair-count n)) in
       rw (k, ← a, ← w) (fills R (room-enough n adjacency weights g h))
 
 -- a sheet that is read has as many weights as its graph needs
-pub drawn-needed : {n : ℕ} {drawn : List ℕ} {edges : List Pair} → Fit n drawn edges → length drawn ≡ needed n
-drawn-needed {n} F = rw (F .drawn) (draws-length (F .seeded-by) (pair-count n)) ∙ sym (needed-all n (F .small))
+pub drawn-needed : {E : Edition} {n : ℕ} {drawn : List ℕ} {edges : List Pair} → Fit E n drawn edges → length drawn ≡ needed n
+drawn-needed {E} {n} F = rw (F .drawn) (draws-length (E .draw) (F .seeded-by) (pair-count n)) ∙ sym (needed-all n (F .small))

@@ -8,6 +8,7 @@ ghost use mathlib.Core.Path.{_≡_};
 ghost use mathlib.Core.List.{[]};
 ghost use Prim.Native.Nat.{_≤_};
 ghost use Rattle.lists.specs.Table.{Square};
+ghost use Rattle.matching.specs.Edition.{first-edition};
 ghost use Rattle.matching.specs.Graph.{largest};
 ghost use Rattle.matching.specs.Records.{start, sized, cells, FillsFrom};
 ghost use Rattle.sheet.specs.Meaning.{read-of};
@@ -42,7 +43,7 @@ pub enum Start {
 // Reads the seed record at offset at of bytes, where the seed is due after a size of n.
 fn read_seed(bytes: &[u8], at: usize, n: usize) -> Start
     requires { ⌜ n ≤ largest ⌝ }
-    ensures { λ r. ⌜ Heads (now (bytes .entry)) (sized n) at r ⌝ }
+    ensures { λ r. ⌜ Heads first-edition (now (bytes .entry)) (sized n) at r ⌝ }
 {
     let found = due::found_at(bytes, at, Due::Seed);
     match found {
@@ -60,7 +61,7 @@ fn read_seed(bytes: &[u8], at: usize, n: usize) -> Start
 
 // Reads the size record at offset at of bytes, where the size is due, and the seed record behind it.
 fn read_head(bytes: &[u8], at: usize) -> Start
-    ensures { λ r. ⌜ Heads (now (bytes .entry)) start at r ⌝ }
+    ensures { λ r. ⌜ Heads first-edition (now (bytes .entry)) start at r ⌝ }
 {
     let found = due::found_at(bytes, at, Due::Size);
     match found {
@@ -88,7 +89,7 @@ fn write_graph(
 ) -> Read
     requires { ⌜ Square n (now table) ⌝ }
     ensures { λ r.
-        ⌜ Finishes n seed count (now (table .entry)) (now (adjacency .entry)) (now (weights .entry)) (read-of r)
+        ⌜ Finishes first-edition n seed count (now (table .entry)) (now (adjacency .entry)) (now (weights .entry)) (read-of r)
         (now (adjacency .exit)) (now (weights .exit)) ⌝ }
 {
     let cells = n * n;
@@ -120,7 +121,7 @@ fn read_over(
 ) -> Read
     requires { ⌜ Square n (now table) × (now table ≡ cells n []) ⌝ }
     ensures { λ r.
-        ⌜ Continues (now (bytes .entry)) next n seed (now (adjacency .entry)) (now (weights .entry)) (read-of r)
+        ⌜ Continues first-edition (now (bytes .entry)) next n seed (now (adjacency .entry)) (now (weights .entry)) (read-of r)
         (now (adjacency .exit)) (now (weights .exit)) ⌝ }
 {
     let edges = edges::read_edges(bytes, next, n, table);
@@ -141,7 +142,7 @@ fn read_rest(
 ) -> Read
     requires { ⌜ n ≤ largest ⌝ }
     ensures { λ r.
-        ⌜ Continues (now (bytes .entry)) next n seed (now (adjacency .entry)) (now (weights .entry)) (read-of r)
+        ⌜ Continues first-edition (now (bytes .entry)) next n seed (now (adjacency .entry)) (now (weights .entry)) (read-of r)
         (now (adjacency .exit)) (now (weights .exit)) ⌝ }
 {
     // 96 * 96 bytes.
@@ -162,7 +163,7 @@ fn read_rest(
 // as they were.
 pub fn read_at(bytes: &[u8], at: usize, adjacency: &mut [u8], weights: &mut [u16]) -> Read
     ensures { λ r.
-        ⌜ FillsFrom (now (bytes .entry)) at (now (adjacency .entry)) (now (weights .entry)) (read-of r)
+        ⌜ FillsFrom first-edition (now (bytes .entry)) at (now (adjacency .entry)) (now (weights .entry)) (read-of r)
         (now (adjacency .exit)) (now (weights .exit)) ⌝ }
 {
     let head = read_head(bytes, at);

@@ -50,17 +50,17 @@ because-requires-2 : tie.Need-because-requires-2
 because-requires-2 c κs = search needs
 
 returns : tie.Need-returns
-returns c weights edges _ =
+returns c E weights edges _ =
     let end = c .before .before in
     let known = end .before .before .before in
     rw (c .because2 .ensures)
-    (step-excess (rw (end .enum-told2 .given .1) at (rw (known .found2 .given .1) at (known .before .before .found-at .ensures))) (c .before .if1 .taken) weights edges)
+    (step-excess (rw (end .enum-told2 .given .1) at (rw (known .found2 .given .1) at (known .before .before .found-at .ensures))) (c .before .if1 .taken) E weights edges)
 
 because-requires-3 : tie.Need-because-requires-3
 because-requires-3 c κs = search needs
 
 returns-2 : tie.Need-returns-2
-returns-2 c weights edges _ = missing-reads awaits-edges ((rw (c .before .found .given .1) at (c .before .before .before .found-at .ensures)) _ awaits-edges)
+returns-2 c E weights edges _ = missing-reads awaits-edges ((rw (c .before .found .given .1) at (c .before .before .before .found-at .ensures)) _ awaits-edges)
 
 same-length : tie.Need-same-length
 same-length c = search needs
@@ -76,13 +76,13 @@ same-length-2 : tie.Need-same-length-2
 same-length-2 c = search needs
 
 returns-4 : tie.Need-returns-4
-returns-4 c weights edges t =
+returns-4 c E weights edges t =
     let refused = c .before .before in
     let part = refused .before .before .before .before .before .before .before in
     let known = part .before .before .before in
     rw (c .because .ensures)
     (step-rejected _ (rw (part .«record» .given .1) at (rw (known .found2 .given .1) at (known .before .before .found-at .ensures)))
-    (rw (refused .marked .given .1) at (refused .before .before .before .before .mark-edge .ensures)) weights edges t)
+    (rw (refused .marked .given .1) at (refused .before .before .before .before .mark-edge .ensures)) E weights edges t)
 
 returns-5 : tie.Need-returns-5
 returns-5 c =
@@ -90,10 +90,10 @@ returns-5 c =
     (refl, step-end (rw (c .before .enum-told2 .given .1) at (rw (known .found2 .given .1) at (known .before .before .found-at .ensures))) (c .if1 .left))
 
 returns-6 : tie.Need-returns-6
-returns-6 c weights edges _ =
+returns-6 c E weights edges _ =
     let known = c .before .before .before in
     rw (c .because3 .ensures)
-    (step-undue (rw (known .found2 .given .1) at (known .before .before .found-at .ensures)) (c .before .match2 .keys3) weights edges)
+    (step-undue (rw (known .found2 .given .1) at (known .before .before .found-at .ensures)) (c .before .match2 .keys3) E weights edges)
 
 pub take-record-spec : {M : Type 1} → statement M
 take-record-spec =

@@ -40,6 +40,7 @@ use denote.Triple.Table.{entered, cited}
 use denote.Triple.Walked.{says, Stays, stay-none-slice, gave-slice, walkOf, goes-none-slice, goes-gave-slice, Walks, ends-at, walked, walk-meets}
 use denote.Exit.{yes}
 use denote.Triple.Clauses.{ensured, lasts}
+use Rattle.matching.specs.Edition.{first-edition}
 use Rattle.matching.specs.Records.{Fills}
 use Rattle.sheet.specs.Meaning.{read-of}
 use Rattle.sheet.specs.declared.Read.{Read}
@@ -111,7 +112,7 @@ module _ {M : Type 1} (𝓤 : URA M) (H : Heap 𝓤) (A : Atoms 𝓤) (W : Given
 
   -- what is known of the result and the last lists
   abbrev Filled : Read → List ℕ → List ℕ → Type 0
-  Filled r ys zs = Fills (now s) (now x₁) (now x₂) (read-of r) ys zs
+  Filled r ys zs = Fills first-edition (now s) (now x₁) (now x₂) (read-of r) ys zs
 
   abbrev Post : Val → SProp 𝓤
   Post = walkOf 𝓤 H A read.ended stayed (read.clauses 𝓤 H A mem run) .post ((κs, qs, tt, a, vals), tt)

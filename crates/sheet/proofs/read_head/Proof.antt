@@ -48,7 +48,7 @@ returns-3 : tie.Need-returns-3
 returns-3 c =
     let part = c .before .before .before in
     let known = part .before .before .before in
-    size-heads (c .read-seed .result) (rw (part .«record» .given .1) at (rw (known .found2 .given .1) at (known .before .before .found-at .ensures))) (c .before .if1 .left) (c .read-seed .ensures)
+    size-heads _ (c .read-seed .result) (rw (part .«record» .given .1) at (rw (known .found2 .given .1) at (known .before .before .found-at .ensures))) (c .before .if1 .left) (c .read-seed .ensures)
 
 returns-4 : tie.Need-returns-4
 returns-4 c =

@@ -1,5 +1,6 @@
 -- `sheet::read_over` meets its contract: a refused record refuses the sheet, and the edges that are read are written. Assumes nothing.
-use Rattle.draws.specs.Draws.{draws}
+use Rattle.draws.specs.Draws.{draw, draws}
+use Rattle.matching.specs.Edition.{first-edition}
 use Rattle.matching.specs.Graph.{pair-count}
 use Rattle.matching.specs.Records.{sheet, refuses-records}
 use borrow.Author.Needs.{needs}
@@ -25,7 +26,7 @@ returns : tie.Need-returns
 returns c at B =
     let read = c .before .before .before .before .before in
     let s = read .before .before .before .before .before .before in
-    refuses-records (B _ (rw (c .before .edges .given .1) at (read .read-edges .ensures (draws (s .args .seed) (pair-count (s .args .n))))))
+    refuses-records (B _ (rw (c .before .edges .given .1) at (read .read-edges .ensures first-edition (draws draw (s .args .seed) (pair-count (s .args .n))))))
 
 same-length-2 : tie.Need-same-length-2
 same-length-2 c = search needs
@@ -42,8 +43,8 @@ returns-2 c at B =
     let known = wrote .before .before .before .before .before in
     let read = known .before .before .before .before in
     let s = read .before .before .before .before .before .before in
-    let drawn = draws (s .args .seed) (pair-count (s .args .n)) in
-    let R = rw (known .edges2 .given .1) at (read .read-edges .ensures drawn) in
+    let drawn = draws draw (s .args .seed) (pair-count (s .args .n)) in
+    let R = rw (known .edges2 .given .1) at (read .read-edges .ensures first-edition drawn) in
     wrote .write-graph .ensures (s .args .bytes .now) at (R .edges) (B (sheet (s .args .n) drawn (R .edges)) (R .reads)) (R .counted) (R .marks)
 
 pub read-over-spec : {M : Type 1} → statement M
