@@ -7,6 +7,7 @@ use lib.ListN.{length, take, drop, length-append, length-drop}
 use Rattle.lists.specs.Table.{square-small}
 use Rattle.lists.specs.Onto.{onto, onto-front, onto-nothing}
 use Rattle.matching.specs.Decision.{Refusal}
+use Rattle.matching.specs.Edition.{first-edition}
 use Rattle.matching.specs.Graph.{over, largest}
 use Rattle.matching.specs.Pairs.{Pair}
 use Rattle.matching.specs.Records.{sheet, ReadsAs, cells, graph, graph-read, not-read, Fills, refuses-records, lacks-room, fills}
@@ -22,7 +23,7 @@ use Rattle.verdict.specs.Lines.{Writes, Verdict, full, none, GraphLines, Accept
 
 -- the listing of each input whose first bytes, as many as are read, are these
 abbrev pub ListsBytes : List ℕ → List ℕ → Type 0
-ListsBytes bytes text = (input : List ℕ) → take input-limit input ≡ bytes → Lists input text
+ListsBytes bytes text = (input : List ℕ) → take input-limit input ≡ bytes → Lists first-edition input text
 
 -- tables for the largest graph, no more bytes than are read, and room for the text
 pub record Tables (bytes adjacency weights text : List ℕ) : Type 0 where
@@ -39,16 +40,16 @@ pub record Sheet (bytes : List ℕ) (n m : ℕ) (adjacency weights : List ℕ) :
   pub lists : {text : List ℕ} → GraphLines (over n (take (n * n) adjacency) (take (needed n) weights)) m text → ListsBytes bytes text
 
 -- the lines of the graph of a sheet are its listing
-sheet-lists : {bytes drawn text : List ℕ} {n : ℕ} {edges : List Pair} → ReadsAs bytes (sheet n drawn edges)
+sheet-lists : {bytes drawn text : List ℕ} {n : ℕ} {edges : List Pair} → ReadsAs first-edition bytes (sheet n drawn edges)
     → GraphLines (over n (cells n edges) drawn) (length edges) text → ListsBytes bytes text
 unfolding graph
 sheet-lists {bytes} {drawn} {text} {n} {edges} R G input e = rw (G .all) (go (G .verdict))
   where
-    go : {rest : List ℕ} → Verdict (over n (cells n edges) drawn) rest → Lists input (first-line n (length edges) ++ rest)
+    go : {rest : List ℕ} → Verdict (over n (cells n edges) drawn) rest → Lists first-edition input (first-line n (length edges) ++ rest)
     go (full I C) = rw (← append-assoc) (pairs-up {n = n} {weights = drawn} {edges = edges} (rw e R) I C)
     go (none l S) = rw (← append-assoc) (shows-witness {n = n} {weights = drawn} {edges = edges} (rw e R) l S)
 
-pub sheet-read : {bytes adjacency weights adjacency′ weights′ : List ℕ} {n m : ℕ} → Fills bytes adjacency weights (graph-read n m) adjacency′ weights′
+pub sheet-read : {bytes adjacency weights adjacency′ weights′ : List ℕ} {n m : ℕ} → Fills first-edition bytes adjacency weights (graph-read n m) adjacency′ weights′
     → Sheet bytes n m adjacency′ weights′
 sheet-read {bytes} {adjacency} {weights} {n = n} {m = m} (fills {drawn = drawn} {edges = edges} R e) =
     let F = reads-fit R refl tt in
@@ -64,7 +65,7 @@ sheet-read {bytes} {adjacency} {weights} {n = n} {m = m} (fills {drawn = drawn} 
 
 -- with tables for the largest graph a sheet is refused for its records only
 pub sheet-refused : {bytes adjacency weights adjacency′ weights′ : List ℕ} {why : Refusal} → length adjacency ≡ 9216 → length weights ≡ 4560
-    → Fills bytes adjacency weights (not-read why) adjacency′ weights′ → ListsBytes bytes (refused-line why)
+    → Fills first-edition bytes adjacency weights (not-read why) adjacency′ weights′ → ListsBytes bytes (refused-line why)
 sheet-refused {why = why} la lw (refuses-records R) input e = refuses-sheet {r = why} (rw e R)
 sheet-refused {adjacency = adjacency} {weights = weights} la lw (lacks-room {n = n} R e) input _ =
     let F = reads-fit R refl tt in
@@ -73,11 +74,11 @@ sheet-refused {adjacency = adjacency} {weights = weights} la lw (lacks-room {n =
 
 -- a text from the start of the buffer is the listing written into it
 pub writes-into : {input before after : List ℕ} {end : ℕ} → text-room ≤ length before → Writes (ListsBytes (take input-limit input)) 0 before after end
-    → ListsInto input before (definition.text-of end) after
+    → ListsInto first-edition input before (definition.text-of end) after
 writes-into {input} fits W =
     let p = puts-first (W .puts) in rw (p .0, p .1) (lists-into fits (W .lines input refl))
 
 -- the text is no longer than the buffer, which stays as long as it was
-pub text-within : {input before after : List ℕ} {end : ℕ} → ListsInto input before (definition.text-of end) after → length after ≡ length before → end ≤ length before
+pub text-within : {input before after : List ℕ} {end : ℕ} → ListsInto first-edition input before (definition.text-of end) after → length after ≡ length before → end ≤ length before
 text-within {before = before} (lists-into {text = text} _ _) e =
     omega (arith, length-append text (drop (length text) before), length-drop (length text) before)

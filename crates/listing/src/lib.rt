@@ -2,6 +2,7 @@
 use sheet::Read;
 ghost use Prim.Native.Nat.{_≤_};
 ghost use lib.ListN.{length};
+ghost use Rattle.matching.specs.Edition.{first-edition};
 ghost use Rattle.matching.specs.Listing.{input-limit, text-room, ListsInto};
 ghost use Rattle.verdict.specs.Lines.{Writes};
 ghost use Rattle.listing.specs.Meaning.{listed-of};
@@ -49,7 +50,7 @@ fn write_lines(bytes: &[u8], text: &mut [u8]) -> usize
 
 // Lists an input, of which at most 16,384 bytes are read, into a buffer of 2,048 bytes or more.
 pub fn list(input: &[u8], text: &mut [u8]) -> Listed
-    ensures { λ r. ⌜ ListsInto (now (input .entry)) (now (text .entry)) (listed-of r) (now (text .exit)) ⌝ }
+    ensures { λ r. ⌜ ListsInto first-edition (now (input .entry)) (now (text .entry)) (listed-of r) (now (text .exit)) ⌝ }
 {
     if text.len() < 2048 {
         return Listed::NoRoom;
