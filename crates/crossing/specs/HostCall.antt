@@ -6,6 +6,7 @@ use lib.ListN.{length, take}
 use Rattle.lists.specs.Onto.{onto}
 use Rattle.residue.specs.Modulus.{modulus, modulus-prime}
 use Rattle.matching.specs.Decision.{Refusal, accepted, refused}
+use Rattle.matching.specs.Edition.{first-edition}
 use Rattle.matching.specs.Graph.{over}
 use Rattle.matching.specs.Pairs.{pairs-on}
 use Rattle.matching.specs.Session.{in-play, State, with-pairs, state}
@@ -23,7 +24,7 @@ use Rattle.crossing.specs.HostFits.{HostFits, needed-inverse, needed-sta
 
 -- the first words of a table, so many of them, stored over bytes where a pair is answered
 abbrev pub stored : Answer → ℕ → (table bytes : List ℕ) → List ℕ
-stored (done e) size table bytes = onto (bytes-of (take size table)) bytes
+stored (done e) size table bytes = onto (bytes-of 2 (take size table)) bytes
 stored (denied r) size table bytes = bytes
 
 -- a call over lent words, where the inverse's bytes are `bytes`
@@ -55,30 +56,30 @@ module _ (n made : ℕ) (adjacency weights inverse sequence : List ℕ) where
     sequence = left .sequence;
   }
 
-  refused-through : (c : Call) {r : Refusal} → Handles modulus-prime (unpacked-state host) c (denied r) (unpacked-state host)
-      → HostHandles modulus-prime host c (answer-number (denied r) (host .session)) host
-  refused-through c {r} h = record { given = denied r; left = unpacked-state host; outcome = h; numbered = refl; stored = refl }
+  refused-through : (c : Call) {r : Refusal} → Handles modulus-prime (unpacked-state first-edition host) c (denied r) (unpacked-state first-edition host)
+      → HostHandles first-edition host c (answer-number (denied r) (host .session)) host
+  refused-through c {r} h = record { given = denied r; left = unpacked-state first-edition host; outcome = h; numbered = refl; stored = refl }
 
-  module _ (B : Bytes inverse) (F : HostFits (unpacked-state host)) where
-    same : session-ruling modulus (unpacked-state host) ≡ session-ruling modulus (needed-state host)
+  module _ (B : Bytes inverse) (F : HostFits (unpacked-state first-edition host)) where
+    same : session-ruling modulus (unpacked-state first-edition host) ≡ session-ruling modulus (needed-state host)
     same = sym (ruling-same n made adjacency weights inverse sequence F modulus)
 
     steps : (c : Call) → session-ruling modulus (needed-state host) ≡ accepted
-        → step modulus-prime (over n adjacency (words weights)) (in-play host) (pairs-on sequence made) c
+        → step modulus-prime (over n adjacency (words 2 weights)) (in-play host) (pairs-on sequence made) c
         ≡ step modulus-prime (over n adjacency (needed-weights n weights)) (in-play host) (pairs-on sequence made) c
     steps c e =
         let I = session-accepted modulus (needed-state host) .0 e .1 .as-defined .is-inverse in
-        sym (step-same modulus-prime (in-play host) n adjacency (needed-weights n weights) (words weights) (needed-agree n weights (F .size)) (pairs-on sequence made) c (_, I))
+        sym (step-same modulus-prime (in-play host) n adjacency (needed-weights n weights) (words 2 weights) (needed-agree n weights (F .size)) (pairs-on sequence made) c (_, I))
 
     through : {c : Call} {a : Answer} {left : State} → Handles modulus-prime (needed-state host) c a left
-        → HostHandles modulus-prime host c (answer-number a (left .session)) (handed-state a left)
+        → HostHandles first-edition host c (answer-number a (left .session)) (handed-state a left)
     through {c} (unsound r e) = refused-through c (unsound r (same ∙ e))
     through {c} (refuses r e k) = refused-through c (refuses r (same ∙ e) (ap (λ t. t .answer) (steps c e) ∙ k))
     through {c} (carries x pairs table e k l I) = record {
       given = done x;
-      left = with-pairs (over n adjacency (words weights)) pairs table (unpacked-state host);
+      left = with-pairs (over n adjacency (words 2 weights)) pairs table (unpacked-state first-edition host);
       outcome =
-          carries x pairs table (same ∙ e) (steps c e ∙ k) l (table-same n adjacency (needed-weights n weights) (words weights) (needed-agree n weights (F .size)) I);
+          carries x pairs table (same ∙ e) (steps c e ∙ k) l (table-same n adjacency (needed-weights n weights) (words 2 weights) (needed-agree n weights (F .size)) I);
       numbered = refl;
       stored =
           ap (λ i. record {
@@ -86,22 +87,22 @@ module _ (n made : ℕ) (adjacency weights inverse sequence : List ℕ) where
             adjacency = adjacency;
             weights = weights;
             inverse = i;
-            sequence = with-pairs (over n adjacency (words weights)) pairs table (unpacked-state host) .sequence;
+            sequence = with-pairs (over n adjacency (words 2 weights)) pairs table (unpacked-state first-edition host) .sequence;
           })
-          (stored-front table (needed-inverse n inverse) inverse (n * n) B l (F .fits .inverse-fits));
+          (stored-front 2 table (needed-inverse n inverse) inverse (n * n) B l (F .fits .inverse-fits));
     }
 
-  handed : {c : Call} {k : ℕ} (a : Answer) (left : State) → HostHandles modulus-prime host c k (handed-state a left)
-      → HostHandles modulus-prime host c k (handed-back host k (stored a (n * n) (left .inverse) inverse) (left .sequence))
-  handed a left H = rw (← host-session modulus-prime H) H
+  handed : {c : Call} {k : ℕ} (a : Answer) (left : State) → HostHandles first-edition host c k (handed-state a left)
+      → HostHandles first-edition host c k (handed-back host k (stored a (n * n) (left .inverse) inverse) (left .sequence))
+  handed a left H = rw (← host-session first-edition H) H
 
-  pub host-handles : Bytes inverse → HostFits (unpacked-state host) → {c : Call} {k : ℕ} {inverse′ sequence′ : List ℕ}
-      → HandlesOver (needed-state host) c inverse k inverse′ sequence′ → HostHandles modulus-prime host c k (handed-back host k inverse′ sequence′)
+  pub host-handles : Bytes inverse → HostFits (unpacked-state first-edition host) → {c : Call} {k : ℕ} {inverse′ sequence′ : List ℕ}
+      → HandlesOver (needed-state host) c inverse k inverse′ sequence′ → HostHandles first-edition host c k (handed-back host k inverse′ sequence′)
   host-handles B F O =
       rw (O .numbered, O .stored, O .sequence, table-length n made adjacency weights inverse sequence F)
       (handed (O .given) (O .left) (through B F (O .outcome)))
 
   -- a refusal for the size or the lengths is the host's
-  pub host-refuses : (c : Call) {r : Refusal} → session-ruling modulus (unpacked-state host) ≡ refused r
-      → HostHandles modulus-prime host c (answer-number (denied r) (host .session)) (handed-back host (answer-number (denied r) (host .session)) inverse sequence)
+  pub host-refuses : (c : Call) {r : Refusal} → session-ruling modulus (unpacked-state first-edition host) ≡ refused r
+      → HostHandles first-edition host c (answer-number (denied r) (host .session)) (handed-back host (answer-number (denied r) (host .session)) inverse sequence)
   host-refuses c {r} e = handed (denied r) host (refused-through c (unsound r e))

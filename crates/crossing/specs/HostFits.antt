@@ -7,12 +7,13 @@ use native.Mathlib.Decide.{decLt}
 use lib.ListN.{length, take}
 use lib.Seq.{length-take-le, getD-take}
 use Rattle.matching.specs.Decision.{Refusal, Ruling, accepted, refused, Cause, judge}
+use Rattle.matching.specs.Edition.{first-edition}
 use Rattle.matching.specs.Graph.{largest}
 use Rattle.matching.specs.Session.{State, state}
 use Rattle.matching.specs.Causes.{Lent, lent-always, lent-to-session, too-large, too-short, session-causes, session-ruling}
 use Rattle.matching.specs.Host.{words, unpacked-state}
 use Rattle.laws.specs.Sound.{short-absent, SessionFits, session-fits}
-use Rattle.laws.specs.Words.{words-length, words-half}
+use Rattle.laws.specs.Words.{words-length}
 use Rattle.laws.specs.Judge.{judge-accepted, when-absent}
 use Rattle.checks.specs.Meaning.{then}
 use Rattle.checks.specs.Weights.{needed}
@@ -34,7 +35,7 @@ in-order s F =
 
 -- the words of the inverse that n vertices need
 abbrev pub needed-inverse : ℕ → List ℕ → List ℕ
-needed-inverse n inverse = take (n * n) (words inverse)
+needed-inverse n inverse = take (n * n) (words 2 inverse)
 
 -- n vertices are few enough, and the bytes hold the words that they need
 pub record Needed (n : ℕ) (weights inverse : List ℕ) : Type 0 where
@@ -75,14 +76,14 @@ needed-state s = record {
 
 module _ (n made : ℕ) (adjacency weights inverse sequence : List ℕ) where
   abbrev s : State
-  s = unpacked-state (state n made adjacency weights inverse sequence)
+  s = unpacked-state first-edition (state n made adjacency weights inverse sequence)
 
   -- the size and the lengths of the bytes, judged
   abbrev pub room : Ruling
   room = judge (too-large n ∷ too-short (lent-always n (length adjacency) (length weights / 2) (length inverse / 2) (length sequence)) ∷ [])
 
   pub in-words : judge (too-large n ∷ too-short (lent-to-session s []) ∷ []) ≡ room
-  in-words = rw (words-half weights, words-half inverse)
+  in-words = rw (words-length 2 weights, words-length 2 inverse)
 
   -- they are looked at first, whatever a call is lent besides and looks at afterwards
   pub room-first : (p : ℕ) (more : List Lent) (later : List Cause) {r : Refusal} → refused r ≡ room → judge (session-causes p s more ++ later) ≡ refused r
@@ -97,10 +98,10 @@ module _ (n made : ℕ) (adjacency weights inverse sequence : List ℕ) where
 
   module _ (F : HostFits s) where
     pub table-length : length (needed-inverse n inverse) ≡ n * n
-    table-length = length-take-le (n * n) (words inverse) (F .fits .inverse-fits)
+    table-length = length-take-le (n * n) (words 2 inverse) (F .fits .inverse-fits)
 
     pub table-stores : 2 * (n * n) ≤ length inverse
-    table-stores = omega (arith, F .fits .inverse-fits, words-length inverse .0)
+    table-stores = omega (arith, F .fits .inverse-fits, words-length 2 inverse)
 
     pub needed-words : Needed n weights inverse
     needed-words = record { size = F .size; weights-fit = needed-fits n weights (F .size) (F .fits .graph .weights); inverse-fits = table-stores }
@@ -115,8 +116,8 @@ module _ (n made : ℕ) (adjacency weights inverse sequence : List ℕ) where
     -- a call over them is refused for the same cause
     pub ruling-same : (p : ℕ) → session-ruling p (needed-state (state n made adjacency weights inverse sequence)) ≡ session-ruling p s
     ruling-same p =
-        session-same p n made adjacency sequence (needed-weights n weights) (words weights) (needed-inverse n inverse) (words inverse) (needed-agree n weights (F .size))
-        (λ x l. getD-take (n * n) (words inverse) x 0 l) needed-long (F .fits)
+        session-same p n made adjacency sequence (needed-weights n weights) (words 2 weights) (needed-inverse n inverse) (words 2 inverse) (needed-agree n weights (F .size))
+        (λ x l. getD-take (n * n) (words 2 inverse) x 0 l) needed-long (F .fits)
 
     -- nor does it matter where it is lent buffers besides and looks at causes afterwards
     pub more-same : (p : ℕ) (more : List Lent) (later : List Cause)

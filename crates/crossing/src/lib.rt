@@ -6,7 +6,7 @@ use session::Session;
 ghost use mathlib.Core.Path.{_≡_};
 ghost use Prim.Native.Nat.{_*_, _≤_};
 ghost use lib.ListN.{length};
-ghost use Rattle.residue.specs.Modulus.{modulus-prime};
+ghost use Rattle.matching.specs.Edition.{first-edition};
 ghost use Rattle.matching.specs.Model as model;
 ghost use Rattle.matching.specs.Host.{unpacked-state, HostHandles, HostPickedExactly, handed-back};
 ghost use Rattle.matching.specs.Session.{state};
@@ -68,10 +68,10 @@ fn call_words(
     inverse: &mut [u8],
     sequence: &mut [u8],
 ) -> u64
-    requires { ⌜ HostFits (unpacked-state (state n made (now adjacency) (now weights) (now inverse) (now sequence))) ⌝ }
+    requires { ⌜ HostFits (unpacked-state first-edition (state n made (now adjacency) (now weights) (now inverse) (now sequence))) ⌝ }
     ensures { λ r.
         let before = state n made (now (adjacency .entry)) (now (weights .entry)) (now (inverse .entry)) (now (sequence .entry)) in
-        ⌜ HostHandles modulus-prime before (call-is call) r (handed-back before r (now (inverse .exit)) (now (sequence .exit))) ⌝ }
+        ⌜ HostHandles first-edition before (call-is call) r (handed-back before r (now (inverse .exit)) (now (sequence .exit))) ⌝ }
 {
     let mut values = [0u16; 4560];
     let mut table = [0u16; 9216];
@@ -102,7 +102,7 @@ fn handle(
 ) -> u64
     ensures { λ r.
         let before = state n made (now (adjacency .entry)) (now (weights .entry)) (now (inverse .entry)) (now (sequence .entry)) in
-        ⌜ HostHandles modulus-prime before (call-is call) r (handed-back before r (now (inverse .exit)) (now (sequence .exit))) ⌝ }
+        ⌜ HostHandles first-edition before (call-is call) r (handed-back before r (now (inverse .exit)) (now (sequence .exit))) ⌝ }
 {
     let ruling = checks::judge_lengths(
         n,
@@ -130,10 +130,10 @@ pub fn pick(
 ) -> u64
     ensures handled { λ r.
         let before = state n made (now (adjacency .entry)) (now (weights .entry)) (now (inverse .entry)) (now (sequence .entry)) in
-        ⌜ HostHandles modulus-prime before (model.pick a b) r (handed-back before r (now (inverse .exit)) (now (sequence .exit))) ⌝ }
+        ⌜ HostHandles first-edition before (model.pick a b) r (handed-back before r (now (inverse .exit)) (now (sequence .exit))) ⌝ }
     ensures exactly { λ r.
         let before = state n made (now (adjacency .entry)) (now (weights .entry)) (now (inverse .entry)) (now (sequence .entry)) in
-        ⌜ HostPickedExactly modulus-prime before a b r ⌝ }
+        ⌜ HostPickedExactly first-edition before a b r ⌝ }
 {
     handle(
         Call::Pick(a, b),
@@ -157,7 +157,7 @@ pub fn automatic(
 ) -> u64
     ensures { λ r.
         let before = state n made (now (adjacency .entry)) (now (weights .entry)) (now (inverse .entry)) (now (sequence .entry)) in
-        ⌜ HostHandles modulus-prime before model.automatic r (handed-back before r (now (inverse .exit)) (now (sequence .exit))) ⌝ }
+        ⌜ HostHandles first-edition before model.automatic r (handed-back before r (now (inverse .exit)) (now (sequence .exit))) ⌝ }
 {
     handle(
         Call::Automatic,
@@ -181,7 +181,7 @@ pub fn undo(
 ) -> u64
     ensures { λ r.
         let before = state n made (now (adjacency .entry)) (now (weights .entry)) (now (inverse .entry)) (now (sequence .entry)) in
-        ⌜ HostHandles modulus-prime before model.undo r (handed-back before r (now (inverse .exit)) (now (sequence .exit))) ⌝ }
+        ⌜ HostHandles first-edition before model.undo r (handed-back before r (now (inverse .exit)) (now (sequence .exit))) ⌝ }
 {
     handle(Call::Undo, n, made, adjacency, weights, inverse, sequence)
 }

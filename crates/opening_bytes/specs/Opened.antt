@@ -8,6 +8,7 @@ use lib.ListN.{length, getD, take, replicate, length-replicate}
 use Rattle.lists.specs.Onto.{onto}
 use Rattle.residue.specs.Modulus.{modulus}
 use Rattle.matching.specs.Decision.{Every, Refusal, Ruling, accepted, refused, judge, unless}
+use Rattle.matching.specs.Edition.{first-edition}
 use Rattle.matching.specs.Graph.{Graph, largest, pair-count, over}
 use Rattle.matching.specs.Causes.{Lent, lent-always, lent-besides, lent-to-opening, too-large, too-short, bad-cell, bad-weight, opening-ruling}
 use Rattle.matching.specs.Pairs.{everything}
@@ -15,7 +16,7 @@ use Rattle.matching.specs.Opening.{Opening, opened, singular, not-opened, Buffe
 use Rattle.matching.specs.Host.{words, Bytes, bytes-of, opening-number, unpacked, HostOpens}
 use Rattle.laws.specs.Sound.{OpeningFits, opening-fits, short-absent}
 use Rattle.laws.specs.Numbers as numbers
-use Rattle.laws.specs.Words.{words-length, words-half, stored-front}
+use Rattle.laws.specs.Words.{words-length, stored-front}
 use Rattle.laws.specs.Judge.{when-absent}
 use Rattle.checks.specs.Weights.{needed}
 use Rattle.checks.specs.Lengths.{lengths-refused, lengths-accepted}
@@ -27,7 +28,7 @@ use Rattle.crossing.specs.Needed.{needed-weights, needed-agree, needed-counted,
 -- the size and the lengths of the host's bytes are in order
 pub record HostOpeningFits (n : ℕ) (adjacency weights : List ℕ) (b : Buffers) : Type 0 where
   pub size : n ≤ largest
-  pub fits : OpeningFits (over n adjacency (words weights)) (length (words (b .inverse))) (length (b .sequence)) (length (words (b .witness))) (length (words (b .work)))
+  pub fits : OpeningFits (over n adjacency (words 2 weights)) (length (words 2 (b .inverse))) (length (b .sequence)) (length (words 2 (b .witness))) (length (words 2 (b .work)))
 
 -- words are lent: for the weights that n vertices need, the inverse, the witness and the work
 pub record Lends (n : ℕ) (values table vector spare : List ℕ) : Type 0 where
@@ -38,7 +39,7 @@ pub record Lends (n : ℕ) (values table vector spare : List ℕ) : Type 0 where
 
 -- the first k words, stored over bytes
 abbrev pub first-stored : ℕ → (new bytes : List ℕ) → List ℕ
-first-stored k new bytes = onto (bytes-of (take k new)) bytes
+first-stored k new bytes = onto (bytes-of 2 (take k new)) bytes
 
 -- the host's bytes afterwards, where opening leaves words for n vertices; the sequence is bytes already
 abbrev stored : ℕ → (left b : Buffers) → Buffers
@@ -71,30 +72,30 @@ module _ (n : ℕ) (adjacency weights : List ℕ) (b : Buffers) where
       ∷ [])
 
   abbrev graph : Graph
-  graph = over n adjacency (words weights)
+  graph = over n adjacency (words 2 weights)
 
   abbrev words-long : List Lent
-  words-long = lent-to-opening graph (length (words (b .inverse))) (length (b .sequence)) (length (words (b .witness))) (length (words (b .work)))
+  words-long = lent-to-opening graph (length (words 2 (b .inverse))) (length (b .sequence)) (length (words 2 (b .witness))) (length (words 2 (b .work)))
 
   in-words : judge (too-large n ∷ too-short words-long ∷ []) ≡ room
-  in-words = rw (words-half weights, words-half (b .inverse), words-half (b .witness), words-half (b .work))
+  in-words = rw (words-length 2 weights, words-length 2 (b .inverse), words-length 2 (b .witness), words-length 2 (b .work))
 
-  pub room-refused : {r : Refusal} → refused r ≡ room → ruling modulus graph (unpacked b) ≡ refused r
+  pub room-refused : {r : Refusal} → refused r ≡ room → ruling modulus graph (unpacked first-edition b) ≡ refused r
   unfolding opening-ruling
   room-refused {r} e = lengths-refused n words-long [] (graph-causes modulus graph) r (in-words ∙ sym e)
 
   pub room-accepted : accepted ≡ room → HostOpeningFits n adjacency weights b
   room-accepted e =
       let k = lengths-accepted n words-long [] [] (in-words ∙ sym e) in
-      record { size = k .0; fits = opening-fits graph (length (words (b .inverse))) (length (b .sequence)) (length (words (b .witness))) (length (words (b .work))) .0 (k .1) }
+      record { size = k .0; fits = opening-fits graph (length (words 2 (b .inverse))) (length (b .sequence)) (length (words 2 (b .witness))) (length (words 2 (b .work))) .0 (k .1) }
 
   -- a refusal is the host's
-  module _ {r : Refusal} (e : ruling modulus graph (unpacked b) ≡ refused r) where
-    pub host-refuses : HostOpens modulus n adjacency weights b (opening-number (not-opened r)) b
-    host-refuses = record { opening = not-opened r; buffers = unpacked b; outcome = refuses-opening r e; numbered = refl; stored = refl }
+  module _ {r : Refusal} (e : ruling modulus graph (unpacked first-edition b) ≡ refused r) where
+    pub host-refuses : HostOpens first-edition n adjacency weights b (opening-number (not-opened r)) b
+    host-refuses = record { opening = not-opened r; buffers = unpacked first-edition b; outcome = refuses-opening r e; numbered = refl; stored = refl }
 
     pub refusal-small : r .place < 2 ^ 16
-    refusal-small = numbers.opens-small {S = everything} {b = unpacked b} (refuses-opening r e) .place-below
+    refusal-small = numbers.opens-small {S = everything} {b = unpacked first-edition b} (refuses-opening r e) .place-below
 
 -- where the size and the lengths are in order, the cells and the weights are left to judge
 long-ruling : (g : Graph) (b : Buffers) → g .n ≤ largest
@@ -112,27 +113,27 @@ module _ (n : ℕ) (adjacency weights : List ℕ) (b : Buffers) (F : HostOpening
   abbrev pub words-needed : Graph
   words-needed = over n adjacency (needed-weights n weights)
 
-  agree : Every (pair-count n) (λ x. getD (needed-weights n weights) x 0 ≡ getD (words weights) x 0)
+  agree : Every (pair-count n) (λ x. getD (needed-weights n weights) x 0 ≡ getD (words 2 weights) x 0)
   agree = needed-agree n weights (F .size)
 
   causes-same : judge (graph-causes modulus words-needed) ≡ judge (graph-causes modulus (graph n adjacency weights b))
   unfolding bad-cell bad-weight
   causes-same =
-      ap (λ f. unless f 3 (unless (bad-weight modulus words-needed .finding) 4 accepted)) (cells-same n adjacency (needed-weights n weights) (words weights))
-      ∙ ap (λ f. unless (bad-cell (graph n adjacency weights b) .finding) 3 (unless f 4 accepted)) (weights-same n adjacency (needed-weights n weights) (words weights) agree modulus)
+      ap (λ f. unless f 3 (unless (bad-weight modulus words-needed .finding) 4 accepted)) (cells-same n adjacency (needed-weights n weights) (words 2 weights))
+      ∙ ap (λ f. unless (bad-cell (graph n adjacency weights b) .finding) 3 (unless f 4 accepted)) (weights-same n adjacency (needed-weights n weights) (words 2 weights) agree modulus)
 
   pub weights-fit : 2 * needed n ≤ length weights
   weights-fit = needed-fits n weights (F .size) (F .fits .graph .weights)
 
   -- the bytes have room for the words
   pub inverse-fits : 2 * (n * n) ≤ length (b .inverse)
-  inverse-fits = omega (arith, F .fits .inverse-fits, words-length (b .inverse) .0)
+  inverse-fits = omega (arith, F .fits .inverse-fits, words-length 2 (b .inverse))
 
   pub witness-fits : 2 * n ≤ length (b .witness)
-  witness-fits = omega (arith, F .fits .witness-fits, words-length (b .witness) .0)
+  witness-fits = omega (arith, F .fits .witness-fits, words-length 2 (b .witness))
 
   pub work-fits : 2 * (n * n) ≤ length (b .work)
-  work-fits = omega (arith, F .fits .work-fits, words-length (b .work) .0)
+  work-fits = omega (arith, F .fits .work-fits, words-length 2 (b .work))
 
   -- opening over words that are lent
   module _ {values table vector spare : List ℕ} (L : Lends n values table vector spare) where
@@ -140,7 +141,7 @@ module _ (n : ℕ) (adjacency weights : List ℕ) (b : Buffers) (F : HostOpening
     lent = buffers table (b .sequence) vector spare
 
     -- is refused for the same cause
-    same-ruling : ruling modulus (graph n adjacency weights b) (unpacked b) ≡ ruling modulus words-needed lent
+    same-ruling : ruling modulus (graph n adjacency weights b) (unpacked first-edition b) ≡ ruling modulus words-needed lent
     same-ruling =
         let counted = needed-counted n weights (F .size) (F .fits .graph .weights) in
         let part =
@@ -154,33 +155,33 @@ module _ (n : ℕ) (adjacency weights : List ℕ) (b : Buffers) (F : HostOpening
           work-fits = omega (arith, L .spare-cells);
         }
         ) in
-        long-ruling (graph n adjacency weights b) (unpacked b) (F .size) (F .fits) ∙ sym causes-same ∙ sym part
+        long-ruling (graph n adjacency weights b) (unpacked first-edition b) (F .size) (F .fits) ∙ sym causes-same ∙ sym part
 
     -- and what it leaves, stored as bytes, is left by the host
     pub host-opens : {o : Opening} {left : Buffers} → Bytes (b .inverse) → Bytes (b .witness) → Bytes (b .work) → Opens modulus words-needed everything lent o left
-        → HostOpens modulus n adjacency weights b (opening-number o) (after n o left b)
+        → HostOpens first-edition n adjacency weights b (opening-number o) (after n o left b)
     host-opens inverse-bytes witness-bytes work-bytes (refuses-opening r e) = host-refuses n adjacency weights b (same-ruling ∙ e)
     host-opens inverse-bytes witness-bytes work-bytes (opens new ok l I) = record {
       opening = opened _;
-      buffers = with-inverse n new (unpacked b);
-      outcome = opens new (same-ruling ∙ ok) l (table-same n adjacency (needed-weights n weights) (words weights) agree I);
+      buffers = with-inverse n new (unpacked first-edition b);
+      outcome = opens new (same-ruling ∙ ok) l (table-same n adjacency (needed-weights n weights) (words 2 weights) agree I);
       numbered = refl;
       stored =
           rw (
-            stored-front new table (b .inverse) (n * n) inverse-bytes l (F .fits .inverse-fits),
-            stored-front (replicate n 0) vector (b .witness) n witness-bytes (length-replicate {A = ℕ} n 0) (F .fits .witness-fits),
-            stored-front (replicate (n * n) 0) spare (b .work) (n * n) work-bytes (length-replicate {A = ℕ} (n * n) 0) (F .fits .work-fits),
+            stored-front 2 new table (b .inverse) (n * n) inverse-bytes l (F .fits .inverse-fits),
+            stored-front 2 (replicate n 0) vector (b .witness) n witness-bytes (length-replicate {A = ℕ} n 0) (F .fits .witness-fits),
+            stored-front 2 (replicate (n * n) 0) spare (b .work) (n * n) work-bytes (length-replicate {A = ℕ} (n * n) 0) (F .fits .work-fits),
           );
     }
     host-opens inverse-bytes witness-bytes work-bytes (finds-singular f new ok l s) = record {
       opening = singular f;
-      buffers = with-witness n new (unpacked b);
-      outcome = finds-singular f new (same-ruling ∙ ok) l (singular-same n adjacency (needed-weights n weights) (words weights) agree s);
+      buffers = with-witness n new (unpacked first-edition b);
+      outcome = finds-singular f new (same-ruling ∙ ok) l (singular-same n adjacency (needed-weights n weights) (words 2 weights) agree s);
       numbered = refl;
       stored =
           rw (
-            stored-front (replicate (n * n) 0) table (b .inverse) (n * n) inverse-bytes (length-replicate {A = ℕ} (n * n) 0) (F .fits .inverse-fits),
-            stored-front new vector (b .witness) n witness-bytes l (F .fits .witness-fits),
-            stored-front (replicate (n * n) 0) spare (b .work) (n * n) work-bytes (length-replicate {A = ℕ} (n * n) 0) (F .fits .work-fits),
+            stored-front 2 (replicate (n * n) 0) table (b .inverse) (n * n) inverse-bytes (length-replicate {A = ℕ} (n * n) 0) (F .fits .inverse-fits),
+            stored-front 2 new vector (b .witness) n witness-bytes l (F .fits .witness-fits),
+            stored-front 2 (replicate (n * n) 0) spare (b .work) (n * n) work-bytes (length-replicate {A = ℕ} (n * n) 0) (F .fits .work-fits),
           );
     }

@@ -5,7 +5,7 @@ ghost use mathlib.Core.Path.{_≡_};
 ghost use mathlib.Core.List.{List};
 ghost use Prim.Native.Nat.{ℕ, _*_, _≤_};
 ghost use lib.ListN.{length};
-ghost use Rattle.residue.specs.Modulus.{modulus};
+ghost use Rattle.matching.specs.Edition.{first-edition};
 ghost use Rattle.matching.specs.Host.{opening-number, HostOpens, HostOpenedExactly};
 ghost use Rattle.opening.specs.Meaning.{opening-of, buffers};
 ghost use Rattle.opening_bytes.specs.Opened.{HostOpeningFits, Lends, first-stored, OpeningNumberFits, after};
@@ -85,7 +85,7 @@ fn open_over(
     ensures { λ r.
         let lent = buffers (now (inverse .entry)) (now (sequence .entry)) (now (witness .entry)) (now (work .entry)) in
         let after = buffers (now (inverse .exit)) (now (sequence .exit)) (now (witness .exit)) (now (work .exit)) in
-        ⌜ HostOpens modulus n (now (adjacency .entry)) (now (weights .entry)) lent r after ⌝ }
+        ⌜ HostOpens first-edition n (now (adjacency .entry)) (now (weights .entry)) lent r after ⌝ }
 {
     packing::unpack(weights, values);
     let opened = opening::begin(n, adjacency, values, table, sequence, vector, spare);
@@ -106,7 +106,7 @@ fn open_words(
     ensures { λ r.
         let lent = buffers (now (inverse .entry)) (now (sequence .entry)) (now (witness .entry)) (now (work .entry)) in
         let after = buffers (now (inverse .exit)) (now (sequence .exit)) (now (witness .exit)) (now (work .exit)) in
-        ⌜ HostOpens modulus n (now (adjacency .entry)) (now (weights .entry)) lent r after ⌝ }
+        ⌜ HostOpens first-edition n (now (adjacency .entry)) (now (weights .entry)) lent r after ⌝ }
 {
     let count = checks::weights_needed(n);
     let cells = n * n;
@@ -183,10 +183,10 @@ pub fn begin(
     ensures { λ r.
         let lent = buffers (now (inverse .entry)) (now (sequence .entry)) (now (witness .entry)) (now (work .entry)) in
         let after = buffers (now (inverse .exit)) (now (sequence .exit)) (now (witness .exit)) (now (work .exit)) in
-        ⌜ HostOpens modulus n (now (adjacency .entry)) (now (weights .entry)) lent r after ⌝ }
+        ⌜ HostOpens first-edition n (now (adjacency .entry)) (now (weights .entry)) lent r after ⌝ }
     ensures { λ r.
         let lent = buffers (now (inverse .entry)) (now (sequence .entry)) (now (witness .entry)) (now (work .entry)) in
-        ⌜ HostOpenedExactly modulus n (now (adjacency .entry)) (now (weights .entry)) lent r ⌝ }
+        ⌜ HostOpenedExactly first-edition n (now (adjacency .entry)) (now (weights .entry)) lent r ⌝ }
 {
     let ruling = checks::judge_room(
         n,

@@ -15,7 +15,7 @@ fn word(low: u8, high: u8) -> u16
 // The words of bytes, as many as there is room for. For proved callers.
 pub fn unpack(bytes: &[u8], target: &mut [u16])
     requires { ⌜ 2 * length (now target) ≤ length (now bytes) ⌝ }
-    ensures { λ _. ⌜ now (target .exit) ≡ take (length (now (target .entry))) (words (now (bytes .entry))) ⌝ }
+    ensures { λ _. ⌜ now (target .exit) ≡ take (length (now (target .entry))) (words 2 (now (bytes .entry))) ⌝ }
 {
     let mut i = 0;
     while i < target.len() {
@@ -27,7 +27,7 @@ pub fn unpack(bytes: &[u8], target: &mut [u16])
 // The bytes of words. The bytes after them stay as they are.
 fn pack(words: &[u16], bytes: &mut [u8])
     requires { ⌜ 2 * length (now words) ≤ length (now bytes) ⌝ }
-    ensures { λ _. ⌜ now (bytes .exit) ≡ onto (bytes-of (now (words .entry))) (now (bytes .entry)) ⌝ }
+    ensures { λ _. ⌜ now (bytes .exit) ≡ onto (bytes-of 2 (now (words .entry))) (now (bytes .entry)) ⌝ }
 {
     let mut i = 0;
     while i < words.len() {
@@ -40,7 +40,7 @@ fn pack(words: &[u16], bytes: &mut [u8])
 // The bytes of the first words, so many of them. For proved callers.
 pub fn store(words: &[u16], count: usize, bytes: &mut [u8])
     requires { ⌜ (count ≤ length (now words)) × (2 * count ≤ length (now bytes)) ⌝ }
-    ensures { λ _. ⌜ now (bytes .exit) ≡ onto (bytes-of (take count (now (words .entry)))) (now (bytes .entry)) ⌝ }
+    ensures { λ _. ⌜ now (bytes .exit) ≡ onto (bytes-of 2 (take count (now (words .entry)))) (now (bytes .entry)) ⌝ }
 {
     pack(&words[..count], bytes);
 }

@@ -9,6 +9,7 @@ use lib.Seq.{take-all}
 use Rattle.lists.specs.Onto.{onto, onto-front-same}
 use Rattle.residue.specs.Modulus.{modulus, modulus-prime}
 use Rattle.matching.specs.Decision.{Refusal, Ruling, accepted, refused}
+use Rattle.matching.specs.Edition.{first-edition}
 use Rattle.matching.specs.Session.{Session, State, state}
 use Rattle.matching.specs.Calls.{state-after}
 use Rattle.matching.specs.Host.{words, Bytes, bytes-of, refusal-number, unpacked-state, handed-back}
@@ -33,7 +34,7 @@ pub record ReplaysOver (s : State) (numbers answers bytes : List ℕ) (answer : 
   pub changed : Bool
   pub outcome : Replays modulus-prime s numbers answers verdict left answers′
   pub numbered : answer ≡ replay-number verdict (left .session)
-  pub stored : bytes′ ≡ onto (bytes-of (take (extent changed (length (s .inverse))) (left .inverse))) bytes
+  pub stored : bytes′ ≡ onto (bytes-of 2 (take (extent changed (length (s .inverse))) (left .inverse))) bytes
   pub sequence : sequence′ ≡ left .sequence
   pub kept : changed ≡ false → left ≡ s
 
@@ -54,18 +55,18 @@ module _ (n made : ℕ) (adjacency weights inverse sequence : List ℕ) (numbers
   abbrev after-state : Session → (inverse sequence : List ℕ) → State
   after-state x i q = record { session = x; adjacency = adjacency; weights = weights; inverse = i; sequence = q }
 
-  handed : {k : ℕ} (x : Session) (i q : List ℕ) {answers′ : List ℕ} → HostReplays modulus-prime host numbers answers k (after-state x i q) answers′
-      → HostReplays modulus-prime host numbers answers k (handed-back host k i q) answers′
-  handed x i q H = rw (← host-replay-session modulus-prime H) H
+  handed : {k : ℕ} (x : Session) (i q : List ℕ) {answers′ : List ℕ} → HostReplays first-edition host numbers answers k (after-state x i q) answers′
+      → HostReplays first-edition host numbers answers k (handed-back host k i q) answers′
+  handed x i q H = rw (← host-replay-session first-edition H) H
 
-  refused-through : {r : Refusal} → replay-ruling modulus-prime (unpacked-state host) numbers answers ≡ refused r
-      → HostReplays modulus-prime host numbers answers (refusal-number r) host answers
+  refused-through : {r : Refusal} → replay-ruling modulus-prime (unpacked-state first-edition host) numbers answers ≡ refused r
+      → HostReplays first-edition host numbers answers (refusal-number r) host answers
   refused-through {r} e =
-      record { verdict = refused r; left = unpacked-state host; outcome = refuses-replay r e; numbered = refl; stored = refl }
+      record { verdict = refused r; left = unpacked-state first-edition host; outcome = refuses-replay r e; numbered = refl; stored = refl }
 
   -- a refusal for the size or the lengths is the host's
   module _ {r : Refusal} (e : refused r ≡ room n made adjacency weights inverse sequence) where
-    refuses : replay-ruling modulus-prime (unpacked-state host) numbers answers ≡ refused r
+    refuses : replay-ruling modulus-prime (unpacked-state first-edition host) numbers answers ≡ refused r
     unfolding replay-ruling
     refuses =
         room-first n made adjacency weights inverse sequence modulus (lent-answers (call-count numbers) (length answers) ∷ []) (list-causes numbers) e
@@ -73,37 +74,37 @@ module _ (n made : ℕ) (adjacency weights inverse sequence : List ℕ) (numbers
     pub refusal-fits : r .place < 2 ^ 16
     refusal-fits = replays-small modulus-prime (refuses-replay r refuses) .place-below
 
-    pub host-refuses : HostReplays modulus-prime host numbers answers (refusal-number r) (handed-back host (refusal-number r) inverse sequence) answers
+    pub host-refuses : HostReplays first-edition host numbers answers (refusal-number r) (handed-back host (refusal-number r) inverse sequence) answers
     host-refuses = handed (host .session) inverse sequence (refused-through refuses)
 
-  module _ (B : Bytes inverse) (F : HostFits (unpacked-state host)) where
+  module _ (B : Bytes inverse) (F : HostFits (unpacked-state first-edition host)) where
     abbrev u : List ℕ
     u = needed-weights n weights
 
-    beside : Wide n adjacency u (words weights) (words inverse) (needed-state host) (unpacked-state host)
+    beside : Wide n adjacency u (words 2 weights) (words 2 inverse) (needed-state host) (unpacked-state first-edition host)
     beside =
-        subst (λ i. Wide n adjacency u (words weights) (words inverse) (needed-state host) (state n made adjacency (words weights) i sequence))
-        (onto-front-same (n * n) (words inverse) (F .fits .inverse-fits))
+        subst (λ i. Wide n adjacency u (words 2 weights) (words 2 inverse) (needed-state host) (state n made adjacency (words 2 weights) i sequence))
+        (onto-front-same (n * n) (words 2 inverse) (F .fits .inverse-fits))
         (wide made (needed-inverse n inverse) sequence (table-length n made adjacency weights inverse sequence F) (F .fits .sequence-fits))
 
-    same : replay-ruling modulus-prime (unpacked-state host) numbers answers ≡ replay-ruling modulus-prime (needed-state host) numbers answers
+    same : replay-ruling modulus-prime (unpacked-state first-edition host) numbers answers ≡ replay-ruling modulus-prime (needed-state host) numbers answers
     unfolding replay-ruling
     same =
         sym (more-same n made adjacency weights inverse sequence F modulus (lent-answers (call-count numbers) (length answers) ∷ []) (list-causes numbers))
 
     -- the words that are left, stored
     abbrev stored-bytes : State → List ℕ
-    stored-bytes left = onto (bytes-of (take (n * n) (left .inverse))) inverse
+    stored-bytes left = onto (bytes-of 2 (take (n * n) (left .inverse))) inverse
 
     -- those that were there are the bytes that were there, and so need not be stored
     same-bytes : {left : State} → left ≡ needed-state host → stored-bytes left ≡ inverse
     same-bytes q =
         ap stored-bytes q
-        ∙ ap (λ w. onto (bytes-of w) inverse) (take-all (n * n) (needed-inverse n inverse) (omega (arith, table-length n made adjacency weights inverse sequence F)))
-        ∙ own-front (n * n) inverse B (F .fits .inverse-fits)
+        ∙ ap (λ w. onto (bytes-of 2 w) inverse) (take-all (n * n) (needed-inverse n inverse) (omega (arith, table-length n made adjacency weights inverse sequence F)))
+        ∙ own-front 2 (n * n) inverse B (F .fits .inverse-fits)
 
     as-stored : (changed : Bool) (left : State) → (changed ≡ false → left ≡ needed-state host)
-        → onto (bytes-of (take (extent changed (n * n)) (left .inverse))) inverse ≡ stored-bytes left
+        → onto (bytes-of 2 (take (extent changed (n * n)) (left .inverse))) inverse ≡ stored-bytes left
     unfolding bytes-of
     as-stored true left kept = refl
     as-stored false left kept = sym (same-bytes (kept refl))
@@ -111,52 +112,52 @@ module _ (n made : ℕ) (adjacency weights inverse sequence : List ℕ) (numbers
     -- the last state of both, stored
     record Last (small large : State) : Type 0 where
       sessions : large .session ≡ small .session
-      stored : after-state (small .session) (stored-bytes small) (small .sequence) ≡ replay-stored accepted large host
+      stored : after-state (small .session) (stored-bytes small) (small .sequence) ≡ replay-stored first-edition accepted large host
 
-    last : {small large : State} → Wide n adjacency u (words weights) (words inverse) small large → Last small large
+    last : {small large : State} → Wide n adjacency u (words 2 weights) (words 2 inverse) small large → Last small large
     last (wide m table order full long) = record {
       sessions = refl;
       stored =
           ap (λ i. after-state (record { size = n; made = m }) i order)
-          (ap (λ w. onto (bytes-of w) inverse) (take-all (n * n) table (omega arith)) ∙ sym (stored-words table inverse B (omega (arith, F .fits .inverse-fits))));
+          (ap (λ w. onto (bytes-of 2 w) inverse) (take-all (n * n) table (omega arith)) ∙ sym (stored-words 2 table inverse B (omega (arith, F .fits .inverse-fits))));
     }
 
     through : {v : Ruling} {left : State} {answers′ : List ℕ} → Replays modulus-prime (needed-state host) numbers answers v left answers′
-        → HostReplays modulus-prime host numbers answers (replay-number v (left .session)) (after-state (left .session) (stored-bytes left) (left .sequence)) answers′
+        → HostReplays first-edition host numbers answers (replay-number v (left .session)) (after-state (left .session) (stored-bytes left) (left .sequence)) answers′
     through (refuses-replay r e) = rw (same-bytes {left = needed-state host} refl) (refused-through (same ∙ e))
     through (replays returned ok runs) =
         let L = last (W .last) in
         record {
           verdict = accepted;
-          left = state-after (unpacked-state host) (W .returned′) (length (W .returned′));
+          left = state-after (unpacked-state first-edition host) (W .returned′) (length (W .returned′));
           outcome = rw (← W .numbers) (replays (W .returned′) (same ∙ ok) (W .runs));
           numbered = ap (replay-number accepted) (sym (L .sessions));
           stored = L .stored;
         }
       where
-        W : WideRun n adjacency u (words weights) (words inverse) (needed-agree n weights (F .size)) (F .fits .graph .cells) (omega (arith, needed-counted n weights (F .size) (F .fits .graph .weights))) (F .fits .graph .weights) (unpacked-state host) (calls-of numbers) (needed-state host) returned
-        W = wide-runs n adjacency u (words weights) (words inverse) (needed-agree n weights (F .size)) (F .fits .graph .cells) (omega (arith, needed-counted n weights (F .size) (F .fits .graph .weights))) (F .fits .graph .weights) beside runs
+        W : WideRun n adjacency u (words 2 weights) (words 2 inverse) (needed-agree n weights (F .size)) (F .fits .graph .cells) (omega (arith, needed-counted n weights (F .size) (F .fits .graph .weights))) (F .fits .graph .weights) (unpacked-state first-edition host) (calls-of numbers) (needed-state host) returned
+        W = wide-runs n adjacency u (words 2 weights) (words 2 inverse) (needed-agree n weights (F .size)) (F .fits .graph .cells) (omega (arith, needed-counted n weights (F .size) (F .fits .graph .weights))) (F .fits .graph .weights) beside runs
 
     pub host-replays : {k : ℕ} {inverse′ sequence′ answers′ : List ℕ} → ReplaysOver (needed-state host) numbers answers inverse k inverse′ sequence′ answers′
-        → HostReplays modulus-prime host numbers answers k (handed-back host k inverse′ sequence′) answers′
+        → HostReplays first-edition host numbers answers k (handed-back host k inverse′ sequence′) answers′
     host-replays {inverse′ = inverse′} O =
         rw (O .numbered, bytes, O .sequence) (handed (O .left .session) (stored-bytes (O .left)) (O .left .sequence) (through (O .outcome)))
       where
         bytes : inverse′ ≡ stored-bytes (O .left)
         bytes =
             O .stored
-            ∙ ap (λ k. onto (bytes-of (take (extent (O .changed) k) (O .left .inverse))) inverse) (table-length n made adjacency weights inverse sequence F)
+            ∙ ap (λ k. onto (bytes-of 2 (take (extent (O .changed) k) (O .left .inverse))) inverse) (table-length n made adjacency weights inverse sequence F)
             ∙ as-stored (O .changed) (O .left) (O .kept)
 
 -- demand 3 through the host
-pub host-demand : {s after : State} {numbers answers answers′ : List ℕ} {k : ℕ} → HostReplays modulus-prime s numbers answers k after answers′
-    → HostDemandThree modulus-prime s numbers answers after answers′
+pub host-demand : {s after : State} {numbers answers answers′ : List ℕ} {k : ℕ} → HostReplays first-edition s numbers answers k after answers′
+    → HostDemandThree first-edition s numbers answers after answers′
 host-demand {s} {numbers = numbers} {answers = answers} H ok unpaired = (
   H .left,
-  replays-follow (unpacked-state s) numbers answers (H .outcome) ok unpaired,
-  H .stored ∙ ap (λ v. replay-stored v (H .left) s) (verdict (H .outcome)),
+  replays-follow (unpacked-state first-edition s) numbers answers (H .outcome) ok unpaired,
+  H .stored ∙ ap (λ v. replay-stored first-edition v (H .left) s) (verdict (H .outcome)),
 )
   where
-    verdict : {v : Ruling} {left : State} {a : List ℕ} → Replays modulus-prime (unpacked-state s) numbers answers v left a → v ≡ accepted
+    verdict : {v : Ruling} {left : State} {a : List ℕ} → Replays modulus-prime (unpacked-state first-edition s) numbers answers v left a → v ≡ accepted
     verdict (refuses-replay r e) = absurd (let z : _≡_ {A = ℕ} 0 1 = cc in omega arith)
     verdict (replays _ _ _) = refl

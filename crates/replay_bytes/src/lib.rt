@@ -4,7 +4,7 @@ use session::Session;
 ghost use mathlib.Core.Path.{_≡_};
 ghost use Prim.Native.Nat.{_*_, _≤_};
 ghost use lib.ListN.{length};
-ghost use Rattle.residue.specs.Modulus.{modulus-prime};
+ghost use Rattle.matching.specs.Edition.{first-edition};
 ghost use Rattle.matching.specs.Host.{unpacked-state, handed-back};
 ghost use Rattle.matching.specs.Replay.{HostReplays, HostDemandThree};
 ghost use Rattle.matching.specs.Session.{state};
@@ -61,10 +61,10 @@ fn replay_words(
     list: &[u64],
     answers: &mut [u64],
 ) -> u64
-    requires { ⌜ HostFits (unpacked-state (state n made (now adjacency) (now weights) (now inverse) (now sequence))) ⌝ }
+    requires { ⌜ HostFits (unpacked-state first-edition (state n made (now adjacency) (now weights) (now inverse) (now sequence))) ⌝ }
     ensures { λ r.
         let before = state n made (now (adjacency .entry)) (now (weights .entry)) (now (inverse .entry)) (now (sequence .entry)) in
-        ⌜ HostReplays modulus-prime before (now (list .entry)) (now (answers .entry)) r
+        ⌜ HostReplays first-edition before (now (list .entry)) (now (answers .entry)) r
         (handed-back before r (now (inverse .exit)) (now (sequence .exit))) (now (answers .exit)) ⌝ }
 {
     let mut values = [0u16; 4560];
@@ -98,11 +98,11 @@ pub fn replay(
 ) -> u64
     ensures run { λ r.
         let before = state n made (now (adjacency .entry)) (now (weights .entry)) (now (inverse .entry)) (now (sequence .entry)) in
-        ⌜ HostReplays modulus-prime before (now (list .entry)) (now (answers .entry)) r
+        ⌜ HostReplays first-edition before (now (list .entry)) (now (answers .entry)) r
         (handed-back before r (now (inverse .exit)) (now (sequence .exit))) (now (answers .exit)) ⌝ }
     ensures demand { λ r.
         let before = state n made (now (adjacency .entry)) (now (weights .entry)) (now (inverse .entry)) (now (sequence .entry)) in
-        ⌜ HostDemandThree modulus-prime before (now (list .entry)) (now (answers .entry))
+        ⌜ HostDemandThree first-edition before (now (list .entry)) (now (answers .entry))
         (handed-back before r (now (inverse .exit)) (now (sequence .exit))) (now (answers .exit)) ⌝ }
 {
     let lengths = checks::judge_lengths(

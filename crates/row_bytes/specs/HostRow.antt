@@ -6,6 +6,7 @@ use lib.ListN.{length}
 use Rattle.lists.specs.Values.{list-of-same}
 use Rattle.residue.specs.Modulus.{modulus, modulus-prime}
 use Rattle.matching.specs.Decision.{Refusal, Ruling, refused}
+use Rattle.matching.specs.Edition.{first-edition}
 use Rattle.matching.specs.Pairs.{pairs-on}
 use Rattle.matching.specs.Session.{in-play, State, state}
 use Rattle.matching.specs.Causes.{lent-row}
@@ -35,32 +36,32 @@ pub shown-fits : {s t : State} {a : ℕ} {row row′ : List ℕ} {v : Ruling} �
 shown-fits {s} {v = v} R = ruling-fits v (s .session) (row-small modulus-prime R)
 
 -- over the words that the graph needs it is as over all of the host's
-module _ (n made : ℕ) (adjacency weights inverse sequence : List ℕ) (a : ℕ) (row : List ℕ) (F : HostFits (unpacked-state (state n made adjacency weights inverse sequence))) where
+module _ (n made : ℕ) (adjacency weights inverse sequence : List ℕ) (a : ℕ) (row : List ℕ) (F : HostFits (unpacked-state first-edition (state n made adjacency weights inverse sequence))) where
   abbrev host : State
   host = state n made adjacency weights inverse sequence
 
-  same : row-ruling modulus-prime (unpacked-state host) a row ≡ row-ruling modulus-prime (needed-state host) a row
+  same : row-ruling modulus-prime (unpacked-state first-edition host) a row ≡ row-ruling modulus-prime (needed-state host) a row
   unfolding row-ruling
   same =
       sym (more-same n made adjacency weights inverse sequence F modulus (lent-row n (length row) ∷ []) (vertex-causes n (in-play host) (pairs-on sequence made) a))
 
-  bits : open-row modulus-prime (needed-state host) a ≡ open-row modulus-prime (unpacked-state host) a
+  bits : open-row modulus-prime (needed-state host) a ≡ open-row modulus-prime (unpacked-state first-edition host) a
   unfolding open-row
   bits =
       list-of-same n _ _
-      (λ b l. ap bit-of (pick-same modulus-prime (in-play host) n adjacency (needed-weights n weights) (words weights) (needed-agree n weights (F .size)) (pairs-on sequence made) a b))
+      (λ b l. ap bit-of (pick-same modulus-prime (in-play host) n adjacency (needed-weights n weights) (words 2 weights) (needed-agree n weights (F .size)) (pairs-on sequence made) a b))
 
   through : {v : Ruling} {t : State} {row′ : List ℕ} → ShowsRow modulus-prime (needed-state host) a row v t row′
-      → ShowsRow modulus-prime (unpacked-state host) a row v (unpacked-state host) row′
+      → ShowsRow modulus-prime (unpacked-state first-edition host) a row v (unpacked-state first-edition host) row′
   through (shows e) = rw bits (shows (same ∙ e))
   through (row-refused r e) = row-refused r (same ∙ e)
 
-  pub host-shows : {k : ℕ} {row′ : List ℕ} → ShowsOver (needed-state host) a row k row′ → HostShowsRow modulus-prime host a row k host row′
+  pub host-shows : {k : ℕ} {row′ : List ℕ} → ShowsOver (needed-state host) a row k row′ → HostShowsRow first-edition host a row k host row′
   host-shows O = record { verdict = O .verdict; outcome = through (O .outcome); numbered = O .numbered; same = refl }
 
 -- a refusal for the size or the lengths is the host's
 pub host-refuses : (n made : ℕ) (adjacency weights inverse sequence : List ℕ) (a : ℕ) (row : List ℕ) {r : Refusal} → refused r ≡ room n made adjacency weights inverse sequence
-    → HostShowsRow modulus-prime (state n made adjacency weights inverse sequence) a row (row-number (refused r) (record { size = n; made = made })) (state n made adjacency weights inverse sequence) row
+    → HostShowsRow first-edition (state n made adjacency weights inverse sequence) a row (row-number (refused r) (record { size = n; made = made })) (state n made adjacency weights inverse sequence) row
 unfolding row-ruling
 host-refuses n made adjacency weights inverse sequence a row {r} e = record {
   verdict = refused r;

@@ -1,7 +1,7 @@
 // Open row with numbers and byte slices: what the host's entry calls. Words cross as two bytes, low first (docs/HOST.md).
 use refusals::Ruling;
 use session::Session;
-ghost use Rattle.residue.specs.Modulus.{modulus-prime};
+ghost use Rattle.matching.specs.Edition.{first-edition};
 ghost use Rattle.matching.specs.Host.{unpacked-state, HostShowsRow};
 ghost use Rattle.matching.specs.Session.{state};
 ghost use Rattle.crossing.specs.HostFits.{HostFits};
@@ -39,10 +39,10 @@ fn row_words(
     sequence: &[u8],
     row: &mut [u8],
 ) -> u64
-    requires { ⌜ HostFits (unpacked-state (state n made (now adjacency) (now weights) (now inverse) (now sequence))) ⌝ }
+    requires { ⌜ HostFits (unpacked-state first-edition (state n made (now adjacency) (now weights) (now inverse) (now sequence))) ⌝ }
     ensures { λ r.
         let before = state n made (now (adjacency .entry)) (now (weights .entry)) (now (inverse .entry)) (now (sequence .entry)) in
-        ⌜ HostShowsRow modulus-prime before a (now (row .entry)) r before (now (row .exit)) ⌝ }
+        ⌜ HostShowsRow first-edition before a (now (row .entry)) r before (now (row .exit)) ⌝ }
 {
     let mut values = [0u16; 4560];
     let mut table = [0u16; 9216];
@@ -74,7 +74,7 @@ pub fn row(
 ) -> u64
     ensures { λ r.
         let before = state n made (now (adjacency .entry)) (now (weights .entry)) (now (inverse .entry)) (now (sequence .entry)) in
-        ⌜ HostShowsRow modulus-prime before a (now (row .entry)) r before (now (row .exit)) ⌝ }
+        ⌜ HostShowsRow first-edition before a (now (row .entry)) r before (now (row .exit)) ⌝ }
 {
     let lengths = checks::judge_lengths(
         n,

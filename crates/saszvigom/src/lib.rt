@@ -1,6 +1,6 @@
 // The entries that a host calls with numbers and byte slices. Words cross as two bytes, low first (docs/HOST.md).
 ghost use mathlib.Core.Path.{_≡_};
-ghost use Rattle.residue.specs.Modulus.{modulus, modulus-prime};
+ghost use Rattle.matching.specs.Edition.{first-edition};
 ghost use Rattle.matching.specs.Host.{HostOpens, HostOpenedExactly, HostHandles, HostPickedExactly, HostShowsRow, HostReads, HostDraws, handed-back};
 ghost use Rattle.matching.specs.Model.{pick, automatic, undo};
 ghost use Rattle.matching.specs.Replay.{HostReplays, HostDemandThree};
@@ -30,10 +30,10 @@ pub extern "C" fn saszvigom_open(
     ensures { λ r.
         let lent = buffers (now (inverse .entry)) (now (sequence .entry)) (now (witness .entry)) (now (work .entry)) in
         let after = buffers (now (inverse .exit)) (now (sequence .exit)) (now (witness .exit)) (now (work .exit)) in
-        ⌜ HostOpens modulus n (now (adjacency .entry)) (now (weights .entry)) lent r after ⌝ }
+        ⌜ HostOpens first-edition n (now (adjacency .entry)) (now (weights .entry)) lent r after ⌝ }
     ensures { λ r.
         let lent = buffers (now (inverse .entry)) (now (sequence .entry)) (now (witness .entry)) (now (work .entry)) in
-        ⌜ HostOpenedExactly modulus n (now (adjacency .entry)) (now (weights .entry)) lent r ⌝ }
+        ⌜ HostOpenedExactly first-edition n (now (adjacency .entry)) (now (weights .entry)) lent r ⌝ }
 {
     opening_bytes::begin(
         n as usize,
@@ -60,10 +60,10 @@ pub extern "C" fn saszvigom_pick(
 ) -> u64
     ensures handled { λ r.
         let before = state n made (now (adjacency .entry)) (now (weights .entry)) (now (inverse .entry)) (now (sequence .entry)) in
-        ⌜ HostHandles modulus-prime before (pick a b) r (handed-back before r (now (inverse .exit)) (now (sequence .exit))) ⌝ }
+        ⌜ HostHandles first-edition before (pick a b) r (handed-back before r (now (inverse .exit)) (now (sequence .exit))) ⌝ }
     ensures exactly { λ r.
         let before = state n made (now (adjacency .entry)) (now (weights .entry)) (now (inverse .entry)) (now (sequence .entry)) in
-        ⌜ HostPickedExactly modulus-prime before a b r ⌝ }
+        ⌜ HostPickedExactly first-edition before a b r ⌝ }
 {
     crossing::pick(
         n as usize,
@@ -89,7 +89,7 @@ pub extern "C" fn saszvigom_automatic(
 ) -> u64
     ensures { λ r.
         let before = state n made (now (adjacency .entry)) (now (weights .entry)) (now (inverse .entry)) (now (sequence .entry)) in
-        ⌜ HostHandles modulus-prime before automatic r (handed-back before r (now (inverse .exit)) (now (sequence .exit))) ⌝ }
+        ⌜ HostHandles first-edition before automatic r (handed-back before r (now (inverse .exit)) (now (sequence .exit))) ⌝ }
 {
     crossing::automatic(
         n as usize,
@@ -113,7 +113,7 @@ pub extern "C" fn saszvigom_undo(
 ) -> u64
     ensures { λ r.
         let before = state n made (now (adjacency .entry)) (now (weights .entry)) (now (inverse .entry)) (now (sequence .entry)) in
-        ⌜ HostHandles modulus-prime before undo r (handed-back before r (now (inverse .exit)) (now (sequence .exit))) ⌝ }
+        ⌜ HostHandles first-edition before undo r (handed-back before r (now (inverse .exit)) (now (sequence .exit))) ⌝ }
 {
     crossing::undo(
         n as usize,
@@ -139,7 +139,7 @@ pub extern "C" fn saszvigom_row(
 ) -> u64
     ensures { λ r.
         let before = state n made (now (adjacency .entry)) (now (weights .entry)) (now (inverse .entry)) (now (sequence .entry)) in
-        ⌜ HostShowsRow modulus-prime before a (now (row .entry)) r before (now (row .exit)) ⌝ }
+        ⌜ HostShowsRow first-edition before a (now (row .entry)) r before (now (row .exit)) ⌝ }
 {
     row_bytes::row(
         n as usize,
@@ -167,11 +167,11 @@ pub extern "C" fn saszvigom_replay(
 ) -> u64
     ensures run { λ r.
         let before = state n made (now (adjacency .entry)) (now (weights .entry)) (now (inverse .entry)) (now (sequence .entry)) in
-        ⌜ HostReplays modulus-prime before (now (calls .entry)) (now (answers .entry)) r
+        ⌜ HostReplays first-edition before (now (calls .entry)) (now (answers .entry)) r
         (handed-back before r (now (inverse .exit)) (now (sequence .exit))) (now (answers .exit)) ⌝ }
     ensures demand { λ r.
         let before = state n made (now (adjacency .entry)) (now (weights .entry)) (now (inverse .entry)) (now (sequence .entry)) in
-        ⌜ HostDemandThree modulus-prime before (now (calls .entry)) (now (answers .entry))
+        ⌜ HostDemandThree first-edition before (now (calls .entry)) (now (answers .entry))
         (handed-back before r (now (inverse .exit)) (now (sequence .exit))) (now (answers .exit)) ⌝ }
 {
     replay_bytes::replay(
@@ -190,7 +190,7 @@ pub extern "C" fn saszvigom_replay(
 #[no_mangle]
 pub extern "C" fn saszvigom_read(sheet: &[u8], adjacency: &mut [u8], weights: &mut [u8]) -> u64
     ensures { λ r.
-        ⌜ HostReads (now (sheet .entry)) (now (adjacency .entry)) (now (weights .entry)) r
+        ⌜ HostReads first-edition (now (sheet .entry)) (now (adjacency .entry)) (now (weights .entry)) r
         (now (adjacency .exit)) (now (weights .exit)) ⌝ }
 {
     sheet_bytes::read(sheet, adjacency, weights)
@@ -199,7 +199,7 @@ pub extern "C" fn saszvigom_read(sheet: &[u8], adjacency: &mut [u8], weights: &m
 // Draws the weights of n vertices from a seed: document 01, "Draw roll", through the host.
 #[no_mangle]
 pub extern "C" fn saszvigom_draws(n: u64, seed: u32, weights: &mut [u8]) -> u64
-    ensures { λ r. ⌜ HostDraws n seed (now (weights .entry)) r (now (weights .exit)) ⌝ }
+    ensures { λ r. ⌜ HostDraws first-edition n seed (now (weights .entry)) r (now (weights .exit)) ⌝ }
 {
     sheet_bytes::draw(n as usize, seed, weights)
 }

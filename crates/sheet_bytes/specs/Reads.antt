@@ -8,6 +8,7 @@ use lib.ListN.{length, take, drop, length-append}
 use Rattle.lists.specs.Choose.{choose}
 use Rattle.lists.specs.Onto.{onto}
 use Rattle.matching.specs.Decision.{absent, at, unless, accepted}
+use Rattle.matching.specs.Edition.{first-edition}
 use Rattle.matching.specs.Graph.{largest, pair-count}
 use Rattle.matching.specs.Records.{Read, graph-read, not-read, room, Fills, refuses-records, lacks-room, fills}
 use Rattle.matching.specs.Listing.{input-limit}
@@ -26,13 +27,13 @@ stored-of (not-read why) = 0
 -- values has as many words as weights has room for, or as the largest graph needs; the sheet is not longer than what is read of one
 pub record ReadRoom (sheet values weights : List ℕ) : Type 0 where
   pub few : length sheet ≤ input-limit
-  pub within : length values ≤ length (words weights)
-  pub enough : (k : ℕ) → k ≤ 4560 → k ≤ length (words weights) → k ≤ length values
+  pub within : length values ≤ length (words 2 weights)
+  pub enough : (k : ℕ) → k ≤ 4560 → k ≤ length (words 2 weights) → k ≤ length values
 
 -- reading through the host, for every sheet whose first 16,384 bytes are these
 abbrev pub ReadsFront : List ℕ → (adjacency weights : List ℕ) → ℕ → (adjacency′ weights′ : List ℕ) → Type 0
 ReadsFront front adjacency weights answer adjacency′ weights′ =
-    (sheet : List ℕ) → take input-limit sheet ≡ front → HostReads sheet adjacency weights answer adjacency′ weights′
+    (sheet : List ℕ) → take input-limit sheet ≡ front → HostReads first-edition sheet adjacency weights answer adjacency′ weights′
 
 -- two lists of words have room for the same graphs, if they have room for the same number of weights
 room-same : (n : ℕ) (adjacency values ws : List ℕ) → (pair-count n ≤ length values → pair-count n ≤ length ws) → (pair-count n ≤ length ws → pair-count n ≤ length values)
@@ -59,22 +60,22 @@ room-weights n adjacency ws = go (decLt (length adjacency) (n * n)) (decLt (leng
 
 module _ {sheet values weights : List ℕ} (R : ReadRoom sheet values weights) where
   -- for a graph of at most 96 vertices
-  same : (n : ℕ) (adjacency : List ℕ) → n ≤ largest → room n adjacency values ≡ room n adjacency (words weights)
+  same : (n : ℕ) (adjacency : List ℕ) → n ≤ largest → room n adjacency values ≡ room n adjacency (words 2 weights)
   same n adjacency h =
-      room-same n adjacency values (words weights) (λ l. omega (arith, R .within)) (λ l. R .enough (pair-count n) (omega (arith, needed-small n, needed-all n h)) l)
+      room-same n adjacency values (words 2 weights) (λ l. omega (arith, R .within)) (λ l. R .enough (pair-count n) (omega (arith, needed-small n, needed-all n h)) l)
 
   -- what is stored of what was read has room
-  pub stores : {adjacency adjacency′ left : List ℕ} {given : Read} → Fills sheet adjacency values given adjacency′ left → (stored-of given ≤ length left) × (2 * stored-of given ≤ length weights)
+  pub stores : {adjacency adjacency′ left : List ℕ} {given : Read} → Fills first-edition sheet adjacency values given adjacency′ left → (stored-of given ≤ length left) × (2 * stored-of given ≤ length weights)
   stores (refuses-records _) = (omega arith, omega arith)
   stores (lacks-room _ _) = (omega arith, omega arith)
   stores {adjacency = adjacency} (fills {n = n} {drawn = drawn} S e) =
       let F = reads-fit S refl tt in
       let room : pair-count n ≤ length values = room-weights n adjacency values e in (
         omega (arith, drawn-needed F, length-append drawn (drop (length drawn) values)),
-        omega (arith, needed-all n (F .small), R .within, words-length weights .0),
+        omega (arith, needed-all n (F .small), R .within, words-length 2 weights),
       )
 
-  pub answers : {adjacency adjacency′ left : List ℕ} {given : Read} → Fills sheet adjacency values given adjacency′ left → AnswerBounds given input-limit
+  pub answers : {adjacency adjacency′ left : List ℕ} {given : Read} → Fills first-edition sheet adjacency values given adjacency′ left → AnswerBounds given input-limit
   answers {given = given} F = go given (fills-answer F)
     where
       go : (o : Read) → AnswerBounds o (length sheet) → AnswerBounds o input-limit
@@ -82,19 +83,19 @@ module _ {sheet values weights : List ℕ} (R : ReadRoom sheet values weights) w
       go (not-read why) h = more-within (omega (arith, R .few)) h
 
   -- through the host
-  pub host-reads : {adjacency adjacency′ left weights′ : List ℕ} {given : Read} {answer : ℕ} → Bytes weights → Fills sheet adjacency values given adjacency′ left → answer ≡ read-number given
-      → weights′ ≡ onto (bytes-of (take (stored-of given) left)) weights → ReadsFront sheet adjacency weights answer adjacency′ weights′
+  pub host-reads : {adjacency adjacency′ left weights′ : List ℕ} {given : Read} {answer : ℕ} → Bytes weights → Fills first-edition sheet adjacency values given adjacency′ left → answer ≡ read-number given
+      → weights′ ≡ onto (bytes-of 2 (take (stored-of given) left)) weights → ReadsFront sheet adjacency weights answer adjacency′ weights′
   unfolding bytes-of
   host-reads B (refuses-records {why = why} S) a w whole e = record {
     given = not-read why;
-    left = words weights;
+    left = words 2 weights;
     outcome = refuses-records {why = why} (rw e S);
     numbered = a;
     stored = w;
   }
   host-reads {adjacency = adjacency} B (lacks-room {n = n} {drawn = drawn} {edges = edges} {why = why} S r) a w whole e = record {
     given = not-read why;
-    left = words weights;
+    left = words 2 weights;
     outcome = lacks-room {n = n} {drawn = drawn} {edges = edges} {why = why} (rw e S) (sym (same n adjacency (reads-fit S refl tt .small)) ∙ r);
     numbered = a;
     stored = w;
@@ -104,8 +105,8 @@ module _ {sheet values weights : List ℕ} (R : ReadRoom sheet values weights) w
       let room : pair-count n ≤ length values = room-weights n adjacency values r in
       record {
         given = graph-read n (length edges);
-        left = onto drawn (words weights);
+        left = onto drawn (words 2 weights);
         outcome = fills {n = n} {drawn = drawn} {edges = edges} (rw e S) (sym (same n adjacency (F .small)) ∙ r);
         numbered = a;
-        stored = w ∙ stored-front drawn values weights (needed n) B (drawn-needed F) (omega (arith, needed-all n (F .small), R .within));
+        stored = w ∙ stored-front 2 drawn values weights (needed n) B (drawn-needed F) (omega (arith, needed-all n (F .small), R .within));
       }

@@ -4,7 +4,8 @@ ghost use mathlib.Core.Path.{_≡_};
 ghost use Prim.Native.Nat.{_*_, _≤_};
 ghost use lib.ListN.{length};
 ghost use Rattle.lists.specs.Onto.{onto};
-ghost use Rattle.draws.specs.Draws.{draws};
+ghost use Rattle.draws.specs.Draws.{draw, draws};
+ghost use Rattle.matching.specs.Edition.{first-edition};
 ghost use Rattle.matching.specs.Listing.{input-limit};
 ghost use Rattle.matching.specs.Host.{bytes-of, read-number, HostReads, HostDraws};
 ghost use Rattle.laws.specs.Bounds.{AnswerBounds};
@@ -64,7 +65,7 @@ fn read_words(sheet: &[u8], adjacency: &mut [u8], weights: &mut [u8]) -> u64
 // Reads the first 16,384 bytes of sheet, or all of them if it has fewer.
 pub fn read(sheet: &[u8], adjacency: &mut [u8], weights: &mut [u8]) -> u64
     ensures { λ r.
-        ⌜ HostReads (now (sheet .entry)) (now (adjacency .entry)) (now (weights .entry)) r
+        ⌜ HostReads first-edition (now (sheet .entry)) (now (adjacency .entry)) (now (weights .entry)) r
         (now (adjacency .exit)) (now (weights .exit)) ⌝ }
 {
     if sheet.len() < 16384 {
@@ -76,7 +77,7 @@ pub fn read(sheet: &[u8], adjacency: &mut [u8], weights: &mut [u8]) -> u64
 // Writes the first count draws of seed to weights as bytes.
 fn draw_words(count: usize, seed: u32, weights: &mut [u8])
     requires { ⌜ (count ≤ 4560) × (2 * count ≤ length (now weights)) ⌝ }
-    ensures { λ _. ⌜ now (weights .exit) ≡ onto (bytes-of (draws seed count)) (now (weights .entry)) ⌝ }
+    ensures { λ _. ⌜ now (weights .exit) ≡ onto (bytes-of 2 (draws draw seed count)) (now (weights .entry)) ⌝ }
 {
     // 96 * 95 / 2 weights.
     let mut values = [0u16; 4560];
@@ -86,7 +87,7 @@ fn draw_words(count: usize, seed: u32, weights: &mut [u8])
 
 // Writes the draws of seed to weights as the weights of n vertices.
 pub fn draw(n: usize, seed: u32, weights: &mut [u8]) -> u64
-    ensures { λ r. ⌜ HostDraws n seed (now (weights .entry)) r (now (weights .exit)) ⌝ }
+    ensures { λ r. ⌜ HostDraws first-edition n seed (now (weights .entry)) r (now (weights .exit)) ⌝ }
 {
     if checks::LARGEST < n {
         return numbers::refused(refusals::because(1, 0));

@@ -2,6 +2,7 @@
 use mathlib.Core.Path.{_≡_}
 use Rattle.residue.specs.Modulus.{modulus, modulus-prime}
 use Rattle.matching.specs.Decision.{because, refused}
+use Rattle.matching.specs.Edition.{first-edition}
 use Rattle.matching.specs.Session.{State, state}
 use Rattle.matching.specs.Causes.{session-ruling}
 use Rattle.matching.specs.Calls.{unsound}
@@ -23,7 +24,7 @@ abbrev host : tie.After-judge-lengths → State
 host at = let a = start at .args in state (a .n) (a .made) (a .adjacency .now) (a .weights .now) (a .inverse .now) (a .sequence .now)
 
 refuses : (at : tie.After-judge-lengths) {why : Refusal} → at .judge-lengths .result ≡ Refused why
-    → session-ruling modulus (unpacked-state (host at)) ≡ refused (because (why .cause) (why .place))
+    → session-ruling modulus (unpacked-state first-edition (host at)) ≡ refused (because (why .cause) (why .place))
 refuses at e =
     let a = start at .args in
     room-refused (a .n) (a .made) (a .adjacency .now) (a .weights .now) (a .inverse .now) (a .sequence .now) modulus (rw e at (at .judge-lengths .ensures))
@@ -37,7 +38,7 @@ enum-known-ruling c = search needs
 refused-requires : tie.Need-refused-requires
 refused-requires c κs =
     let at = c .before .before .before in
-    handles-small modulus-prime {s = unpacked-state (host at)} {c = call-is (start at .args .call)} (unsound _ (refuses at (c .before .ruling .given .1))) .place-below
+    handles-small modulus-prime {s = unpacked-state first-edition (host at)} {c = call-is (start at .args .call)} (unsound _ (refuses at (c .before .ruling .given .1))) .place-below
 
 returns : tie.Need-returns
 returns c =

@@ -1,8 +1,8 @@
 -- `crossing::pick` meets its contract: what is handled is accepted exactly where it is allowed. Assumes nothing.
-use Rattle.residue.specs.Modulus.{modulus-prime}
 use Rattle.laws.specs.Numbers.{host-picked-exactly}
 use borrow.Author.Needs.{needs}
 use Rattle.crossing.proofs.pick.Statement.{statement}
+use Rattle.matching.specs.Edition.{first-edition}
 use Rattle.crossing.proofs.pick.Tie as tie
 
 handle-requires : tie.Need-handle-requires
@@ -17,7 +17,7 @@ same-length-2 c = search needs
 returns : tie.Need-returns
 returns c =
     let h = c .before .before .before .before .handle .ensures in
-    (h, host-picked-exactly modulus-prime h)
+    (h, host-picked-exactly first-edition h)
 
 pub pick-spec : {M : Type 1} → statement M
 pick-spec = tie.close (tie.spec handle-requires same-length same-length-2 returns)

@@ -72,8 +72,8 @@ returns c =
           ap (λ k. take k (first .last .1 .0 ++ drop count (a .values .now))) (sym (at .weights-needed .ensures))
           ∙ values-back .1
           ∙ first .ensures
-          ∙ ap (λ k. take k (words (a .weights .now))) (front ∙ at .weights-needed .ensures);
-      inverse-are = table-back .1 ∙ second .ensures ∙ ap (λ k. take k (words (a .inverse .now))) square;
+          ∙ ap (λ k. take k (words 2 (a .weights .now))) (front ∙ at .weights-needed .ensures);
+      inverse-are = table-back .1 ∙ second .ensures ∙ ap (λ k. take k (words 2 (a .inverse .now))) square;
     }
 
 pub unpack-spec : {M : Type 1} → statement M

@@ -1,8 +1,9 @@
 -- `opening_bytes::begin` meets its contract: a refusal for the size or the lengths writes nothing, and else words are lent.
 -- Assumes nothing.
 use mathlib.Core.Path.{_≡_}
-use Rattle.residue.specs.Modulus.{modulus, modulus-prime}
+use Rattle.residue.specs.Modulus.{modulus}
 use Rattle.matching.specs.Decision.{because, refused}
+use Rattle.matching.specs.Edition.{first-edition}
 use Rattle.matching.specs.Graph.{over}
 use Rattle.matching.specs.Opening.{Buffers, ruling}
 use Rattle.matching.specs.Host.{words, unpacked, HostOpens}
@@ -19,7 +20,7 @@ abbrev host : tie.After-judge-room → Buffers
 host at = let a = at .before .before .before .before .before .before .before .args in buffers (a .inverse .now) (a .sequence .now) (a .witness .now) (a .work .now)
 
 refuses : (at : tie.After-judge-room) {why : Refusal} → at .judge-room .result ≡ Refused why
-    → (let a = at .before .before .before .before .before .before .before .args in ruling modulus (over (a .n) (a .adjacency .now) (words (a .weights .now))) (unpacked (host at)) ≡ refused (because (why .cause) (why .place)))
+    → (let a = at .before .before .before .before .before .before .before .args in ruling modulus (over (a .n) (a .adjacency .now) (words 2 (a .weights .now))) (unpacked first-edition (host at)) ≡ refused (because (why .cause) (why .place)))
 refuses at e =
     let a = at .before .before .before .before .before .before .before .args in
     room-refused (a .n) (a .adjacency .now) (a .weights .now) (host at) (rw e at (at .judge-room .ensures))
@@ -40,9 +41,9 @@ returns : tie.Need-returns
 returns c =
     let at = c .before .before .before .before in
     let a = c .before .before .before .before .before .before .before .before .before .before .before .args in
-    let o : HostOpens modulus (a .n) (a .adjacency .now) (a .weights .now) (host at) (c .refused .result) (host at) =
+    let o : HostOpens first-edition (a .n) (a .adjacency .now) (a .weights .now) (host at) (c .refused .result) (host at) =
     rw (c .refused .ensures) (host-refuses (a .n) (a .adjacency .now) (a .weights .now) (host at) (refuses at (c .before .before .ruling .given .1))) in
-    (o, host-opened-exactly modulus-prime o)
+    (o, host-opened-exactly first-edition o)
 
 enum-told : tie.Need-enum-told
 enum-told c = search needs
@@ -67,7 +68,7 @@ same-length-4 c = search needs
 
 returns-2 : tie.Need-returns-2
 returns-2 c =
-    (c .before .before .before .before .before .before .before .before .open-words .ensures, host-opened-exactly modulus-prime (c .before .before .before .before .before .before .before .before .open-words .ensures))
+    (c .before .before .before .before .before .before .before .before .open-words .ensures, host-opened-exactly first-edition (c .before .before .before .before .before .before .before .before .open-words .ensures))
 
 pub begin-spec : {M : Type 1} → statement M
 begin-spec =

@@ -26,7 +26,7 @@ host s = let a = s .args in buffers (a .inverse .now) (a .sequence .now) (a .wit
 
 -- the weights that the graph needs
 values : (at : tie.After-unpack) → at .unpack .last .1 .0 ≡ (let a = start at .args in needed-weights (a .n) (a .weights .now))
-values at = at .unpack .ensures ∙ ap (λ (k : ℕ). take k (words (start at .args .weights .now))) (start at .pre .1 .counted)
+values at = at .unpack .ensures ∙ ap (λ (k : ℕ). take k (words 2 (start at .args .weights .now))) (start at .pre .1 .counted)
 
 -- opening on words
 opens : (at : tie.After-begin)

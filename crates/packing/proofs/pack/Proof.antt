@@ -12,7 +12,7 @@ use Rattle.packing.proofs.pack.Statement.{statement}
 use Rattle.packing.proofs.pack.Tie as tie
 
 abbrev Inv-loop : tie.InvT-loop
-Inv-loop words bytes₀ i₀ bytes i = (i ≤ length words) × Written (λ x. getD (bytes-of words) x 0) bytes₀ bytes (2 * i)
+Inv-loop words bytes₀ i₀ bytes i = (i ≤ length words) × Written (λ x. getD (bytes-of 2 words) x 0) bytes₀ bytes (2 * i)
 
 abbrev μ-loop : tie.MeasureT-loop
 μ-loop words bytes₀ i₀ bytes i = length words - i
@@ -65,7 +65,7 @@ loop-again c =
     let v = l .loop .inv in
     let words = l .before .args .words .now in
     let i = l .loop .i in
-    let n = bytes-length words in
+    let n = bytes-length 2 words in
     let e : 2 * (i + 1) ≡ 2 * i + 1 + 1 = omega arith in
     let small = c .shared-slice-known2 .given i in
     let high : getD words i 0 / 256 % 256 ≡ getD words i 0 / 256 = omega arith in (
@@ -81,8 +81,8 @@ returns : tie.Need-returns Inv-loop μ-loop
 returns c =
     let v = c .before .loop .inv in
     let words = c .before .before .args .words .now in
-    let e : 2 * c .before .loop .i ≡ length (bytes-of words) = omega (arith, bytes-length words) in
-    v .1 .front ∙ rw (e, list-of-values (bytes-of words))
+    let e : 2 * c .before .loop .i ≡ length (bytes-of 2 words) = omega (arith, bytes-length 2 words) in
+    v .1 .front ∙ rw (e, list-of-values (bytes-of 2 words))
 
 pub pack-spec : {M : Type 1} → statement M
 pack-spec =

@@ -7,12 +7,12 @@ use borrow.Author.Needs.{needs}
 use Rattle.lists.specs.Values.{list-of-front}
 use Rattle.lists.specs.Written.{Written, written-start, written-more, written-all}
 use Rattle.matching.specs.Host.{words}
-use Rattle.laws.specs.Words.{words-length, words-at}
+use Rattle.laws.specs.Words.{words-length, words-at-two}
 use Rattle.packing.proofs.unpack.Statement.{statement}
 use Rattle.packing.proofs.unpack.Tie as tie
 
 abbrev Inv-loop : tie.InvT-loop
-Inv-loop bytes target₀ i₀ target i = Written (λ x. getD (words bytes) x 0) target₀ target i
+Inv-loop bytes target₀ i₀ target i = Written (λ x. getD (words 2 bytes) x 0) target₀ target i
 
 abbrev μ-loop : tie.MeasureT-loop
 μ-loop bytes target₀ i₀ target i = length target₀ - i
@@ -54,7 +54,7 @@ loop-again : tie.Need-loop-again Inv-loop μ-loop
 loop-again c =
     let l = c .before .before .before .before in
     let s = l .before .before .before in
-    written-more _ (l .loop .inv) (omega arith) (c .word .ensures ∙ sym (words-at (s .args .bytes .now) (l .loop .i) (omega (arith, s .pre))))
+    written-more _ (l .loop .inv) (omega arith) (c .word .ensures ∙ sym (words-at-two (s .args .bytes .now) (l .loop .i) (omega (arith, s .pre))))
 
 same-length : tie.Need-same-length Inv-loop μ-loop
 same-length c = c .before .loop .inv .size
@@ -63,7 +63,7 @@ returns : tie.Need-returns Inv-loop μ-loop
 returns c =
     let s = c .before .before .before .before in
     written-all (c .before .loop .inv) (omega arith)
-    ∙ list-of-front (length (s .args .target .now)) (words (s .args .bytes .now)) (omega (arith, s .pre, words-length (s .args .bytes .now) .1))
+    ∙ list-of-front (length (s .args .target .now)) (words 2 (s .args .bytes .now)) (omega (arith, s .pre, words-length 2 (s .args .bytes .now)))
 
 pub unpack-spec : {M : Type 1} → statement M
 unpack-spec =

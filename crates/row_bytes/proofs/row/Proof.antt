@@ -1,6 +1,7 @@
 -- `row_bytes::row` meets its contract: a refusal for the size or the lengths writes nothing, and else words are lent. Assumes nothing.
 use borrow.Author.Needs.{needs}
 use Rattle.residue.specs.Modulus.{modulus, modulus-prime}
+use Rattle.matching.specs.Edition.{first-edition}
 use Rattle.matching.specs.Session.{State, state}
 use Rattle.matching.specs.Model.{automatic}
 use Rattle.matching.specs.Calls.{unsound}
@@ -27,7 +28,7 @@ refused-requires : tie.Need-refused-requires
 refused-requires c κs =
     let at = c .before .before .before in
     let a = start at .args in
-    handles-small modulus-prime {s = unpacked-state (host at)} {c = automatic}
+    handles-small modulus-prime {s = unpacked-state first-edition (host at)} {c = automatic}
     (unsound _ (room-refused (a .n) (a .made) (a .adjacency .now) (a .weights .now) (a .inverse .now) (a .sequence .now) modulus (rw (c .before .lengths .given .1) at (at .judge-lengths .ensures)))) .place-below
 
 returns : tie.Need-returns

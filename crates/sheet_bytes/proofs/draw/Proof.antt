@@ -4,12 +4,12 @@ use Prim.Native.Nat.{ℕ}
 use native.Mathlib.Omega.{arith}
 use borrow.Author.Needs.{needs}
 use Rattle.lists.specs.Onto.{onto}
-use Rattle.draws.specs.Draws.{draws}
+use Rattle.draws.specs.Draws.{draw, draws}
 use Rattle.matching.specs.Decision.{Refusal}
 use Rattle.matching.specs.Graph.{pair-count}
 use Rattle.matching.specs.Host.{bytes-of, refusal-number}
 use Rattle.checks.specs.Weights.{needed-all, needed-small}
-use Rattle.laws.specs.Words.{words-half}
+use Rattle.laws.specs.Words.{words-length}
 use Rattle.sheet_bytes.specs.Drawn.{draws-too-many, draws-too-few, draws-enough}
 use Rattle.sheet_bytes.proofs.draw.Statement.{statement}
 use Rattle.sheet_bytes.proofs.draw.Tie as tie
@@ -42,7 +42,7 @@ returns-2 c =
     let count = made .before .before in
     let start = count .before .before .before in
     let small = count .before .if1 .left in
-    draws-too-few _ _ _ small (omega (arith, made .before .if2 .taken, words-half (start .args .weights .now), counted count))
+    draws-too-few _ _ _ small (omega (arith, made .before .if2 .taken, words-length 2 (start .args .weights .now), counted count))
     (c .refused2 .ensures ∙ ap refusal-number (made .because2 .ensures))
 
 draw-words-requires : tie.Need-draw-words-requires
@@ -62,8 +62,8 @@ returns-3 : tie.Need-returns-3
 returns-3 c =
     let count = c .before .before .before .before .before .before in
     let start = count .before .before .before in
-    draws-enough _ _ _ (count .before .if1 .left) (omega (arith, c .before .before .before .before .before .if2 .left, words-half (start .args .weights .now), counted count)) (c .carried .ensures ∙ omega (arith, counted count))
-    (c .before .before .before .draw-words .ensures ∙ ap (λ (k : ℕ). onto (bytes-of (draws (start .args .seed) k)) (start .args .weights .now)) (counted count))
+    draws-enough _ _ _ (count .before .if1 .left) (omega (arith, c .before .before .before .before .before .if2 .left, words-length 2 (start .args .weights .now), counted count)) (c .carried .ensures ∙ omega (arith, counted count))
+    (c .before .before .before .draw-words .ensures ∙ ap (λ (k : ℕ). onto (bytes-of 2 (draws draw (start .args .seed) k)) (start .args .weights .now)) (counted count))
 
 pub draw-spec : {M : Type 1} → statement M
 draw-spec =

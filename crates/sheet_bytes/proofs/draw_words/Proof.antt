@@ -7,7 +7,7 @@ use borrow.Author.Needs.{needs}
 use lib.ListN.{length, drop, replicate, length-append, length-drop, length-replicate}
 use Rattle.lists.specs.Part.{length-part, part-filled}
 use Rattle.lists.specs.Onto.{onto}
-use Rattle.draws.specs.Draws.{draws}
+use Rattle.draws.specs.Draws.{draw, draws}
 use Rattle.matching.specs.Host.{bytes-of}
 use Rattle.sheet_bytes.proofs.draw_words.Statement.{statement}
 use Rattle.sheet_bytes.proofs.draw_words.Tie as tie
@@ -46,10 +46,10 @@ returns c =
     let at = c .before .before .before .before .before .before in
     let start = at .before .before .before in
     c .before .before .store .ensures
-    ∙ ap (λ (l : List ℕ). onto (bytes-of l) (start .args .weights .now))
+    ∙ ap (λ (l : List ℕ). onto (bytes-of 2 l) (start .args .weights .now))
     (part-filled (start .args .count) (at .fill .last .0) (drop (start .args .count) (replicate 4560 0)) (filled at) .1
     ∙ at .fill .ensures
-    ∙ ap (λ (k : ℕ). draws (start .args .seed) k) (length-part (start .args .count) 4560 0 (start .pre .0)))
+    ∙ ap (λ (k : ℕ). draws draw (start .args .seed) k) (length-part (start .args .count) 4560 0 (start .pre .0)))
 
 pub draw-words-spec : {M : Type 1} → statement M
 draw-words-spec =

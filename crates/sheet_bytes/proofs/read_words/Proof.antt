@@ -5,7 +5,7 @@ use native.Mathlib.Omega.{arith}
 use borrow.Author.Needs.{needs}
 use lib.ListN.{length, length-replicate}
 use Rattle.lists.specs.Part.{length-part}
-use Rattle.laws.specs.Words.{words-half}
+use Rattle.laws.specs.Words.{words-length}
 use Rattle.sheet_bytes.proofs.read_words.Statement.{statement}
 use Rattle.sheet_bytes.proofs.read_words.Tie as tie
 
@@ -20,7 +20,7 @@ read-over-requires c κs =
     let then = c .before .before .before in
     let start = then .before .before .before .before in
     let size = length-part (length (start .args .weights .now) / 2) 4560 0 (omega (arith, then .if1 .taken)) in
-    let half = words-half (start .args .weights .now) in
+    let half = words-length 2 (start .args .weights .now) in
     record { few = start .pre; within = omega (arith, size, half); enough = λ k l h. omega (arith, size, half) }
 
 same-length : tie.Need-same-length
@@ -40,7 +40,7 @@ read-over-requires-2 c κs =
     let else = c .before .before .before in
     let start = else .before .before .before .before in
     let size = length-replicate {A = ℕ} 4560 0 in
-    let half = words-half (start .args .weights .now) in
+    let half = words-length 2 (start .args .weights .now) in
     record { few = start .pre; within = omega (arith, size, half, else .if1 .left); enough = λ k l h. omega (arith, size) }
 
 same-length-3 : tie.Need-same-length-3
