@@ -77,7 +77,7 @@ module _ {n : ℕ} {adjacency weights inverse sequence witness work : List ℕ} 
       omega arith
 
 -- the lines of a completed matching
-pub full-lines : {g : Graph} {made : ℕ} {sequence : List ℕ} → Nonsingular modulus-prime g everything [] → Completed g made sequence
+pub full-lines : {g : Graph} {made : ℕ} {sequence : List ℕ} → Nonsingular modulus-prime g everything [] → Completed g everything made sequence
     → Verdict g (pair-lines (pairs-on sequence made) ++ line-full)
 full-lines I C = rw (C .pairs-are) (full I (C .come))
 
