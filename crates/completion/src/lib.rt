@@ -6,7 +6,7 @@ ghost use Rattle.matching.specs.Session.{state};
 ghost use Rattle.calls.specs.Known.{Known, KnownFor};
 ghost use Rattle.completion.specs.Completed.{CompletedFrom};
 
-// Makes automatic picks until one is refused, and says how many were accepted. For proved callers.
+// Makes automatic picks until one is refused, and returns how many were accepted.
 pub fn complete(
     n: usize,
     adjacency: &[u8],
@@ -21,6 +21,7 @@ pub fn complete(
         → CompletedFrom (state n 0 (now (adjacency .entry)) weights (now (inverse .entry)) (now (sequence .entry))) made (now (sequence .exit))) ⌝ }
 {
     let mut made = 0;
+    // made picks were accepted so far; each matches two more vertices, so the loop ends.
     loop {
         let reply = calls::automatic(n, made, adjacency, inverse, sequence, marks);
         let answer = reply.answer;
