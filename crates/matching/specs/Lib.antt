@@ -15,7 +15,7 @@ pub mod Causes
 pub mod Listing
 pub mod Host
 pub mod HostRuns
--- Decisions that the definitions go by.
+-- Decisions that the definitions use.
 pub mod Decision
 pub mod Decided
 pub mod Computed
