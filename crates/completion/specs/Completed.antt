@@ -20,7 +20,7 @@ use Rattle.calls.specs.Meaning.{answer-of}
 use Rattle.calls.specs.Known.{Known, Called, few, words}
 use Rattle.calls.specs.declared.Reply.{Reply}
 
--- the vertices in play are a set S
+-- S is the set of vertices in play
 module _ (g : Graph) (S : Subset) where
   -- one more automatic pick is made last
   after-more : (k : ℕ) (pairs : Pairs)
@@ -30,12 +30,12 @@ module _ (g : Graph) (S : Subset) where
   after-more zero pairs = refl
   after-more (suc k) pairs = after-more k (step modulus-prime g S pairs automatic .pairs)
 
--- so many automatic picks were accepted, from no pairs on, and these are their pairs
+-- `made` automatic picks were accepted, from no pairs on, and these are their pairs
 pub record Picked (g : Graph) (S : Subset) (made : ℕ) (pairs : Pairs) : Type 0 where
   pub pairs-are : pairs ≡ pairs-after modulus-prime g S [] (replicate made automatic) made
   pub to-come : (m : ℕ) → PicksToCome modulus-prime g S pairs m → PicksToCome modulus-prime g S [] (made + m)
 
--- and then one was refused
+-- and then a pick was refused
 pub record Completed (g : Graph) (S : Subset) (made : ℕ) (sequence : List ℕ) : Type 0 where
   pub few : made + made ≤ g .n
   pub come : PicksToCome modulus-prime g S [] made
@@ -65,7 +65,7 @@ module _ {n made : ℕ} {adjacency weights inverse sequence marks : List ℕ} (K
       × (pairs-on sequence′ (r .made) ≡ step modulus-prime g S pairs automatic .pairs)
   model = handles-model modulus-prime (state n made adjacency weights inverse sequence) (K .sound) (λ x l. refl) (C .handled)
 
-  -- where it is accepted there is one pair more
+  -- if it is accepted, there is one pair more
   one-more : {e : Pair} → step modulus-prime g S pairs automatic .answer ≡ done e → r .made ≡ made + 1
   one-more {e} q = go (automatic-cases modulus-prime g S pairs (_, words K .is-inverse))
     where
@@ -89,7 +89,7 @@ module _ {n made : ℕ} {adjacency weights inverse sequence marks : List ℕ} (K
         },
       )
 
-  -- where it is refused nothing has changed
+  -- if it is refused, nothing has changed
   pub completes : {why : Refusal} → answer-of (r .answer) ≡ denied why → Picked g S made pairs → Completed g S made sequence′
   completes {why} q p =
       let same : sequence′ ≡ sequence = ap (λ t. t .sequence) (refused-keeps modulus-prime (C .handled) {r = why} q) in

@@ -15,7 +15,7 @@ unfoldable pub stateAfter : ℕ → ℕ → ℕ
 stateAfter seed zero = seed
 stateAfter seed (suc k) = next (stateAfter seed k)
 
--- the first k draws from the seed, in order; the first is that of the state after the seed, not of the seed
+-- the first k draws from the seed, in order; the first is the draw of the state after the seed, not of the seed
 unfoldable pub draws : ℕ → ℕ → List ℕ
 draws seed zero = []
 draws seed (suc k) = draw (next seed) ∷ draws (next seed) k

@@ -1,4 +1,4 @@
--- An edge that is marked in the table of those before it, or refused. Assumes nothing.
+-- An edge that is marked in the table of the edges before it, or refused. Assumes nothing.
 use mathlib.Core.Path.{_≡_, sym, _∙_}
 use mathlib.Core.Logic.{_≢_}
 use mathlib.Core.List.{List, _∷_}
@@ -16,7 +16,7 @@ pub record Taken (n a b : ℕ) (weights : List ℕ) (edges : List Pair) (table :
   pub takes : Takes (weighted n weights edges) (share a b) (weighted n weights (pair-of a b ∷ edges))
   pub marks : table ≡ cells n (pair-of a b ∷ edges)
 
--- for whatever edges the table has
+-- for any edges that the table may have
 abbrev pub Marked : (n a b : ℕ) → List ℕ → Mark → List ℕ → Type 0
 Marked n a b table Made table′ = (weights : List ℕ) (edges : List Pair) → table ≡ cells n edges → Taken n a b weights edges table′
 Marked n a b table (Refused cause) table′ =

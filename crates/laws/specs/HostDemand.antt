@@ -1,5 +1,5 @@
 -- Demand 3 through the host by single calls: what opening stores is sound when it is read back, and every call is given the words that the
--- last one left. Assumes nothing.
+-- one before left. Assumes nothing.
 use mathlib.Core.Path.{_≡_, refl, sym, ap, ap₂, _∙_}
 use mathlib.Core.Logic.{_≢_}
 use mathlib.Core.List.{List, [], _∷_, map}
@@ -43,7 +43,7 @@ module _ {p : ℕ} (P : OddPrime p) (narrow : p ≤ 2 ^ 16) where
       })
       (read-words table (s .inverse) B (omega arith) (λ x h. omega (arith, I .small x (omega arith))))
 
-  -- the inverse's words are as many after every call
+  -- the number of the inverse's words stays the same
   as-long : {s left : State} {c : Call} {a : Answer} → Handles P s c a left → length (left .inverse) ≡ length (s .inverse)
   as-long (unsound r e) = refl
   as-long (refuses r e k) = refl
@@ -64,7 +64,7 @@ module _ {p : ℕ} (P : OddPrime p) (narrow : p ≤ 2 ^ 16) where
       ap (λ i. record { session = s .session; adjacency = s .adjacency; weights = s .weights; inverse = i; sequence = s .sequence })
       (sym (own-words (s .inverse) B))
 
-  -- and over those that a call left
+  -- and over the bytes that a call left
   over-left : (a : Answer) (left s t : State) → length (t .inverse) ≡ length (left .inverse) → stored-over t (state-stored a left s) ≡ stored-over t s
   over-left (denied r) left s t q = refl
   over-left (done x) left s t q =
@@ -90,7 +90,7 @@ module _ {p : ℕ} (P : OddPrime p) (narrow : p ≤ 2 ^ 16) where
         go (denied _) f e = refl
         go (done x) f e = absurd (d (ap cause-in e ∙ answer-low-byte (done x) (H .left .session) f))
 
-    -- a call before others
+    -- one call before a list of calls
     one-more : {calls : List Call} {later : List HostReturned} (on-words : List Returned) → HostOnWords P (r .state) calls later on-words
         → HostOnWords P s (c ∷ calls) (r ∷ later) (record { answer = H .given; state = H .left } ∷ on-words)
     unfolding state-after host-after At
@@ -161,7 +161,7 @@ module _ {p : ℕ} (P : OddPrime p) (narrow : p ≤ 2 ^ 16) where
       let N = numbered-at rest k answer e in
       record { given = N .given; session = N .session; stands = N .stands; small = N .small; numbered = N .numbered }
 
-  -- where the states of the words are equal, as after a take-back and before its pick, so are those of the bytes
+  -- if the states of the words are equal, as after an undo and before its pick, so are those of the bytes
   host-restores : (g : Graph) (s : State) {calls : List Call} {returned : List HostReturned} {on-words : List Returned} → HostOnWords P s calls returned on-words
       → FollowsModel P g (in-play s) [] calls (unpacked-state s) on-words → HostRestores P g s calls returned
   host-restores g s {calls} {returned} {on-words} M F j answer u d z = go (N .given) (N .stands) (N .small) (N .numbered)
@@ -178,7 +178,7 @@ module _ {p : ℕ} (P : OddPrime p) (narrow : p ≤ 2 ^ 16) where
           (R .0, e, R .1, M .states-are (suc j) ∙ ap (λ t. stored-over t s) (R .2) ∙ sym (M .states-are (R .0)))
 
   module _ (n : ℕ) (adjacency weights : List ℕ) where
-    -- an opening of kind 1 is one with an inverse, which is read back
+    -- an opening of answer-kind 1 is one with an inverse, which is read back
     record Back (b buffers : Buffers) (o : Opening) : Type 0 where
       is : o ≡ opened (session n [])
       bytes : Bytes (stored-after o buffers b .inverse)
@@ -211,7 +211,7 @@ module _ {p : ℕ} (P : OddPrime p) (narrow : p ≤ 2 ^ 16) where
       opens-words : Opens p (over n adjacency (words weights)) (players n (unpacked b)) (unpacked b) (opened (session n [])) (H .buffers)
       opens-words = rw (h .is) at (H .outcome)
 
-      -- bytes that opening left with kind 1 are sound when they are read back
+      -- bytes that opening left with answer-kind 1 are sound when they are read back
       pub host-opened-sound : session-ruling p (unpacked-state (host-opened-state n adjacency weights answer after)) ≡ accepted
       host-opened-sound = rw read (opened-sound P (over n adjacency (words weights)) opens-words .0)
 
@@ -225,7 +225,7 @@ module _ {p : ℕ} (P : OddPrime p) (narrow : p ≤ 2 ^ 16) where
         (M .0, M .1, host-restores (over n adjacency (words weights)) (host-opened-state n adjacency weights answer after) (M .1) F′, F′)
 
 module _ {p : ℕ} (P : OddPrime p) where
-  -- every list of single calls has a run, and no other
+  -- every list of single calls has exactly one run
   pub host-runs-some : (s : State) (calls : List Call) → (returned : List HostReturned) × HostRuns P s calls returned
   host-runs-some s [] = ([], host-none)
   host-runs-some s (c ∷ calls) =

@@ -14,7 +14,7 @@ double i = omega arith
 double-one : (i : ℕ) → 2 * suc i + 1 ≡ suc (suc (2 * i + 1))
 double-one i = omega arith
 
--- how many words there are
+-- the number of words
 pub words-length : (l : List ℕ) → (2 * length (words l) ≤ length l) × (length l ≤ 2 * length (words l) + 1)
 unfolding words
 words-length [] = (omega arith, omega arith)
@@ -24,7 +24,7 @@ words-length (a ∷ b ∷ l) = let h = words-length l in (omega (arith, h .0), o
 pub words-half : (l : List ℕ) → length (words l) ≡ length l / 2
 words-half l = let h = words-length l in omega arith
 
--- a word
+-- the word at index i
 pub words-at : (l : List ℕ) (i : ℕ) → 2 * i + 1 < length l → getD (words l) i 0 ≡ getD l (2 * i) 0 + 256 * getD l (2 * i + 1) 0
 unfolding words
 words-at [] i h = absurd (omega arith)
@@ -32,7 +32,7 @@ words-at (a ∷ []) i h = absurd (omega arith)
 words-at (a ∷ b ∷ l) zero h = refl
 words-at (a ∷ b ∷ l) (suc i) h = rw (double-one i, double i) (words-at l i (omega arith))
 
--- the bytes of words, and how many there are
+-- the bytes of words, and their number
 pub bytes-length : (l : List ℕ) → length (bytes-of l) ≡ 2 * length l
 unfolding bytes-of
 bytes-length [] = refl
@@ -69,7 +69,7 @@ stored-words (w ∷ new) (a ∷ []) B h = absurd (omega arith)
 stored-words (w ∷ new) (a ∷ b ∷ l) B h =
     ap (λ r. w % 256 ∷ w / 256 % 256 ∷ r) (stored-words new l (λ x. B (suc (suc x))) (omega arith))
 
--- the words of a byte slice stored over it again, all of them or the first k
+-- the words of a byte slice, all of them or the first k, stored over it again leave it as it was
 pub own-words : (l : List ℕ) → Bytes l → onto (bytes-of (words l)) l ≡ l
 unfolding bytes-of
 own-words l B = stored-words [] l B (omega arith)
@@ -80,7 +80,7 @@ own-front k l B h =
     ∙ ap (λ w. onto (bytes-of w) l) (onto-front-same k (words l) h)
     ∙ own-words l B
 
--- and so where the words were written over others
+-- the first k words, new ones over others, are stored as if they stood over the slice's own words
 pub stored-front : (new old l : List ℕ) (k : ℕ) → Bytes l → length new ≡ k → k ≤ length (words l)
     → onto (bytes-of (take k (onto new old))) l ≡ onto (bytes-of (onto new (words l))) l
 stored-front new old l k B e h =
@@ -97,12 +97,12 @@ back (w ∷ new) (a ∷ c ∷ l) h b =
     let e : w % 256 + 256 * (w / 256 % 256) ≡ w = omega (arith, b 0 (omega arith)) in
     rw e (ap (λ r. w ∷ r) (back new l (omega arith) (λ x k. b (suc x) (omega arith))))
 
--- and so where they were written over the words of these bytes
+-- and so are words that were written over the words of these bytes
 pub read-words : (new l : List ℕ) → Bytes l → length new ≤ length (words l) → ((x : ℕ) → x < length new → getD new x 0 < 2 ^ 16)
     → words (onto (bytes-of (onto new (words l))) l) ≡ onto new (words l)
 read-words new l B h b = ap words (stored-words new l B h) ∙ back new l h b
 
--- what is stored are bytes
+-- what is stored is bytes
 pub stored-bytes : (new l : List ℕ) → Bytes l → length new ≤ length (words l) → Bytes (onto (bytes-of new) l)
 unfolding words bytes-of
 stored-bytes [] l B h x = B x

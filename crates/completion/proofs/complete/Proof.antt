@@ -1,5 +1,5 @@
--- `completion::complete` meets its contract. The invariant of its loop: so many automatic picks were accepted, and the session is known to be
--- sound. The measure is the number of vertices left. Assumes nothing.
+-- `completion::complete` meets its contract. The invariant of its loop: `made` automatic picks were accepted, and the session is known to
+-- be sound. The measure is the number of unmatched vertices. Assumes nothing.
 use mathlib.Core.Path.{_≡_, refl, ap, _∙_}
 use mathlib.Core.List.{List}
 use Prim.Native.Nat.{ℕ, _+_, _-_}
