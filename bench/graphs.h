@@ -49,7 +49,7 @@ struct Graph {
         return true;
     }
 
-    // The Tutte matrix, row by row.
+    // Returns the Tutte matrix, row by row.
     std::vector<uint16_t> tutte_matrix() const
     {
         std::vector<uint16_t> matrix(n * n);
@@ -73,7 +73,7 @@ inline Graph dense(size_t n)
     return graph;
 }
 
-// A matching of random vertices, with one left over for odd n, and random edges up to 2n in all.
+// Makes a matching of random vertices, with one left over for odd n, and random edges up to 2n in all.
 inline Graph sparse(size_t n)
 {
     Graph graph(n);

@@ -3,7 +3,7 @@
 //   opening peers            which libraries it is compared with
 //   opening times            a table of times, beside the reference and the peers
 //   opening once N dense     one call on a graph of N vertices that are all adjacent; 97 are refused
-//   opening once N sparse    the same with about four neighbours a vertex
+//   opening once N sparse    one call on a graph of N vertices with about four neighbours each
 //   opening once N short     the call of a dense graph with the last buffer short by a byte
 #include "graphs.h"
 #include "peer.h"
@@ -41,7 +41,7 @@ uint64_t open_by_reference(const Graph &graph, Buffers &buffers)
     return reference_open(graph.n, six);
 }
 
-// The processor time of one call, in microseconds.
+// Returns the processor time of one call, in microseconds.
 double time_of(const std::function<void()> &action)
 {
     timespec start, end;
@@ -81,7 +81,7 @@ void print_call(size_t n, const char *kind, uint64_t number)
     std::printf("%4zu  %-6s  %-8s", n, kind, answer_of(number));
 }
 
-// The answers are the same before any time is taken.
+// Checks that the answers are the same, before any time is taken.
 void compare(const Graph &graph, const char *kind, const std::vector<std::unique_ptr<Peer>> &peers)
 {
     const size_t n = graph.n;
@@ -99,7 +99,7 @@ void compare(const Graph &graph, const char *kind, const std::vector<std::unique
     }
 }
 
-// The median of the ratios of times of the same round.
+// Returns the median of the ratios of times of the same round.
 double median_ratio(const std::vector<double> &times, const std::vector<double> &others)
 {
     std::vector<double> ratios;
@@ -108,7 +108,7 @@ double median_ratio(const std::vector<double> &times, const std::vector<double> 
     return median(ratios);
 }
 
-// Medians over rounds that call each in turn.
+// Prints medians over rounds that call each in turn.
 void measure(const Graph &graph, const char *kind)
 {
     const size_t n = graph.n;
@@ -159,7 +159,7 @@ void print_peers()
     std::printf("%s\n", libraries().empty() ? " none" : "");
 }
 
-// One call; false where its cause is not the one to be expected.
+// Makes one call; returns false if its cause is not the expected one.
 bool call_once(size_t n, const std::string &kind)
 {
     const Graph graph = kind == "sparse" ? sparse(n) : dense(n);
@@ -189,7 +189,7 @@ int main(int argc, char **argv)
     if (argc == 4 && std::strcmp(argv[1], "once") == 0) {
         const size_t n = std::strtoul(argv[2], nullptr, 10);
         const std::string kind = argv[3];
-        // Fewer than five vertices have not 2n edges.
+        // Fewer than five vertices do not have 2n edges.
         if (n >= 5 && n <= SASZVIGOM_MAX_VERTICES + 1 && (kind == "dense" || kind == "sparse" || kind == "short"))
             return call_once(n, kind) ? 0 : 1;
     }

@@ -12,10 +12,10 @@ class Peer {
 public:
     virtual ~Peer() = default;
 
-    // Computes the inverse; false where there is none.
+    // Computes the inverse; returns false if there is none.
     virtual bool invert() = 0;
 
-    // An entry of the inverse.
+    // Returns an entry of the inverse.
     virtual uint16_t entry(size_t i, size_t j) const = 0;
 };
 

@@ -6,17 +6,17 @@
 // GRAPH is dense or sparse, as for opening. CALL is one of
 //
 //   open        opening
-//   refused     a hand pick of vertex 0 with itself, which is refused once the session is confirmed
-//   confirmed   the same on the session that undo is given
-//   short       a hand pick with a sequence that is short by a byte
-//   pick        the hand pick that an automatic pick would make
+//   refused     a pick of vertex 0 with itself, which is refused once the session is confirmed
+//   confirmed   that pick on the session that undo is given
+//   short       a pick with a sequence that is short by a byte
+//   pick        the pick that an automatic pick would make
 //   automatic   an automatic pick
-//   undo        a take-back of that pair
-//   row         the open row of vertex 0
-//   run         opening, and automatic picks by single calls until none is left
-//   replay      the same by one replay
+//   undo        an undo of that pair
+//   row         the row of vertex 0
+//   run         opening, and automatic picks by single calls until all vertices are matched
+//   replay      opening, and these picks by one replay
 //
-// Before it the session is opened, and for undo and confirmed a pair is made, outside `measured`.
+// Before the call the session is opened, and for undo, confirmed and short a pair is made, outside `measured`.
 #include "graphs.h"
 
 #include <cstdio>
@@ -92,7 +92,7 @@ struct Session {
     std::exit(1);
 }
 
-// The answer must be of this kind, or refused with this cause.
+// Checks that the answer is of this kind, or refused with this cause.
 void expect(uint64_t number, unsigned kind, unsigned cause)
 {
     if (saszvigom_kind_of(number) != kind || saszvigom_cause_of(number) != cause)
@@ -108,7 +108,7 @@ double microseconds()
 
 } // namespace
 
-// What is counted.
+// Makes the call whose instructions are counted.
 extern "C" __attribute__((noinline)) void measured(Session &session, const std::string &call, uint64_t a, uint64_t b)
 {
     const size_t pairs = session.graph.n / 2;

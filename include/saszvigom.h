@@ -3,45 +3,46 @@
  * that match the vertices pair by pair.
  *
  * A graph has n vertices, numbered 0 to n - 1, with n at most 96, and a weight
- * from 1 to 65520 for every two vertices, adjacent or not. Its Tutte matrix A is
- * n times n, modulo 65521, with rows and columns numbered from 0: where i < j
- * are adjacent with weight d,
+ * from 1 to 65520 for every two vertices, adjacent or not. Its Tutte matrix A
+ * is n times n, modulo 65521, with rows and columns numbered from 0. If i < j
+ * are adjacent with weight d, then
  *
  *     A(i,j) = d  and  A(j,i) = 65521 - d,
  *
  * and every other entry is 0. If A has an inverse, as it always has for n = 0,
  * the vertices can be matched in pairs of adjacent vertices, with none left
- * over: a perfect matching. If it has none, A is singular, and there is a vector
- * w other than 0 with A w = 0, the witness. For odd n it always is, and there is
- * no perfect matching. For even n a witness decides nothing: there may be a
- * perfect matching all the same, for the weights may cancel.
+ * over: a perfect matching. If it has none, A is singular, and there is a
+ * vector w other than 0 with A w = 0, the witness. For odd n, A is always
+ * singular, and there is no perfect matching. For even n a witness decides
+ * nothing: there may still be a perfect matching, since the weights may cancel.
  *
- * A weight is the value put for a variable of that matrix: it is no preference,
- * and finds no matching of largest or smallest weight. Weights are to be drawn
- * uniformly and independently, and not made up: equal or hand-picked ones
- * mislead. Four vertices with the edges 01, 02, 13, 23 and all weights 1 are
- * singular, though 0 with 1 and 2 with 3 is a perfect matching. saszvigom_draws
- * gives the weights of a seed; where a graph opens as singular, those of another
- * seed may open it.
+ * A weight is the value of a variable of that matrix. It is not a preference:
+ * the library does not look for a matching of largest or smallest weight. Draw
+ * weights uniformly and independently, and do not make them up: equal or
+ * hand-picked weights mislead. Four vertices with the edges 01, 02, 13, 23 and
+ * all weights 1 are singular, though 0 with 1 and 2 with 3 is a perfect
+ * matching. saszvigom_draws gives the weights of a seed; if a graph opens as
+ * singular, those of another seed may open it.
  *
- * The inverse shows what can be matched: of two adjacent vertices, both still
- * unmatched, a pick is accepted if their entry of it is not 0, and refused with
- * SASZVIGOM_REST_SINGULAR if it is 0. saszvigom_row looks this up for all
- * partners of a vertex. What is accepted is certain. A refusal with
- * SASZVIGOM_REST_SINGULAR is about these weights, as a singular graph is: the
- * vertices left may have a perfect matching all the same.
+ * The inverse shows what can be matched: a pick of two adjacent vertices, both
+ * still unmatched, is accepted if their entry of the inverse is not 0, and
+ * refused with SASZVIGOM_REST_SINGULAR if it is 0. saszvigom_row looks this up
+ * for all partners of a vertex. An accepted pick is certain: the vertices left
+ * unmatched have a perfect matching. A refusal with SASZVIGOM_REST_SINGULAR is
+ * about these weights, as a singular graph is: they may still have one.
  *
  * saszvigom_read reads a graph from the bytes of a sheet, and saszvigom_draws
  * draws weights. saszvigom_open finds the inverse or a witness. With an inverse
- * it begins a session, in which vertices are matched: saszvigom_pick matches two
- * vertices, saszvigom_automatic the lowest one that is left, saszvigom_undo
- * undoes the last of these, saszvigom_row says who may be matched with a vertex,
- * and saszvigom_replay makes a whole list of calls. A match is accepted only if
- * the vertices that it leaves have an inverse too, so a session never runs into
- * a dead end: automatic picks match every vertex that is left.
+ * it begins a session, in which vertices are matched: saszvigom_pick matches
+ * two vertices, saszvigom_automatic matches the lowest unmatched vertex,
+ * saszvigom_undo removes the last pair, saszvigom_row finds the vertices that
+ * may be matched with a vertex, and saszvigom_replay makes a whole list of
+ * calls. A pick is accepted only if the vertices that it leaves unmatched have
+ * an inverse too, so a session never reaches a dead end: automatic picks match
+ * every vertex.
  *
- * To begin with, take saszvigom_graph.h: a struct with all buffers, and every
- * call over it. saszvigom_text.h says an answer in words. The guide is HOST.md in
+ * To begin, use saszvigom_graph.h: a struct with all buffers, and every call
+ * over it. saszvigom_text.h puts an answer into words. The guide is HOST.md in
  * share/doc/saszvigom.
  *
  * For C99 or C++11 and later. Link with libsaszvigom.a, which is for 64-bit x86 and
@@ -60,20 +61,20 @@
 extern "C" {
 #endif
 
-/* The version of this header. A program that is in order may have to be changed
-   where the minor number changes, as CHANGES.md says, and not where the patch
-   number does. */
+/* The version of this header. You may have to change a correct program when the
+   minor number changes, as CHANGES.md says, but not when the patch number
+   does. */
 #define SASZVIGOM_VERSION_MAJOR 0
 #define SASZVIGOM_VERSION_MINOR 5
 #define SASZVIGOM_VERSION_PATCH 0
 #define SASZVIGOM_VERSION "0.5.0"
 
-/* The same as a number, for #if too: the patch number in bits 0 to 7, the minor
-   one in 8 to 15 and the major one in 16 to 23. */
+/* The version as a number, also for #if: the patch number in bits 0 to 7, the
+   minor one in 8 to 15 and the major one in 16 to 23. */
 #define SASZVIGOM_VERSION_NUMBER \
     (SASZVIGOM_VERSION_MAJOR * 65536u + SASZVIGOM_VERSION_MINOR * 256u + SASZVIGOM_VERSION_PATCH)
 
-/* The version of the library that is linked, as such a number. It is
+/* Returns the version of the linked library as such a number. It is
    SASZVIGOM_VERSION_NUMBER unless header and library do not belong together. */
 uint64_t saszvigom_version(void);
 
@@ -85,7 +86,7 @@ uint64_t saszvigom_version(void);
 #define SASZVIGOM_ENUM_TYPE
 #endif
 
-/* No buffer may be null: compilers warn where one is sure to be, and
+/* No buffer may be null: compilers warn if one certainly is, and
    -fsanitize=undefined reports a call with one. */
 #if defined(__GNUC__)
 #define SASZVIGOM_NOT_NULL __attribute__((nonnull))
@@ -103,7 +104,7 @@ uint64_t saszvigom_version(void);
 /* A byte of the sequence of matched pairs that holds no vertex. */
 #define SASZVIGOM_UNUSED 255u
 
-/* How many bytes a buffer needs for n vertices, n at most 96. A buffer may be
+/* The bytes that a buffer needs for n vertices, n at most 96. A buffer may be
    longer. The argument may be evaluated twice. */
 #define SASZVIGOM_ADJACENCY_BYTES(n) ((size_t)(n) * (size_t)(n))
 #define SASZVIGOM_WEIGHTS_BYTES(n) ((size_t)(n) * ((size_t)(n) - 1u))
@@ -113,19 +114,19 @@ uint64_t saszvigom_version(void);
 #define SASZVIGOM_WORK_BYTES(n) (2u * (size_t)(n) * (size_t)(n))
 #define SASZVIGOM_ROW_BYTES(n) ((size_t)(n))
 
-/* The most bytes of a sheet that saszvigom_read looks at, and those of the
+/* The most bytes of a sheet that saszvigom_read looks at, and the bytes of the
    largest sheet that is in order: 96 vertices, all adjacent. */
 #define SASZVIGOM_SHEET_BYTES_MAX 16384u
 #define SASZVIGOM_GOOD_SHEET_BYTES_MAX 13688u
 
-/* How many numbers a call has in the list of saszvigom_replay. */
+/* The numbers of a call in the list of saszvigom_replay. */
 #define SASZVIGOM_NUMBERS_A_CALL 3u
 
-/* Why a call was refused: bits 0 to 7 of the number returned. No number is 0, so
-   test saszvigom_cause_of(number) and never the number. The place, in bits 16 to
-   31, says where. 12 and 13 have two names each: one for the list of
+/* Why a call was refused: bits 0 to 7 of the number returned. No number is 0,
+   so test saszvigom_cause_of(number) and never the number. The place, in bits
+   16 to 31, says where. 12 and 13 have two names each: one for the list of
    saszvigom_replay and one for the sheet of saszvigom_read, the only calls that
-   return them. A switch takes one of the two. */
+   return them. Use one of the two in a switch. */
 enum saszvigom_cause SASZVIGOM_ENUM_TYPE {
     /* The call was carried out. */
     SASZVIGOM_NO_CAUSE = 0,
@@ -137,27 +138,27 @@ enum saszvigom_cause SASZVIGOM_ENUM_TYPE {
     SASZVIGOM_BUFFER_TOO_SHORT = 2,
     /* The adjacency byte of row i and column j is not 0 or 1, or is not 0 though
        i = j, or differs from that of row j and column i. The place is i * n + j
-       for the first such byte, row by row. Where two bytes differ both are at
-       fault, so j is never below i. This place is to change: ask
+       for the first such byte, row by row. If two bytes differ, both are at
+       fault, so j is never below i. This place is to change: use
        saszvigom_fault_row and saszvigom_fault_column of saszvigom_text.h. */
     SASZVIGOM_ADJACENCY_FAULT = 3,
     /* A weight is 0 or above 65520, of adjacent vertices or of others. The place
        is the index of the first such weight: 0 for the first word, 1 for the
        second. */
     SASZVIGOM_WEIGHT_OUT_OF_RANGE = 4,
-    /* The pairs made are more than n / 2, or the sequence does not hold so many
-       pairs and SASZVIGOM_UNUSED after them: a pair has its larger vertex first,
+    /* There are more than n / 2 pairs made, or the sequence does not hold the
+       pairs made and then SASZVIGOM_UNUSED: a pair has its larger vertex first,
        a vertex is n or more or is there twice, or two are not adjacent. The
-       place is 0, as it is for the causes 6 to 11. */
+       place is 0, as it is for causes 6 to 11. */
     SASZVIGOM_SESSION_MALFORMED = 5,
     /* A word of the inverse is not the one that belongs there, or the unmatched
        vertices have no inverse: the graph is singular, was changed, or was not
        opened. In buffers that no opening has written, lower causes may come
-       first, as 5 where the sequence is not all SASZVIGOM_UNUSED. */
+       first, such as 5 if the sequence is not all SASZVIGOM_UNUSED. */
     SASZVIGOM_INVERSE_WRONG = 6,
     /* A vertex is n or more, or both vertices of a pick are the same. */
     SASZVIGOM_VERTEX_INVALID = 7,
-    /* A vertex is matched already. */
+    /* A vertex is already matched. */
     SASZVIGOM_VERTEX_MATCHED = 8,
     /* The two vertices are not adjacent. */
     SASZVIGOM_NOT_ADJACENT = 9,
@@ -170,12 +171,12 @@ enum saszvigom_cause SASZVIGOM_ENUM_TYPE {
        The place is the index of the first such call, 0 for the first call of the
        list; 65535 if it is larger. */
     SASZVIGOM_CALL_UNKNOWN = 12,
-    /* A byte of a sheet is no kind of record that may stand there, or it stands
-       after the end record. The place is its offset, 0 for the first byte of the
-       sheet. */
+    /* A byte of a sheet is not the kind of a record that may stand there, or it
+       stands after the end record. The place is its offset, 0 for the first
+       byte of the sheet. */
     SASZVIGOM_RECORD_NOT_DUE = 12,
-    /* A list ends within a call: its length is no multiple of 3. The place is
-       the number of its whole calls; 65535 if it is larger. */
+    /* A list ends within a call: its length is not a multiple of 3. The place
+       is the number of its whole calls; 65535 if it is larger. */
     SASZVIGOM_LIST_CUT = 13,
     /* A sheet ends within a record, or before its end record. The place is its
        length. */
@@ -245,7 +246,7 @@ enum saszvigom_call SASZVIGOM_ENUM_TYPE {
  * nothing to close.
  *
  *   n          the number of vertices, 0 to 96
- *   adjacency  read; n * n bytes, row by row: 1 where two vertices are adjacent,
+ *   adjacency  read; n * n bytes, row by row: 1 if two vertices are adjacent,
  *              else 0
  *   weights    read; n * (n - 1) / 2 words, for the vertices (0,1), (0,2) ..
  *              (0,n-1), (1,2) and so on, each from 1 to 65520
@@ -255,8 +256,8 @@ enum saszvigom_call SASZVIGOM_ENUM_TYPE {
  *   witness    written; n words
  *   work       written; n * n words, all 0: room to work in, left clear
  *
- * Each buffer is followed by its length in bytes, all of which must be there to
- * read, and to write where the buffer is written. A buffer of words holds half
+ * Each buffer is followed by its length in bytes, all of which must be
+ * readable, and writable if the buffer is written. A buffer of words holds half
  * as many words as bytes, rounded down. Buffers need no alignment, and those
  * written may hold anything before the call. No two of the six may overlap, and
  * none may be null, not even with length 0, as data() of an empty std::vector
@@ -271,7 +272,7 @@ enum saszvigom_call SASZVIGOM_ENUM_TYPE {
  *       it is all 0. witness holds the one vector w with A w = 0, w(f) = 1 and
  *       zeros after f. The words of inverse and work are 0.
  *   The call is refused: a cause from 1 to 4 and a place. Nothing is written.
- *       Where several causes apply, the lowest is returned.
+ *       If several causes apply, the lowest is returned.
  *
  * What stands past the bytes needed for n vertices, an odd last byte included,
  * makes no difference and is not written.
@@ -296,24 +297,25 @@ uint64_t saszvigom_open(uint64_t n,
  * Reads a graph from the bytes of a sheet. The weights are the draws of the
  * sheet's seed.
  *
- *   sheet      read; records one after the other, each a byte of enum
+ *   sheet      read; records one after another, each a byte of enum
  *              saszvigom_record and its body: the size, the seed, any number of
  *              edges, the end, and nothing after it
  *   adjacency  written; n * n bytes, as for saszvigom_open
  *   weights    written; n * (n - 1) / 2 words, as for saszvigom_open
  *
  * The size n is that of the sheet. Buffers for any sheet have
- * SASZVIGOM_ADJACENCY_BYTES(96) and SASZVIGOM_WEIGHTS_BYTES(96) bytes. Of the
- * sheet the first SASZVIGOM_SHEET_BYTES_MAX bytes are looked at, which makes no
- * difference: a sheet of more than SASZVIGOM_GOOD_SHEET_BYTES_MAX has a fault
- * before that. What is said of lengths, alignment, overlap, null and the bytes
- * past those needed is as for saszvigom_open, for all three buffers.
+ * SASZVIGOM_ADJACENCY_BYTES(96) and SASZVIGOM_WEIGHTS_BYTES(96) bytes. The call
+ * looks only at the first SASZVIGOM_SHEET_BYTES_MAX bytes of the sheet, which
+ * makes no difference: a sheet of more than SASZVIGOM_GOOD_SHEET_BYTES_MAX
+ * bytes has a fault before that. Lengths, alignment, overlap, null and the
+ * bytes past those needed are as for saszvigom_open, for all three buffers.
  *
  * The number returned, and what is written:
  *
- *   The sheet is in order and the buffers are long enough: kind SASZVIGOM_SHEET,
- *       with the number of edges and n. Every byte of the table is 0 or 1, and
- *       every weight is from 1 to 65520: opening refuses none of it.
+ *   The sheet is in order and the buffers are long enough: kind
+ *       SASZVIGOM_SHEET, with the number of edges and n. Every byte of the
+ *       table is 0 or 1, and every weight is from 1 to 65520: opening does not
+ *       refuse this graph.
  *   Else the call is refused, and nothing is written. The records are taken in
  *       order, and the first one that is at fault counts, with the first of
  *       these that applies: SASZVIGOM_RECORD_NOT_DUE, SASZVIGOM_SHEET_CUT,
@@ -341,14 +343,13 @@ uint64_t saszvigom_read(const uint8_t *sheet, size_t sheet_len,
  *   seed       any number
  *   weights    written; n * (n - 1) / 2 words, each from 1 to 65520
  *
- * These are the draws of document 01, the paper that the library is built to, and
- * are given by its formula: one after the other, s becomes
- * 1664525 * s + 1013904223 modulo 2^32, beginning with the seed, and the weight is
- * 1 + s / 65536 % 65520. They are no secret, and nothing is claimed about how
- * uniform or independent they are. A graph with an even number of vertices that
- * opens as singular may have a perfect matching all the same: draw again with a
- * few other seeds. What is said of lengths, alignment, null and the bytes past
- * those needed is as for saszvigom_open.
+ * These are the draws of document 01, the paper that the library is built to.
+ * For each weight in turn, s becomes 1664525 * s + 1013904223 modulo 2^32,
+ * beginning with the seed, and the weight is 1 + s / 65536 % 65520. They are
+ * not secret, and nothing is claimed about how uniform or independent they are.
+ * A graph with an even number of vertices that opens as singular may still have
+ * a perfect matching: draw again with a few other seeds. Lengths, alignment,
+ * null and the bytes past those needed are as for saszvigom_open.
  *
  * Kind SASZVIGOM_DRAWS with the number of weights; else refused, with nothing
  * written: SASZVIGOM_SIZE_TOO_LARGE, or else SASZVIGOM_BUFFER_TOO_SHORT at
@@ -374,14 +375,14 @@ uint64_t saszvigom_draws(uint64_t n, uint32_t seed, uint8_t *weights, size_t wei
  *              were matched, of each pair the smaller first, and then
  *              SASZVIGOM_UNUSED
  *
- * It is sound if all this holds, which every session call confirms before it
- * changes anything: no call trusts what it is lent. An opened graph is sound
- * with made = 0, and a call leaves a sound session sound. The library keeps
- * nothing, so a session may be copied, stored, and gone on with in another
- * process; of the number returned keep the pairs made.
+ * A session is sound if all this holds, which every session call confirms
+ * before it changes anything: no call trusts what it is lent. An opened graph
+ * is sound with made = 0, and a call leaves a sound session sound. The library
+ * keeps nothing, so you may copy or store a session and continue it in another
+ * process; keep the pairs made of the number returned.
  *
- * The lengths, and what is said of alignment, overlap, null and the bytes past
- * those needed, are as for saszvigom_open, for all buffers of a call.
+ * Lengths, alignment, overlap, null and the bytes past those needed are as for
+ * saszvigom_open, for all buffers of a call.
  *
  * The numbers of the session calls, by their bits; all others are 0:
  *
@@ -392,11 +393,11 @@ uint64_t saszvigom_draws(uint64_t n, uint32_t seed, uint8_t *weights, size_t wei
  *     replay             0        5         0          0          made
  *     refused            cause    0         place, 16 to 31       0
  *
- * Here made is the number of pairs after the call, which is the made of the next
- * call: read these 8 bits and no more, by saszvigom_made_of. A refused call
- * writes nothing, and its session is the one that was sent: the next call is sent
- * the same made again, which is not in the number. Where several causes apply, the
- * lowest is returned.
+ * Here made is the number of pairs after the call, which is the made of the
+ * next call: read these 8 bits and no more, by saszvigom_made_of. A refused
+ * call writes nothing, and its session is the one that was sent: send the same
+ * made again, which is not in the number. If several causes apply, the lowest
+ * is returned.
  */
 
 /*
@@ -411,7 +412,7 @@ uint64_t saszvigom_draws(uint64_t n, uint32_t seed, uint8_t *weights, size_t wei
  *
  * Kind SASZVIGOM_PAIR with the pair, unless a cause from 1 to 10 applies. Two
  * adjacent unmatched vertices are refused with SASZVIGOM_REST_SINGULAR if the
- * vertices left after them have no inverse.
+ * vertices then unmatched have no inverse.
  */
 SASZVIGOM_NOT_NULL
 uint64_t saszvigom_pick(uint64_t n, uint64_t made, uint64_t a, uint64_t b,
@@ -442,9 +443,8 @@ uint64_t saszvigom_automatic(uint64_t n, uint64_t made,
  *
  * The arguments are those of saszvigom_pick. Kind SASZVIGOM_PAIR with the pair
  * removed, unless a cause from 1 to 6 applies, or SASZVIGOM_NOTHING_LEFT: there
- * is no pair. SASZVIGOM_REST_SINGULAR is possible only for a session that was
- * put together by other means than saszvigom_open and these calls, or whose
- * graph was changed since.
+ * is no pair. SASZVIGOM_REST_SINGULAR is possible only if the session was not
+ * made by saszvigom_open and these calls, or if the graph was changed since.
  */
 SASZVIGOM_NOT_NULL
 uint64_t saszvigom_undo(uint64_t n, uint64_t made,
@@ -478,7 +478,7 @@ uint64_t saszvigom_row(uint64_t n, uint64_t made, uint64_t a,
 /*
  * Makes a list of calls, each on the session that the one before it left, as
  * saszvigom_pick, saszvigom_automatic and saszvigom_undo would one by one; but
- * the session is confirmed only once, so that a long list takes far less time.
+ * it confirms the session only once, so that a long list takes far less time.
  *
  *   n, made    the session's size and number of pairs made
  *   adjacency, weights
@@ -486,8 +486,9 @@ uint64_t saszvigom_row(uint64_t n, uint64_t made, uint64_t a,
  *   inverse, sequence
  *              read, and written as by the calls; not written if no call of the
  *              list is accepted
- *   calls      read; three numbers a call: its kind, one of enum saszvigom_call,
- *              and two vertices, which are ignored but for SASZVIGOM_CALL_PICK
+ *   calls      read; three numbers a call: its kind, one of enum
+ *              saszvigom_call, and two vertices, which only SASZVIGOM_CALL_PICK
+ *              uses
  *   answers    written; a number a call: the one that the call returns. What
  *              stands past these numbers is not written
  *
@@ -497,19 +498,20 @@ uint64_t saszvigom_row(uint64_t n, uint64_t made, uint64_t a,
  * Kind SASZVIGOM_REPLAYED, with the pairs made at the end, unless one of these
  * causes applies, of which the lowest is returned:
  *
- *   1 to 6     as for saszvigom_pick: the session sent is not sound. Of the buffers
- *              of SASZVIGOM_BUFFER_TOO_SHORT the last is SASZVIGOM_BUFFER_ANSWERS,
- *              if answers has less room than there are whole calls
+ *   1 to 6     as for saszvigom_pick: the session sent is not sound. The last
+ *              buffer that SASZVIGOM_BUFFER_TOO_SHORT can name is
+ *              SASZVIGOM_BUFFER_ANSWERS, if answers has less room than there
+ *              are whole calls
  *   SASZVIGOM_CALL_UNKNOWN
- *              a whole call of the list is of another kind
+ *              a whole call of the list is of an unknown kind
  *   SASZVIGOM_LIST_CUT
  *              the list ends within a call
  *
- * Then no call is made and nothing is written, answers included. Else every call
- * is made and answered, also after one that is refused. An empty list only tells
- * whether a session is sound. It writes nothing, nor does a list whose calls are
- * all refused, but for its answers: the session may be in memory that is only
- * read.
+ * Then no call is made and nothing is written, answers included. Otherwise
+ * every call is made and answered, even after one that is refused. An empty
+ * list only tells whether a session is sound. It writes nothing, and a list
+ * whose calls are all refused writes only its answers: the session may be in
+ * read-only memory.
  */
 SASZVIGOM_NOT_NULL
 uint64_t saszvigom_replay(uint64_t n, uint64_t made,
@@ -520,76 +522,78 @@ uint64_t saszvigom_replay(uint64_t n, uint64_t made,
                           const uint64_t *calls, size_t calls_len,
                           uint64_t *answers, size_t answers_len);
 
-/* Why the call was refused, and SASZVIGOM_NO_CAUSE exactly if it was carried out.
-   A cause that no enumerator has, as a later version may return, is a refusal. */
+/* Returns why the call was refused, and SASZVIGOM_NO_CAUSE exactly if it was
+   carried out. A cause that no enumerator has, which a later version may
+   return, is a refusal. */
 static inline enum saszvigom_cause saszvigom_cause_of(uint64_t number)
 {
     return (enum saszvigom_cause)(number & 0xFFu);
 }
 
-/* What the call found. */
+/* Returns what the call found. */
 static inline enum saszvigom_kind saszvigom_kind_of(uint64_t number)
 {
     return (enum saszvigom_kind)(number >> 8 & 0xFFu);
 }
 
-/* The place of the cause. It means nothing where the call was not refused. */
+/* Returns the place of the cause. It means nothing if the call was not
+   refused. */
 static inline unsigned saszvigom_place_of(uint64_t number)
 {
     return (unsigned)(number >> 16 & 0xFFFFu);
 }
 
-/* The first buffer that is too short: the place as an enum. It means nothing for
-   a cause other than SASZVIGOM_BUFFER_TOO_SHORT. */
+/* Returns the first buffer that is too short: the place as an enum. It means
+   nothing for a cause other than SASZVIGOM_BUFFER_TOO_SHORT. */
 static inline enum saszvigom_buffer saszvigom_buffer_of(uint64_t number)
 {
     return (enum saszvigom_buffer)(number >> 16 & 0xFFFFu);
 }
 
-/* The first dependent column f. It means nothing for a kind other than
+/* Returns the first dependent column f. It means nothing for a kind other than
    SASZVIGOM_SINGULAR. */
 static inline unsigned saszvigom_column_of(uint64_t number)
 {
     return (unsigned)(number >> 16 & 0xFFu);
 }
 
-/* The smaller vertex of the pair. It means nothing for a kind other than
-   SASZVIGOM_PAIR. */
+/* Returns the smaller vertex of the pair. It means nothing for a kind other
+   than SASZVIGOM_PAIR. */
 static inline unsigned saszvigom_smaller_of(uint64_t number)
 {
     return (unsigned)(number >> 16 & 0xFFu);
 }
 
-/* The larger vertex of the pair. It means nothing for a kind other than
+/* Returns the larger vertex of the pair. It means nothing for a kind other than
    SASZVIGOM_PAIR. */
 static inline unsigned saszvigom_larger_of(uint64_t number)
 {
     return (unsigned)(number >> 24 & 0xFFu);
 }
 
-/* The pairs made after the call, for the kinds SASZVIGOM_OPENED, SASZVIGOM_PAIR,
-   SASZVIGOM_ROW and SASZVIGOM_REPLAYED. Where the call was refused the pairs made
-   are those that were sent. */
+/* Returns the pairs made after the call, for the kinds SASZVIGOM_OPENED,
+   SASZVIGOM_PAIR, SASZVIGOM_ROW and SASZVIGOM_REPLAYED. If the call was
+   refused, the pairs made are those that were sent. */
 static inline unsigned saszvigom_made_of(uint64_t number)
 {
     return (unsigned)(number >> 32 & 0xFFu);
 }
 
-/* The number of edges of a sheet. It means nothing for a kind other than
-   SASZVIGOM_SHEET. */
+/* Returns the number of edges of a sheet. It means nothing for a kind other
+   than SASZVIGOM_SHEET. */
 static inline unsigned saszvigom_edges_of(uint64_t number)
 {
     return (unsigned)(number >> 16 & 0xFFFFu);
 }
 
-/* The number of vertices of a sheet. It means nothing for a kind other than
-   SASZVIGOM_SHEET. */
+/* Returns the number of vertices of a sheet. It means nothing for a kind other
+   than SASZVIGOM_SHEET. */
 static inline unsigned saszvigom_size_of(uint64_t number)
 {
     return (unsigned)(number >> 32 & 0xFFu);
 }
 
-/* How many weights were drawn. It means nothing for a kind other than
+/* Returns how many weights were drawn. It means nothing for a kind other than
    SASZVIGOM_DRAWS. */
 static inline unsigned saszvigom_drawn_of(uint64_t number)
 {
@@ -599,9 +603,9 @@ static inline unsigned saszvigom_drawn_of(uint64_t number)
 /* An index that no buffer of words has. */
 #define SASZVIGOM_NO_INDEX SIZE_MAX
 
-/* The index of the weight of vertices i and j of n, in either order.
-   SASZVIGOM_NO_INDEX if n is above 96, a vertex is n or more, or i = j: the two
-   functions below do no harm with it, but a subscript does. */
+/* Returns the index of the weight of vertices i and j of n, in either order, or
+   SASZVIGOM_NO_INDEX if n is above 96, a vertex is n or more, or i = j. The two
+   functions below do no harm with that index, but a subscript does. */
 static inline size_t saszvigom_weight_index(uint64_t n, uint64_t i, uint64_t j)
 {
     const uint64_t smaller = i < j ? i : j, larger = i < j ? j : i;
@@ -610,8 +614,9 @@ static inline size_t saszvigom_weight_index(uint64_t n, uint64_t i, uint64_t j)
     return (size_t)(smaller * n - smaller * (smaller + 1u) / 2u + (larger - smaller - 1u));
 }
 
-/* The word at an index of a buffer of words; 0 for an index of 9216 or more, more
-   than any buffer has. Else the word must be there. */
+/* Returns the word at an index of a buffer of words, or 0 for an index of 9216
+   or more, which is more than any buffer has. Otherwise the word must be
+   there. */
 static inline uint16_t saszvigom_word(const uint8_t *words, size_t index)
 {
     if (index >= SASZVIGOM_MAX_VERTICES * SASZVIGOM_MAX_VERTICES)
@@ -619,9 +624,10 @@ static inline uint16_t saszvigom_word(const uint8_t *words, size_t index)
     return (uint16_t)(words[2u * index] | words[2u * index + 1u] << 8);
 }
 
-/* Stores a word, 0 to 65520, at an index of a buffer of words. False, with
-   nothing written, if it is 65521 or more, which a negative number becomes, or if
-   the index is 9216 or more. 0 is a word but no weight: opening refuses it. */
+/* Stores a word, 0 to 65520, at an index of a buffer of words. Returns false
+   and writes nothing if the word is 65521 or more, which a negative number
+   becomes, or if the index is 9216 or more. 0 is a word but not a weight:
+   opening refuses it. */
 static inline bool saszvigom_store_word(uint8_t *words, size_t index, uint64_t word)
 {
     if (word >= SASZVIGOM_MODULUS || index >= SASZVIGOM_MAX_VERTICES * SASZVIGOM_MAX_VERTICES)

@@ -14,9 +14,9 @@
  *             continue; (until all are matched)
  *     }
  *
- * Each call passes the struct's buffers with their lengths, keeps n and the pairs
- * made, and returns the number of the entry that it calls, unchanged.
- * saszvigom_graph_explain says it in words.
+ * Each call passes the struct's buffers with their lengths, keeps n and the
+ * pairs made, and returns the number of the entry that it calls, unchanged.
+ * saszvigom_graph_explain puts it into words.
  *
  * These mistakes do no harm: a vertex that is not there or is given twice, a
  * weight out of range, more than 96 vertices, a session call before opening or
@@ -25,7 +25,7 @@
  * saszvigom_graph_init or from a copy, and lists that overlap each other or the
  * graph.
  *
- * The functions are of this header only; they call libsaszvigom.a and memset and
+ * All functions are in this header; they call libsaszvigom.a and memset and
  * allocate nothing. For C99 or C++11 and later.
  */
 #ifndef SASZVIGOM_GRAPH_H
@@ -40,19 +40,19 @@
 extern "C" {
 #endif
 
-/* A graph of up to 96 vertices. It is large, about 55 KB: make it static or
-   allocate it where the stack is small. It has no pointers, and may be copied and
-   stored, session and all; store the version with it, and take it back only under
-   the same major and minor number. Whatever bytes are read back do no harm to the
-   functions of this header; but confirm by
-   saszvigom_graph_replay(&graph, NULL, 0, NULL, 0), which is carried out exactly
-   for a sound session, before you go by n, made or the sequence yourself: damaged,
-   they may be any number. The buffers are as saszvigom.h says; reading them is in
-   order at any time. Pair k, for k below made, is sequence[2 * k] and
-   sequence[2 * k + 1], and row i and column j of the inverse is
+/* A graph of up to 96 vertices. It is large, about 55 KB: make it static, or
+   allocate it if the stack is small. It has no pointers, so you may copy and
+   store it, session included; store the version with it, and load it only under
+   the same major and minor number. Any bytes that you load do no harm to the
+   functions of this header. But confirm the session before you use n, made or
+   the sequence yourself, since damaged bytes may be any number:
+   saszvigom_graph_replay(&graph, NULL, 0, NULL, 0) is carried out exactly if
+   the session is sound. The buffers are as saszvigom.h says, and you may read
+   them at any time. Pair k, for k below made, is sequence[2 * k] and sequence[2
+   * k + 1], and row i and column j of the inverse is
    saszvigom_word(graph.inverse, i * graph.n + j). */
 struct saszvigom_graph {
-    /* The number of vertices, and of the pairs made. */
+    /* The number of vertices, and the number of pairs made. */
     uint64_t n, made;
     uint8_t adjacency[SASZVIGOM_ADJACENCY_BYTES(SASZVIGOM_MAX_VERTICES)];
     uint8_t weights[SASZVIGOM_WEIGHTS_BYTES(SASZVIGOM_MAX_VERTICES)];
@@ -60,13 +60,13 @@ struct saszvigom_graph {
     uint8_t sequence[SASZVIGOM_SEQUENCE_BYTES(SASZVIGOM_MAX_VERTICES)];
     uint8_t witness[SASZVIGOM_WITNESS_BYTES(SASZVIGOM_MAX_VERTICES)];
     uint8_t work[SASZVIGOM_WORK_BYTES(SASZVIGOM_MAX_VERTICES)];
-    /* Who could be matched with the vertex of the last saszvigom_graph_row, when
-       that was called. */
+    /* The vertices that could be matched with the vertex of the last
+       saszvigom_graph_row, when that was called. */
     uint8_t row[SASZVIGOM_ROW_BYTES(SASZVIGOM_MAX_VERTICES)];
 };
 
-/* Leaves no session: no pairs, and the inverse 0, which is that of no vertices
-   only. For this header alone. */
+/* Clears the session: no pairs, and an inverse of 0, which is right only for no
+   vertices. Only for this header. */
 static inline void saszvigom_graph_forget(struct saszvigom_graph *graph)
 {
     graph->made = 0;
@@ -78,9 +78,10 @@ static inline void saszvigom_graph_forget(struct saszvigom_graph *graph)
 }
 
 /* Makes a graph of n vertices without edges. Its weights are 0, so that opening
-   it, if n is 2 or more, is refused with SASZVIGOM_WEIGHT_OUT_OF_RANGE until they
-   are drawn or all set. False if n is above 96: then every call of the library but
-   saszvigom_graph_read is refused with SASZVIGOM_SIZE_TOO_LARGE. */
+   it, if n is 2 or more, is refused with SASZVIGOM_WEIGHT_OUT_OF_RANGE until
+   they are drawn or all set. Returns false if n is above 96: then every call of
+   the library except saszvigom_graph_read is refused with
+   SASZVIGOM_SIZE_TOO_LARGE. */
 static inline bool saszvigom_graph_init(struct saszvigom_graph *graph, uint64_t n)
 {
     memset(graph, 0, sizeof *graph);
@@ -89,13 +90,13 @@ static inline bool saszvigom_graph_init(struct saszvigom_graph *graph, uint64_t 
     return n <= SASZVIGOM_MAX_VERTICES;
 }
 
-/* Whether i and j are two different vertices of the graph. */
+/* Tells whether i and j are two different vertices of the graph. */
 static inline bool saszvigom_graph_two(const struct saszvigom_graph *graph, uint64_t i, uint64_t j)
 {
     return graph->n <= SASZVIGOM_MAX_VERTICES && i < graph->n && j < graph->n && i != j;
 }
 
-/* Sets both adjacency bytes of two vertices. For this header alone. */
+/* Sets both adjacency bytes of two vertices. Only for this header. */
 static inline bool saszvigom_graph_mark(struct saszvigom_graph *graph, uint64_t i, uint64_t j,
                                         uint8_t value)
 {
@@ -106,16 +107,16 @@ static inline bool saszvigom_graph_mark(struct saszvigom_graph *graph, uint64_t 
     return true;
 }
 
-/* Make two vertices adjacent, or not adjacent, in either order; they may be so
-   already. False, with nothing changed, unless they are two different vertices of
-   the graph.
+/* Make two vertices adjacent, or not adjacent, in either order; they may
+   already be so. Return false and change nothing unless they are two different
+   vertices of the graph.
 
-   After this and the functions that change weights the graph is to be opened
-   again. A session call before that is refused with SASZVIGOM_SESSION_MALFORMED or
-   SASZVIGOM_INVERSE_WRONG if its session is none of the changed graph. A change at
-   a matched vertex, but for the edge of its pair, is not noticed so: the session
-   goes on as one of the changed graph, and an undo may then be refused with
-   SASZVIGOM_REST_SINGULAR. */
+   After these functions and those that change weights, open the graph again. A
+   session call before that is refused with SASZVIGOM_SESSION_MALFORMED or
+   SASZVIGOM_INVERSE_WRONG if the session does not fit the changed graph. A
+   change at a matched vertex, except to the edge of its pair, is not noticed:
+   the session goes on as one of the changed graph, and an undo may then be
+   refused with SASZVIGOM_REST_SINGULAR. */
 static inline bool saszvigom_graph_set_edge(struct saszvigom_graph *graph, uint64_t i, uint64_t j)
 {
     return saszvigom_graph_mark(graph, i, j, 1);
@@ -126,16 +127,16 @@ static inline bool saszvigom_graph_clear_edge(struct saszvigom_graph *graph, uin
     return saszvigom_graph_mark(graph, i, j, 0);
 }
 
-/* Whether two vertices are adjacent; false where there is no such vertex. */
+/* Tells whether two vertices are adjacent; false if there is no such vertex. */
 static inline bool saszvigom_graph_adjacent(const struct saszvigom_graph *graph, uint64_t i,
                                             uint64_t j)
 {
     return saszvigom_graph_two(graph, i, j) && graph->adjacency[i * graph->n + j] == 1;
 }
 
-/* Sets the weight of two vertices, in either order, adjacent or not. False, with
-   nothing changed, unless they are two different vertices of the graph and the
-   weight is from 1 to 65520. */
+/* Sets the weight of two vertices, in either order, adjacent or not. Returns
+   false and changes nothing unless they are two different vertices of the graph
+   and the weight is from 1 to 65520. */
 static inline bool saszvigom_graph_set_weight(struct saszvigom_graph *graph, uint64_t i, uint64_t j,
                                               uint64_t weight)
 {
@@ -143,8 +144,8 @@ static inline bool saszvigom_graph_set_weight(struct saszvigom_graph *graph, uin
            saszvigom_store_word(graph->weights, saszvigom_weight_index(graph->n, i, j), weight);
 }
 
-/* The weight of two vertices, in either order; 0 if it is not set yet, or where
-   there is no such vertex. */
+/* Returns the weight of two vertices, in either order, or 0 if it is not set
+   yet or there is no such vertex. */
 static inline unsigned saszvigom_graph_weight(const struct saszvigom_graph *graph, uint64_t i,
                                               uint64_t j)
 {
@@ -157,9 +158,9 @@ static inline uint64_t saszvigom_graph_draw(struct saszvigom_graph *graph, uint3
     return saszvigom_draws(graph->n, seed, graph->weights, sizeof graph->weights);
 }
 
-/* Makes the graph that of a sheet, with its size, edges and weights:
-   saszvigom_read. There is no session then: it is to be opened. Where the sheet
-   is refused the graph and its session are as they were. Null is a sheet of no
+/* Reads the graph from a sheet, with its number of vertices, edges and weights:
+   saszvigom_read. There is then no session: open the graph. If the sheet is
+   refused, the graph and its session stay as they were. Null is a sheet of no
    bytes. */
 static inline uint64_t saszvigom_graph_read(struct saszvigom_graph *graph, const uint8_t *sheet,
                                             size_t sheet_len)
@@ -176,7 +177,7 @@ static inline uint64_t saszvigom_graph_read(struct saszvigom_graph *graph, const
     return number;
 }
 
-/* Keeps the pairs made of a call that was carried out. For this header alone. */
+/* Keeps the pairs made of a call that was carried out. Only for this header. */
 static inline uint64_t saszvigom_graph_keep(struct saszvigom_graph *graph, uint64_t number)
 {
     if (saszvigom_cause_of(number) == SASZVIGOM_NO_CAUSE)
@@ -185,8 +186,8 @@ static inline uint64_t saszvigom_graph_keep(struct saszvigom_graph *graph, uint6
 }
 
 /* Finds the inverse or a witness, and begins a session with no pairs:
-   saszvigom_open. Refused, it leaves the session that there was; singular, there
-   is none. */
+   saszvigom_open. If it is refused, the session stays as it was; if the graph
+   is singular, there is no session. */
 static inline uint64_t saszvigom_graph_open(struct saszvigom_graph *graph)
 {
     return saszvigom_graph_keep(
@@ -226,8 +227,9 @@ static inline uint64_t saszvigom_graph_undo(struct saszvigom_graph *graph)
                               sizeof graph->inverse, graph->sequence, sizeof graph->sequence));
 }
 
-/* Finds who may be matched with vertex a, and writes it to row: saszvigom_row.
-   Refused, it leaves row all 0. Ask again after a pick or an undo. */
+/* Finds the vertices that may be matched with vertex a, and writes them to row:
+   saszvigom_row. If it is refused, row is all 0. Call it again after a pick or
+   an undo. */
 static inline uint64_t saszvigom_graph_row(struct saszvigom_graph *graph, uint64_t a)
 {
     memset(graph->row, 0, sizeof graph->row);
@@ -237,15 +239,15 @@ static inline uint64_t saszvigom_graph_row(struct saszvigom_graph *graph, uint64
                          graph->row, sizeof graph->row);
 }
 
-/* Whether b may be matched with the vertex of the last saszvigom_graph_row; false
-   where there is no such vertex. */
+/* Tells whether b may be matched with the vertex of the last
+   saszvigom_graph_row; false if there is no such vertex. */
 static inline bool saszvigom_graph_in_row(const struct saszvigom_graph *graph, uint64_t b)
 {
     return graph->n <= SASZVIGOM_MAX_VERTICES && b < graph->n && graph->row[b] == 1;
 }
 
-/* The vertex that v is matched with, or SASZVIGOM_UNUSED if v is unmatched or not
-   there. */
+/* Returns the vertex that v is matched with, or SASZVIGOM_UNUSED if v is
+   unmatched or not there. */
 static inline unsigned saszvigom_graph_partner(const struct saszvigom_graph *graph, uint64_t v)
 {
     uint64_t k;
@@ -258,8 +260,8 @@ static inline unsigned saszvigom_graph_partner(const struct saszvigom_graph *gra
 }
 
 /* Makes a list of calls: saszvigom_replay. The lengths count numbers. Null for
-   answers is room for none, and null for calls is the empty list with length 0, and
-   else a list of one number, with the cause SASZVIGOM_LIST_CUT at 0. */
+   answers is room for none. Null for calls is the empty list if the length is
+   0, and else a list of one number, with the cause SASZVIGOM_LIST_CUT at 0. */
 static inline uint64_t saszvigom_graph_replay(struct saszvigom_graph *graph, const uint64_t *calls,
                                               size_t calls_len, uint64_t *answers,
                                               size_t answers_len)
@@ -283,7 +285,7 @@ static inline uint64_t saszvigom_graph_replay(struct saszvigom_graph *graph, con
 
 /* Explains what a call over the graph returned, in one line that says what is
    wrong in the graph: saszvigom_explain_with. The arguments are those of
-   saszvigom_explain, with the graph for its vertices. */
+   saszvigom_explain, with the graph in place of n. */
 static inline size_t saszvigom_graph_explain(char *text, size_t size, uint64_t number,
                                              const struct saszvigom_graph *graph,
                                              enum saszvigom_from from)

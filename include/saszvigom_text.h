@@ -2,9 +2,9 @@
  * saszvigom: the answers of saszvigom.h as English text, and the vertices that
  * an answer's place stands for.
  *
- * Functions of this header only: nothing is linked, allocated or kept. They take
- * every number, and a pointer that is not null unless they say otherwise. For C99
- * or C++11 and later.
+ * All functions are in this header: they link, allocate and keep nothing. They
+ * take every number, and a pointer that is not null unless they say otherwise.
+ * For C99 or C++11 and later.
  */
 #ifndef SASZVIGOM_TEXT_H
 #define SASZVIGOM_TEXT_H
@@ -15,10 +15,10 @@
 extern "C" {
 #endif
 
-/* Which call returned a number: the causes 12 and 13 have two meanings. */
+/* Which call returned a number: causes 12 and 13 have two meanings. */
 enum saszvigom_from SASZVIGOM_ENUM_TYPE {
-    /* saszvigom_open, saszvigom_draws or a session call but saszvigom_replay;
-       also an answer that saszvigom_replay wrote. */
+    /* saszvigom_open, saszvigom_draws or a session call other than
+       saszvigom_replay; also an answer that saszvigom_replay wrote. */
     SASZVIGOM_FROM_CALL = 0,
     /* saszvigom_replay. */
     SASZVIGOM_FROM_LIST = 1,
@@ -26,9 +26,9 @@ enum saszvigom_from SASZVIGOM_ENUM_TYPE {
     SASZVIGOM_FROM_SHEET = 2
 };
 
-/* A cause as text, without its place. 12 to 15 where such a call does not return
-   them are "a fault of a list or of a sheet", and what is above 15 "an unknown
-   cause". */
+/* Returns a cause as text, without its place. The text is "a fault of a list or
+   of a sheet" for 12 to 15 if such a call does not return them, and "an unknown
+   cause" above 15. */
 static inline const char *saszvigom_cause_text(enum saszvigom_cause cause,
                                                enum saszvigom_from from)
 {
@@ -83,7 +83,7 @@ static inline const char *saszvigom_cause_text(enum saszvigom_cause cause,
     return cause <= SASZVIGOM_EDGE_REPEATED ? "a fault of a list or of a sheet" : "an unknown cause";
 }
 
-/* The name of a buffer, or "unknown". */
+/* Returns the name of a buffer, or "unknown". */
 static inline const char *saszvigom_buffer_text(enum saszvigom_buffer buffer)
 {
     switch (buffer) {
@@ -107,7 +107,7 @@ static inline const char *saszvigom_buffer_text(enum saszvigom_buffer buffer)
     return "unknown";
 }
 
-/* A kind as text, or "unknown". */
+/* Returns a kind as text, or "unknown". */
 static inline const char *saszvigom_kind_text(enum saszvigom_kind kind)
 {
     switch (kind) {
@@ -131,15 +131,15 @@ static inline const char *saszvigom_kind_text(enum saszvigom_kind kind)
     return "unknown";
 }
 
-/* How many weights n vertices have; 0 for n above 96. */
+/* Returns how many weights n vertices have; 0 for n above 96. */
 static inline size_t saszvigom_weight_count(uint64_t n)
 {
     return n == 0 || n > SASZVIGOM_MAX_VERTICES ? 0 : (size_t)(n * (n - 1u) / 2u);
 }
 
-/* The vertices i < j of n whose weight has an index: the other way round than
-   saszvigom_weight_index. False, with i and j as they were, if n vertices have no
-   such weight, or n is above 96. */
+/* Finds the vertices i < j of n whose weight has this index: the reverse of
+   saszvigom_weight_index. Returns false and leaves i and j as they were if n
+   vertices have no such weight, or n is above 96. */
 static inline bool saszvigom_weight_vertices(uint64_t n, uint64_t index, unsigned *i, unsigned *j)
 {
     unsigned first = 0;
@@ -169,9 +169,9 @@ enum saszvigom_fault SASZVIGOM_ENUM_TYPE {
     SASZVIGOM_FAULT_MIRROR = 3
 };
 
-/* What a table of n vertices shows at row i and column j; SASZVIGOM_NO_FAULT if
-   the byte is in order or not there, or the table is null or has less than n * n
-   bytes. For this header alone. */
+/* Returns the fault of the byte at row i and column j of a table of n vertices,
+   or SASZVIGOM_NO_FAULT if the byte is in order or not there, or the table is
+   null or has less than n * n bytes. Only for this header. */
 static inline enum saszvigom_fault saszvigom_fault_in(const uint8_t *adjacency,
                                                       size_t adjacency_len, uint64_t n, unsigned i,
                                                       unsigned j)
@@ -187,17 +187,17 @@ static inline enum saszvigom_fault saszvigom_fault_in(const uint8_t *adjacency,
                                                         : SASZVIGOM_NO_FAULT;
 }
 
-/* The row, the column and the fault of the adjacency byte at fault, for the number
-   of a call with n vertices. Row and column mean nothing for a cause other than
-   SASZVIGOM_ADJACENCY_FAULT.
+/* Return the row, the column and the fault of the adjacency byte at fault, for
+   the number of a call with n vertices. Row and column mean nothing for a cause
+   other than SASZVIGOM_ADJACENCY_FAULT.
 
-   These functions take a number of either layout: that of today, whose place is
-   row * n + column, and the announced one, which has the row in bits 16 to 23,
-   the column in 24 to 31 and the fault, which is never 0, in 32 to 39. Under
-   today's, row and column are 0 for n = 0 and n above 96, and the fault is looked
-   up in the table that the call was lent, if that has n * n bytes; null is a table
-   of no bytes. SASZVIGOM_NO_FAULT is returned for another cause, and if the fault
-   is not there. */
+   They take a number of either layout: the present one, whose place is row * n
+   + column, and the announced one, which has the row in bits 16 to 23, the
+   column in 24 to 31 and the fault, which is never 0, in 32 to 39. In the
+   present layout, row and column are 0 for n = 0 and n above 96, and the fault
+   is looked up in the table that the call was lent, if that has n * n bytes;
+   null is a table of no bytes. saszvigom_fault_of returns SASZVIGOM_NO_FAULT
+   for another cause, and if the fault is not there. */
 static inline unsigned saszvigom_fault_row(uint64_t number, uint64_t n)
 {
     if ((number >> 32 & 0xFFu) != 0)
@@ -224,8 +224,8 @@ static inline enum saszvigom_fault saszvigom_fault_of(uint64_t number, uint64_t 
                               saszvigom_fault_column(number, n));
 }
 
-/* A text that is being written: size bytes of room, and the length so far, which
-   goes on past the room. For this header alone. */
+/* A text that is being written: size bytes of room, and the length so far,
+   which may go past the room. Only for this header. */
 struct saszvigom_line {
     char *text;
     size_t size, length;
@@ -255,8 +255,9 @@ static inline void saszvigom_line_number(struct saszvigom_line *line, const char
         saszvigom_line_char(line, (char)('0' + (int)(number / power % 10u)));
 }
 
-/* The adjacency byte at fault, row i and column j, and what is wrong with it: the
-   fault of the number or of the table, with the bytes where the table shows them. */
+/* Writes which adjacency byte is at fault, at row i and column j, and what is
+   wrong with it: the fault of the number or of the table, with the bytes if the
+   table shows them. */
 static inline void saszvigom_line_fault(struct saszvigom_line *line, uint64_t number, uint64_t n,
                                         const uint8_t *adjacency, size_t adjacency_len, unsigned i,
                                         unsigned j)
@@ -301,8 +302,8 @@ static inline void saszvigom_line_fault(struct saszvigom_line *line, uint64_t nu
     saszvigom_line_text(line, " has an unknown fault");
 }
 
-/* The weight out of range, that of vertices i and j, and its value where the
-   weights show it. */
+/* Writes which weight is out of range, that of vertices i and j, and its value
+   if the weights show it. */
 static inline void saszvigom_line_weight(struct saszvigom_line *line, uint64_t number, uint64_t n,
                                          const uint8_t *weights, size_t weights_len, unsigned i,
                                          unsigned j)
@@ -322,7 +323,7 @@ static inline void saszvigom_line_weight(struct saszvigom_line *line, uint64_t n
     }
 }
 
-/* What was refused and why, without the cause's number and place. */
+/* Writes why the call was refused, without the cause's number and place. */
 static inline void saszvigom_line_refusal(struct saszvigom_line *line, uint64_t number, uint64_t n,
                                           enum saszvigom_from from, const uint8_t *adjacency,
                                           size_t adjacency_len, const uint8_t *weights,
@@ -348,9 +349,9 @@ static inline void saszvigom_line_refusal(struct saszvigom_line *line, uint64_t 
 
 /*
  * Explain a number in one line. They do not know which session call it was: an
- * undo reads like a pick, and the causes 7 and 11 name both cases.
- * saszvigom_explain has the number alone; saszvigom_explain_with also looks at the
- * graph that the call was lent, and says what is wrong there. Such as
+ * undo reads like a pick, and causes 7 and 11 name both cases.
+ * saszvigom_explain has only the number; saszvigom_explain_with also looks at
+ * the graph that the call was lent, and says what is wrong there. Examples:
  *
  *     refused: the weight of 3 and 7 is 0 or above 65520 (cause 4 at 21)
  *     refused: the weight of 3 and 7 is 0 (cause 4 at 21)

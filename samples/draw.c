@@ -21,7 +21,7 @@ static void make_graph(const char *name, uint64_t n, const unsigned edges[][2], 
         saszvigom_graph_set_edge(&graph, edges[k][0], edges[k][1]);
 }
 
-/* Opens the graph and says what is found; whether it has an inverse. */
+/* Opens the graph and says what is found; tells whether it has an inverse. */
 static bool open_graph(const char *weights)
 {
     char line[SASZVIGOM_LINE_BYTES];

@@ -10,7 +10,7 @@
 
 static struct saszvigom_graph graph; /* large, so not on the stack */
 
-/* Prints what a call returned; whether it was carried out. */
+/* Prints what a call returned; tells whether it was carried out. */
 static bool say(const char *what, uint64_t number)
 {
     char line[SASZVIGOM_LINE_BYTES];

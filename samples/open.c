@@ -1,6 +1,6 @@
 /*
  * Opens graphs through saszvigom.h alone, and prints what is found. The weights
- * are made up, to be followed by hand: in use they are drawn.
+ * are made up, so that you can follow by hand: in use, draw them.
  *
  *     cc open.c $(pkg-config --cflags --libs saszvigom) -o open
  */
@@ -42,7 +42,7 @@ static void open_graph(const char *name, size_t n, const struct edge *edges, siz
         adjacency[e->i * n + e->j] = 1;
         adjacency[e->j * n + e->i] = 1;
         if (!saszvigom_store_word(weights, saszvigom_weight_index(n, e->i, e->j), e->weight)) {
-            printf("%s: not opened\n", name); /* it is no word */
+            printf("%s: not opened\n", name); /* it is not a word */
             return;
         }
     }

@@ -21,7 +21,7 @@ static void say(const char *what, uint64_t number)
     say_from(what, number, SASZVIGOM_FROM_CALL);
 }
 
-/* A path 2 0 1 3 with drawn weights. */
+/* Makes a path 2 0 1 3 with drawn weights. */
 static void make_path(void)
 {
     saszvigom_graph_init(&graph, 4);
@@ -48,7 +48,7 @@ static void of_the_graph(void)
     say("open before weights are drawn", saszvigom_graph_open(&graph));
 }
 
-/* 5 and 6: a session that is none of the graph. */
+/* 5 and 6: a session that does not fit the graph. */
 static void of_the_session(void)
 {
     make_path();

@@ -89,7 +89,7 @@ static void pick(struct session *s, struct log *log, uint64_t a, uint64_t b)
     take(s, number);
 }
 
-/* An automatic pick; its number. */
+/* Makes an automatic pick; returns its number. */
 static uint64_t automatic(struct session *s, struct log *log)
 {
     const uint64_t number = saszvigom_automatic(N, s->made, s->adjacency, sizeof s->adjacency,
@@ -112,7 +112,7 @@ static void undo(struct session *s, struct log *log)
     take(s, number);
 }
 
-/* Prints who may be matched with a vertex. */
+/* Prints which vertices may be matched with a vertex. */
 static void print_partners(const struct session *s, uint64_t a)
 {
     uint8_t row[SASZVIGOM_ROW_BYTES(N)];
@@ -132,7 +132,7 @@ static void print_partners(const struct session *s, uint64_t a)
     printf("\n");
 }
 
-/* Opens a ring with the draws of a seed; whether it has an inverse. */
+/* Opens a ring with the draws of a seed; tells whether it has an inverse. */
 static bool open_ring(struct session *s)
 {
     uint8_t witness[SASZVIGOM_WITNESS_BYTES(N)], work[SASZVIGOM_WORK_BYTES(N)];

@@ -1,6 +1,7 @@
 /*
- * Reads sheets, opens their graphs and matches the vertices. Where a graph is
- * singular, the weights may have cancelled: it is opened again with other draws.
+ * Reads sheets, opens their graphs and matches the vertices. If a graph is
+ * singular, the weights may have cancelled: it is opened again with other
+ * draws.
  *
  *     cc sheet.c $(pkg-config --cflags --libs saszvigom) -o sheet
  */
@@ -20,7 +21,7 @@ static struct {
     uint8_t sequence[SASZVIGOM_SEQUENCE_BYTES(MOST)];
 } s;
 
-/* Opens the graph; whether it has an inverse. */
+/* Opens the graph; tells whether it has an inverse. */
 static bool open_graph(void)
 {
     static uint8_t witness[SASZVIGOM_WITNESS_BYTES(MOST)], work[SASZVIGOM_WORK_BYTES(MOST)];
@@ -33,8 +34,8 @@ static bool open_graph(void)
     return kind == SASZVIGOM_OPENED;
 }
 
-/* Opens the graph with the draws of the sheet, and of other seeds while it is
-   singular; an odd number of vertices is singular with all. */
+/* Opens the graph with the draws of the sheet, and then of other seeds while it
+   is singular; with an odd number of vertices it always is. */
 static bool open_with_some_draws(void)
 {
     bool opened = open_graph();

@@ -25,9 +25,9 @@ static struct log calls_log = NO_LOG;
 static int person; /* whether a person types */
 static int typed;  /* and sees the answers, so that lines need not be repeated */
 static int leave;
-static int given_up; /* whether it is left by quit, so that boxes in no log are not wanted */
-static int asked;    /* whether the last line was one to leave that was put off; a yes to it does
-                        not count */
+static int given_up; /* whether quit ends it, so that boxes in no log are not wanted */
+static int asked;    /* whether the last line asked to leave and was put off; a yes to it
+                        does not count */
 
 static int number_of(const struct word *word, uint64_t *number)
 {
@@ -59,9 +59,9 @@ static int is_name(const struct word *word)
     return 0;
 }
 
-/* Sees to it that the boxes of a person are in a log: where they are in none, or
-   in one that takes no more, in one that nobody has asked for. That there can be
-   no such log is told once. */
+/* Makes sure that the boxes of a person are in a log: if they are in none, or
+   in one that takes no more, begins one that nobody has asked for. If that
+   fails, says so once. */
 static void keep_boxes(int in_log)
 {
     static int failed;
@@ -72,7 +72,8 @@ static void keep_boxes(int in_log)
     session.logged = calls_log.fd >= 0 && !calls_log.unasked;
 }
 
-/* Logs a call that was made, and then explains it; whether it was accepted. */
+/* Logs a call that was made, and then explains it; tells whether it was
+   accepted. */
 static int finish(uint64_t kind, uint64_t a, uint64_t b, uint64_t number)
 {
     const struct call call = {kind, a, b};
@@ -219,8 +220,8 @@ static void log_calls(const struct calls *calls, const uint64_t *answers)
     keep_boxes(in_log);
 }
 
-/* Says what each call of a list returned; how many answers are not as in the
-   file. */
+/* Says what each call of a list returned; returns how many answers differ from
+   those in the file. */
 static unsigned explain_calls(const struct calls *calls, const uint64_t *answers)
 {
     unsigned others = 0;
@@ -256,7 +257,7 @@ static void print_comparison(const struct calls *calls, unsigned others)
         printf("all answers are as in the file\n");
 }
 
-/* Says of a list of calls that it is of another graph or other weights; whether
+/* Says if a list of calls is of another graph or other weights; tells whether
    it is of other weights alone, which draws can set. */
 static int explain_origin(const struct calls *calls)
 {
@@ -313,8 +314,8 @@ static void drop_typed(void)
     tcflush(STDIN_FILENO, TCIFLUSH);
 }
 
-/* Leaves, by the command or, without words, at the end of input; but a person is
-   asked first where the pairs are in no log that was asked for. */
+/* Leaves, by the command or, without words, at the end of input. Asks a person
+   first if the pairs are in no log that was asked for. */
 static void do_quit(const struct word *words)
 {
     const int logged = log_is_kept(&calls_log) && !calls_log.unasked;
@@ -388,7 +389,7 @@ static void explain_usage(const struct command *command)
         printf("%s alone.\n", command->name);
 }
 
-/* The command that a word may stand for, or null. */
+/* Returns the command that a word may stand for, or null. */
 static const struct command *command_meant(const struct word *word)
 {
     const char *const other = other_word(word);
@@ -474,7 +475,7 @@ static void print_start_failure(const char *what, const char *name)
     fprintf(stderr, "what to do: name the file of a sheet; ls lists the files that there are\n");
 }
 
-/* Reads the file of a sheet and opens it; 0 if it cannot start. */
+/* Reads the sheet of a file and opens it; returns 0 if it cannot start. */
 static int start(const char *name)
 {
     static uint8_t sheet[SASZVIGOM_SHEET_BYTES_MAX];
@@ -522,7 +523,7 @@ static int hold_streams(void)
     return 1;
 }
 
-/* A failed write is told by its answer, not by a signal. */
+/* Makes a failed write return an error, and not raise a signal. */
 static void set_signals(void)
 {
     struct sigaction action;
@@ -533,7 +534,7 @@ static void set_signals(void)
     sigaction(SIGPIPE, &action, NULL);
 }
 
-/* Whether what was printed could be written; said once if not. */
+/* Tells whether what was printed could be written; says so once if not. */
 static int written(void)
 {
     static int failed;
@@ -557,8 +558,9 @@ static int end_log(void)
     return log_end(&calls_log);
 }
 
-/* Carries out commands to the end; 0 if they cannot be read, or the answers not
-   be written. The log, if one is kept, then has every call that was made. */
+/* Carries out commands to the end; returns 0 if they cannot be read or the
+   answers cannot be written. The log, if one is kept, then has every call that
+   was made. */
 static int serve(void)
 {
     static struct line line;
@@ -585,7 +587,7 @@ static int serve(void)
             clearerr(stdin);
             continue;
         case READ_LINE:
-            if (!line.ended) /* the end of input is to be met again */
+            if (!line.ended) /* so that the end of input is met again */
                 clearerr(stdin);
             break;
         }

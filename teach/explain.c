@@ -53,7 +53,8 @@ static void say_where_partners(const struct call *call)
            call->a, call->b);
 }
 
-/* Whether the rest has a perfect matching is not known here; a person may see one. */
+/* Advises other weights: whether the rest has a perfect matching is not known here,
+   but a person may see one. */
 static void say_other_weights(const struct session *s)
 {
     printf("  If you see boxes for all of these: %s%stry other draws, such as\n"

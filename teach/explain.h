@@ -11,7 +11,7 @@ void explain_call(const struct session *s, const struct call *call, uint64_t num
 /* Says in one line, after the call itself, what a call of a list returned. */
 void explain_briefly(const struct call *call, uint64_t number);
 
-/* Says why a whole list was refused, and what to do if that is asked for. */
+/* Says why a whole list was refused, and what to do if advise is set. */
 void explain_list(const struct session *s, uint64_t number, int advise);
 
 /* Says what opening found. */

@@ -1,11 +1,11 @@
-/* Why a sheet was refused: the record at fault is found again in its bytes. */
+/* Explains why a sheet was refused: finds the record at fault again in its bytes. */
 #include "explain.h"
 #include "input.h"
 
 #include <stdio.h>
 #include <string.h>
 
-/* A record: where it begins, and how many stand before it. */
+/* A record: where it begins, and how many records stand before it. */
 struct record {
     size_t offset;
     unsigned before;
@@ -25,7 +25,7 @@ static size_t length_of(uint8_t kind)
     }
 }
 
-/* The last record that begins before or at an offset. */
+/* Finds the last record that begins before or at an offset. */
 static struct record find(const uint8_t *sheet, size_t length, size_t offset)
 {
     struct record r = {0, 0};
@@ -52,7 +52,7 @@ static const char *name_of(uint8_t kind)
     }
 }
 
-/* What may stand where a record is at fault. */
+/* Returns what may stand where a record is at fault. */
 static const char *due(const uint8_t *sheet, struct record r)
 {
     if (r.before == 0)
@@ -70,8 +70,9 @@ static int is_blank(uint8_t byte)
     return byte == ' ' || byte == '\n' || byte == '\r' || byte == '\t';
 }
 
-/* Whether bytes are a text: it begins with ASCII, perhaps after a byte-order mark,
-   and its remarks may have any letters. No sheet is one: it begins with the byte 1. */
+/* Tells whether bytes are a text. A text begins with ASCII, perhaps after a
+   byte-order mark, and its remarks may have any letters. A sheet is never a text:
+   it begins with the byte 1. */
 static int is_text(const uint8_t *bytes, size_t length)
 {
     const size_t mark =

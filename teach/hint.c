@@ -25,7 +25,7 @@ static char lower(char c)
     return c >= 'A' && c <= 'Z' ? (char)(c - 'A' + 'a') : c;
 }
 
-/* Copies a word in lower case; 0 if it is too long. */
+/* Copies a word in lower case; returns 0 if it is too long. */
 static size_t copy_lower(char letters[MOST_LETTERS + 1], const struct word *word)
 {
     if (word->length > MOST_LETTERS)

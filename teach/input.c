@@ -14,7 +14,7 @@
 
 static int interruptible; /* whether a line of stdin can be given up */
 static volatile sig_atomic_t interrupted;
-static sigset_t while_waiting; /* the signals that are blocked then */
+static sigset_t while_waiting; /* the signals that are blocked while waiting */
 
 static void interrupt(int signal_number)
 {
@@ -41,7 +41,7 @@ void allow_interrupts(void)
     interruptible = 1;
 }
 
-/* Waits until stdin can be read; 0 if an interrupt comes first. */
+/* Waits until stdin can be read; returns 0 if an interrupt comes first. */
 static int await_byte(void)
 {
     while (!interrupted) {
@@ -54,8 +54,8 @@ static int await_byte(void)
     return 0;
 }
 
-/* The next byte. EOF at the end of the file, after an error, which is left in
-   errno, and after an interrupt. */
+/* Returns the next byte, or EOF at the end of the file, after an error, which
+   is left in errno, and after an interrupt. */
 static int next_byte(FILE *file)
 {
     for (;;) {
@@ -99,7 +99,7 @@ enum reading read_line(FILE *file, struct line *line)
     return any ? READ_LINE : READ_END;
 }
 
-/* Prints bytes in at most so many columns, and dots for what is left out. */
+/* Prints bytes in at most `most` columns, and dots for what is left out. */
 static void print_bytes(const char *bytes, size_t length, size_t most)
 {
     size_t column = 0;

@@ -18,23 +18,23 @@ struct line {
 
 enum reading { READ_LINE, READ_END, READ_FAILED, READ_INTERRUPTED };
 
-/* For a person who types: from now on SIGINT and SIGQUIT give up the line that is
-   read from stdin. They are held back while a command is carried out. To be called
-   before the first line is read. */
+/* Lets SIGINT and SIGQUIT, from now on, give up the line that a person types on
+   stdin. They are held back while a command is carried out. Call this before
+   the first line is read. */
 void allow_interrupts(void);
 
 /* Reads a line of any length and any bytes. A read that another signal
    interrupts, or that would block, is made again. */
 enum reading read_line(FILE *file, struct line *line);
 
-/* Prints a line with every byte that is no printable ASCII as \xNN, and of one
-   that is too long for two rows of a screen the beginning. */
+/* Prints a line with every byte that is not printable ASCII as \xNN, but only
+   the beginning of a line that is too long for two rows of a screen. */
 void print_line(const struct line *line);
 
-/* Prints a word in the same way, in less than half a row. */
+/* Prints a word as print_line prints a line, in less than half a row. */
 void print_word(const char *word, size_t length);
 
-/* Prints the name of a file in the same way, whole. */
+/* Prints the name of a file as print_line prints a line, whole. */
 void print_name(const char *name);
 
 struct word {
@@ -42,17 +42,17 @@ struct word {
     size_t length;
 };
 
-/* Splits a line at its blanks; the number of words, of which at most MOST_WORDS
-   are kept. */
+/* Splits a line at its blanks; returns the number of words, of which it keeps
+   at most MOST_WORDS. */
 size_t split(struct line *line, struct word words[MOST_WORDS]);
 
-/* Whether a word is these letters. */
+/* Tells whether a word is these letters. */
 int is_word(const struct word *word, const char *letters);
 
-/* Whether a word is digits alone. */
+/* Tells whether a word is digits alone. */
 int is_digits(const struct word *word);
 
-/* Whether it is, and the number has at most 64 bits. */
+/* Tells whether a word is digits alone and its number has at most 64 bits. */
 int is_number(const struct word *word, uint64_t *number);
 
 #endif

@@ -21,7 +21,7 @@ static void print_failure(const char *what, const char *name, int error)
     printf(": %s\n", strerror(error));
 }
 
-/* Goes on with a checksum. */
+/* Adds bytes to a checksum. */
 static uint64_t add_bytes(uint64_t sum, const char *bytes, size_t length)
 {
     for (size_t i = 0; i < length; i++)
@@ -29,7 +29,8 @@ static uint64_t add_bytes(uint64_t sum, const char *bytes, size_t length)
     return sum;
 }
 
-/* Appends a text to a log, whole or not at all; else 0, with errno. */
+/* Appends a text to a log, whole or not at all; returns 0, with errno, if it
+   fails. */
 static int append(struct log *log, const char *text)
 {
     const size_t length = strlen(text);
@@ -76,7 +77,8 @@ void print_answer(uint64_t answer, int undo)
     printf("%s", text);
 }
 
-/* Writes the graph, and the pairs made so far as picks; else 0, with errno. */
+/* Writes the graph, and the pairs made so far as picks; returns 0, with errno,
+   if it fails. */
 static int append_session(struct log *log, const struct session *s)
 {
     char text[LOG_LINE_BYTES];
@@ -91,7 +93,8 @@ static int append_session(struct log *log, const struct session *s)
     return done;
 }
 
-/* Makes a log in a new file; else 0, with errno, and there is no file. */
+/* Makes a log in a new file. If it fails, returns 0, with errno, and leaves no
+   file. */
 static int make(struct log *log, const char *name, const struct session *s)
 {
     *log = (struct log)NO_LOG;
@@ -126,7 +129,7 @@ int log_begin(struct log *log, const char *name, const struct session *s)
         print_name(log->name);
         printf(" ends here.\n");
     }
-    if (log->unasked) /* it goes, so what has its boxes is to be there */
+    if (log->unasked) /* its file goes, so the boxes must be on the disk in the new one */
         log_sync(&new);
     log_discard(log);
     *log = new;
@@ -150,7 +153,8 @@ static const char *unasked_name(unsigned folder, unsigned k)
     return name;
 }
 
-/* Makes one under the first name of a folder that is free; else 0, with errno. */
+/* Makes one under the first free name of a folder; returns 0, with errno, if it
+   fails. */
 static int make_unasked(struct log *log, unsigned folder, const struct session *s)
 {
     for (unsigned k = 1; k <= MOST_UNASKED; k++) {
@@ -187,7 +191,7 @@ int log_begin_unasked(struct log *log, const struct session *s, int report)
     return 1;
 }
 
-/* Opens a log that no desk is keeping, or null. */
+/* Opens a log that no desk is keeping, or returns null. */
 static FILE *open_left(const char *name)
 {
     struct stat about;
@@ -229,7 +233,7 @@ static void end_early(struct log *log, const char *where)
     log_end(log);
 }
 
-/* Whether the file of a log has a name, and the length that was written. */
+/* Tells whether the file of a log has a name, and the length that was written. */
 static int is_there(const struct log *log)
 {
     struct stat about;
@@ -237,7 +241,7 @@ static int is_there(const struct log *log)
            about.st_size == log->written;
 }
 
-/* Whether it has the bytes that were written. */
+/* Tells whether the file of a log has the bytes that were written. */
 static int is_whole(const struct log *log)
 {
     char bytes[LINE_BYTES];
@@ -324,7 +328,8 @@ int log_discard(struct log *log)
     return log_end(log);
 }
 
-/* The call that begins a line, in words; the number of these, or 0. */
+/* Finds the call that begins a line of words; returns how many words it has, or
+   0. */
 static size_t find_call(const struct word *words, size_t count, struct call *call)
 {
     call->a = call->b = 0;
@@ -337,7 +342,7 @@ static size_t find_call(const struct word *words, size_t count, struct call *cal
     return is_word(&words[0], "undo") || is_word(&words[0], "auto") ? 1 : 0;
 }
 
-/* Whether words are the answer of a call, and which. */
+/* Tells whether words are the answer of a call, and finds which. */
 static int find_answer(const struct word *words, size_t count, int undo, uint64_t *answer)
 {
     uint64_t a, b;
@@ -361,7 +366,7 @@ static int is_graph(const struct word *words, size_t count, struct calls *calls)
            is_word(&words[4], "seed") && is_number(&words[5], &calls->seed);
 }
 
-/* Takes a line; 0 if it is none of a log. */
+/* Takes a line of a log; returns 0 if it is not one. */
 static int take(struct line *line, struct calls *calls)
 {
     struct word words[MOST_WORDS];
@@ -471,7 +476,8 @@ int log_read(const char *name, struct calls *calls)
     }
     calls->named = 0;
     calls->count = 0;
-    /* What has no size has no lines: some files of the system then never end. */
+    /* A file of size 0 has no lines; some files of the system that have no size
+       never end. */
     const int done = about.st_size == 0 || read_calls(file, name, calls);
     fclose(file);
     return done;

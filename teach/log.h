@@ -30,38 +30,40 @@ struct log {
 };
 #define NO_LOG {-1, 0, 0, 0, 0, ""}
 
-/* Begins a log in a new file, in place of the one that was kept: the graph, and
-   the pairs made so far as picks. A failure is reported, and the log that was
-   kept goes on. */
+/* Begins a log in a new file, in place of the one that was kept, with the graph
+   and the pairs made so far as picks. Reports a failure, and then goes on with
+   the log that was kept. */
 int log_begin(struct log *log, const char *name, const struct session *s);
 
-/* Begins one that nobody has asked for, under the first name that is free:
-   unsaved-1.log, unsaved-2.log and so on, in this folder or, where that fails, in
-   the one for temporary files, TMPDIR or else /tmp. A failure is reported if it is
-   to be. */
+/* Begins a log that nobody has asked for, under the first free name:
+   unsaved-1.log, unsaved-2.log and so on, in this folder or, if that fails, in
+   the one for temporary files, TMPDIR or else /tmp. Reports a failure if report
+   is set. */
 int log_begin_unasked(struct log *log, const struct session *s, int report);
 
-/* Names such files of this user that sessions have left which were not ended; not
-   those that another desk is keeping. */
+/* Names the files of such logs that this user's sessions have left without
+   ending them, but not those that another desk is keeping. */
 void log_name_left(void);
 
-/* Writes a call with the number that it returned; whether it is in a log that is
-   kept. A failure, and a log that is full, is reported, and ends a log that was
-   asked for. */
+/* Writes a call with the number that it returned; tells whether it is in a log
+   that is kept. Reports a failure or a full log, which end a log that was asked
+   for. */
 int log_call(struct log *log, const struct call *call, uint64_t number);
 
-/* Whether a log is kept that has every call. One whose file someone else has
-   removed or changed, for which the file is read, is ended; that is reported if
-   the log was asked for. */
+/* Tells whether a log is kept that has every call. Reads its file; if someone
+   else has removed or changed it, ends the log, and reports that if the log was
+   asked for. */
 int log_is_kept(struct log *log);
 
-/* Has the log, if one is kept, brought to the disk; a failure is reported. */
+/* Brings the log, if one is kept, to the disk; reports a failure. */
 void log_sync(const struct log *log);
 
-/* Ends the log, if one is kept; 0 if it may not be whole, which is reported. */
+/* Ends the log, if one is kept; returns 0 if it may not be whole, which it
+   reports. */
 int log_end(struct log *log);
 
-/* Ends it too, and removes the file of one that nobody has asked for. */
+/* Ends the log, as log_end does, and removes the file of one that nobody has
+   asked for. */
 int log_discard(struct log *log);
 
 /* A list of calls that was read. */
@@ -74,7 +76,7 @@ struct calls {
 };
 #define NO_ANSWER UINT64_MAX
 
-/* Reads a log; 0 if it failed, which is reported. */
+/* Reads a log; returns 0 if it fails, which it reports. */
 int log_read(const char *name, struct calls *calls);
 
 /* Writes a call as a log has it. */

@@ -78,7 +78,7 @@ void print_witness(const struct session *s)
             printf("  witness %u %u\n", a, (unsigned)saszvigom_word(s->graph.witness, a));
 }
 
-/* The pairs from a first one to a last, drawn side by side. */
+/* Draws the pairs from first to last side by side. */
 static void draw_pairs(const struct session *s, unsigned first, unsigned last)
 {
     printf(first == 0 ? "boxes  " : "       ");
@@ -120,7 +120,7 @@ static void print_sequence(const struct session *s)
     printf("\n");
 }
 
-/* The partners of a vertex, or no vertex if the graph is singular. */
+/* Finds the partners of a vertex: none if the graph is singular. */
 static void find_partners(const struct session *s, unsigned a, uint8_t row[MOST])
 {
     memset(row, 0, MOST);
@@ -128,7 +128,7 @@ static void find_partners(const struct session *s, unsigned a, uint8_t row[MOST]
         session_row(s, a, row);
 }
 
-/* A table of the unmatched vertices, each with a row and a column. */
+/* Prints a table of the unmatched vertices, each with a row and a column. */
 static void print_grid(const struct session *s, const uint8_t unmatched[MOST])
 {
     uint8_t row[MOST];
@@ -153,8 +153,8 @@ static void print_grid(const struct session *s, const uint8_t unmatched[MOST])
         printf("\n  - may share   . may not share\n");
 }
 
-/* The list of an unmatched vertex: its partners, and those neighbours with which
-   a pick is refused; of a singular graph its neighbours. */
+/* Makes the list of an unmatched vertex: its partners, and those neighbours
+   with which a pick is refused; its neighbours if the graph is singular. */
 static void make_list(const struct session *s, unsigned a, const uint8_t unmatched[MOST],
                       char text[TEXT_BYTES])
 {
@@ -172,7 +172,8 @@ static void make_list(const struct session *s, unsigned a, const uint8_t unmatch
     append_vertices(text, closed, s->n);
 }
 
-/* A list for every unmatched vertex, in as many columns as there is room for. */
+/* Prints a list for every unmatched vertex, in all columns that there is room
+   for. */
 static void print_lists(const struct session *s, const uint8_t unmatched[MOST])
 {
     static char texts[MOST][TEXT_BYTES];

@@ -1,4 +1,4 @@
-/* A graph with the session on it, and what the desk knows of both besides. */
+/* A graph with the session on it, and what else the desk knows of both. */
 #ifndef TEACH_SESSION_H
 #define TEACH_SESSION_H
 
@@ -21,7 +21,7 @@ struct call {
     uint64_t kind, a, b;
 };
 
-/* Reads a sheet and opens its graph; the number of saszvigom_read. */
+/* Reads a sheet and opens its graph; returns the number of saszvigom_read. */
 uint64_t session_read(struct session *s, const uint8_t *sheet, size_t length);
 
 /* Opens the graph again with the weights of a seed. */
@@ -35,10 +35,11 @@ uint64_t session_row(const struct session *s, uint64_t a, uint8_t row[MOST]);
 uint64_t session_replay(struct session *s, const uint64_t *calls, size_t numbers,
                         uint64_t *answers, size_t room);
 
-/* Whether two vertices, both below n, are adjacent. */
+/* Tells whether two vertices, both below n, are adjacent. */
 int adjacent(const struct session *s, unsigned a, unsigned b);
 
-/* The index in sequence of a vertex, or SASZVIGOM_UNUSED if it is unmatched. */
+/* Returns the index of a vertex in sequence, or SASZVIGOM_UNUSED if it is
+   unmatched. */
 unsigned place_of(const struct session *s, unsigned a);
 
 #endif

@@ -6,8 +6,8 @@
 
 namespace {
 
-// FFPACK::Invert of version 2.5.0 goes by rows and gives a wrong inverse where a pivot is off the diagonal, as always for a skew
-// matrix. This is the same by columns, at the same speed.
+// FFPACK::Invert of version 2.5.0 goes by rows and gives a wrong inverse if a pivot is off the diagonal, as it always is for a skew matrix.
+// This class does the same by columns, at the same speed.
 class Matrix : public Peer {
 public:
     Matrix(size_t n, const std::vector<uint16_t> &entries)

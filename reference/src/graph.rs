@@ -29,7 +29,7 @@ pub struct Lent {
     pub length: usize,
 }
 
-/// A checked graph: the causes 1 to 4 do not apply (document 01: "sheet").
+/// A checked graph: causes 1 to 4 do not apply (document 01: "sheet").
 #[derive(Clone, Copy, Debug)]
 pub struct Graph<'a> {
     size: usize,
@@ -74,7 +74,7 @@ impl<'a> Graph<'a> {
         self.size
     }
 
-    /// Whether i and j are adjacent. False if either is not below n.
+    /// Tells whether i and j are adjacent. False if either is not below n.
     pub fn adjacent(&self, i: usize, j: usize) -> bool {
         i < self.size && j < self.size && self.adjacency[i * self.size + j] == 1
     }
@@ -186,8 +186,8 @@ fn check_adjacency(n: usize, adjacency: &[u8]) -> Result<(), Refusal> {
     Ok(())
 }
 
-/// Whether a cell is not 0 or 1, is not 0 on the diagonal, or differs from its
-/// mirror.
+/// Tells whether a cell is not 0 or 1, is not 0 on the diagonal, or differs
+/// from its mirror.
 fn bad_cell(n: usize, adjacency: &[u8], row: usize, column: usize) -> bool {
     let cell = adjacency[row * n + column];
     let mirror = adjacency[column * n + row];

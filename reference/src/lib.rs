@@ -51,5 +51,5 @@ pub mod words;
 /// "For the host": the number that a call returns.
 pub mod numbers;
 
-/// "For the host": a list of session calls, made one after the other.
+/// "For the host": a list of session calls, made one after another.
 pub mod replay;

@@ -108,7 +108,7 @@ struct Echelon {
 }
 
 impl Echelon {
-    /// Whether each of the first `count` columns has a pivot.
+    /// Tells whether each of the first `count` columns has a pivot.
     fn has_pivots_in_first(&self, count: usize) -> bool {
         (0..count).all(|column| self.pivots.get(column) == Some(&column))
     }

@@ -1,7 +1,7 @@
 //! The plain model of a run of calls (document 01, "The plain desk").
 //!
 //! It keeps a list of pairs and nothing else. All else follows from that list
-//! and the graph: inverses by solving for one column after the other, their
+//! and the graph: inverses by solving for one column after another, their
 //! existence by the rank.
 
 use crate::causes::{Cause, Refusal};
@@ -158,7 +158,7 @@ fn indices(vertices: &[u64]) -> Vec<usize> {
     vertices.iter().map(|&vertex| vertex as usize).collect()
 }
 
-/// Whether the Tutte matrix of these vertices has an inverse. That of no
+/// Tells whether the Tutte matrix of these vertices has an inverse. That of no
 /// vertices has one.
 fn has_inverse(graph: &Graph, vertices: &[u64]) -> bool {
     let matrix = graph.tutte_matrix(&indices(vertices));

@@ -1,9 +1,9 @@
-//! A list of session calls, made one after the other (docs/HOST.md, "Replay").
+//! A list of session calls, made one after another (docs/HOST.md, "Replay").
 //!
 //! A call of the list is three numbers: its call-kind and two vertices, which
-//! only a pick looks at. The session and the whole list are checked before any
-//! call is made. Each call is then a single call on the session that the one
-//! before it handed back.
+//! only a pick uses. The session and the whole list are checked before any call
+//! is made. Each call is then a single call on the session that the one before
+//! it handed back.
 
 use crate::causes::{buffer, Cause, Refusal};
 use crate::graph::{Extent, Lent};
@@ -53,8 +53,8 @@ impl Call {
 }
 
 /// Makes all calls of a list and writes the answer of each. Refuses with the
-/// lowest cause that applies: 1 to 6, the answers being the last buffer of 2,
-/// then 12 and 13. Then no call is made, and nothing is written.
+/// lowest cause that applies: 1 to 6, where the answers are the last buffer of
+/// 2, then 12 and 13. Then no call is made, and nothing is written.
 pub fn replay(
     session: Session,
     adjacency: &[u8],

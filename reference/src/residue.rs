@@ -57,8 +57,8 @@ impl Residue {
         Residue((sum % Self::MODULUS as u32) as u16)
     }
 
-    /// Raises to a power by repeated squaring: the result times the square to the
-    /// power left is the power wanted, all along.
+    /// Raises to a power by repeated squaring. Throughout, the result times the
+    /// square to the power left is the power wanted.
     pub fn power(self, exponent: u64) -> Residue {
         let mut result = Residue::ONE;
         let mut square = self;

@@ -121,8 +121,8 @@ pub fn row(
     Outcome { session, answer }
 }
 
-/// Refuses a session that is not sound, or a short buffer, `last` being the one
-/// of the highest number: the causes 1 to 6.
+/// Refuses a session that is not sound, or a short buffer, where `last` is the
+/// one of the highest number: causes 1 to 6.
 pub(crate) fn check_sound(
     session: Session,
     adjacency: &[u8],
@@ -134,9 +134,9 @@ pub(crate) fn check_sound(
     confirm(session, adjacency, weights, inverse, sequence, Some(last)).map(|_| ())
 }
 
-/// Whether the session is well formed: at most n/2 pairs; the used bytes of the
-/// sequence are adjacent pairs, smaller first, all vertices different and below
-/// n; the others up to n are unused.
+/// Tells whether the session is well formed: at most n/2 pairs; the used bytes
+/// of the sequence are adjacent pairs, smaller first, all vertices different
+/// and below n; the others up to n are unused.
 pub fn is_well_formed(graph: &Graph, pairs: u64, sequence: &[u8]) -> bool {
     let n = graph.size();
     if sequence.len() < n || pairs > (n / 2) as u64 {
@@ -171,8 +171,8 @@ pub(crate) fn inverse_table(graph: &Graph, vertices: &[usize]) -> Option<Vec<u16
     Some(table)
 }
 
-/// Confirms that the session is sound. Refuses with the causes 1 to 6; `last` is
-/// a buffer that only some calls are lent, after the four of every call.
+/// Confirms that the session is sound. Refuses with causes 1 to 6; `last` is a
+/// buffer that only some calls are lent, after the four of every call.
 fn confirm<'a>(
     session: Session,
     adjacency: &'a [u8],
@@ -222,7 +222,7 @@ fn unmatched_vertices(graph: &Graph, matched: &[u8]) -> Vec<usize> {
     (0..graph.size()).filter(is_unmatched).collect()
 }
 
-/// Refuses a pick of a and b: the causes 7 to 10.
+/// Refuses a pick of a and b: causes 7 to 10.
 fn check_pair(sound: &Sound, a: u64, b: u64) -> Result<(), Refusal> {
     check_below(sound, a)?;
     check_below(sound, b)?;
@@ -276,7 +276,7 @@ fn lowest_pair(sound: &Sound) -> Result<(u64, u64), Refusal> {
         .ok_or(nothing_left)
 }
 
-/// Makes the row of vertex a. Refuses with the causes 7 and 8 for a itself.
+/// Makes the row of vertex a. Refuses with causes 7 and 8 for a itself.
 fn partners_of(sound: &Sound, a: u64) -> Result<Vec<u8>, Refusal> {
     check_below(sound, a)?;
     check_unmatched(sound, a)?;

@@ -5,7 +5,7 @@ mod common;
 use common::*;
 use reference::display::displayed_part;
 
-/// Whether a part is the beginning of a buffer.
+/// Tells whether a part is the beginning of a buffer.
 fn is_start_of(part: &[u16], buffer: &[u16], length: usize) -> bool {
     part.as_ptr() == buffer.as_ptr() && part.len() == length
 }

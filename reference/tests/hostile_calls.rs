@@ -42,7 +42,7 @@ fn graph_faults(n: usize, buffers: &Buffers) -> Vec<(u8, u64)> {
     faults
 }
 
-/// Whether the session is well formed, sentence by sentence.
+/// Tells whether the session is well formed, sentence by sentence.
 fn well_formed(n: usize, buffers: &Buffers, pairs: u64) -> bool {
     if u128::from(pairs) * 2 > n as u128 {
         return false;
@@ -63,7 +63,7 @@ fn well_formed(n: usize, buffers: &Buffers, pairs: u64) -> bool {
     buffers.sequence[used..n].iter().all(|&byte| byte == 255)
 }
 
-/// Whether the stored table is the inverse, by a product with the matrix.
+/// Tells whether the stored table is the inverse, by a product with the matrix.
 fn inverse_fits(graph: &Graph, buffers: &Buffers, unmatched: &[u64]) -> bool {
     let n = graph.size();
     let is_unmatched = |vertex: usize| unmatched.contains(&(vertex as u64));

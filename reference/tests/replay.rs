@@ -281,7 +281,8 @@ fn damage(random: &mut Random, buffers: &mut Buffers, now: &mut Session, calls: 
 }
 
 /// Lists the causes of a replay on four vertices, all adjacent and opened, that
-/// apply by themselves, each checked where those it rests on do not apply.
+/// apply by themselves. Each is checked only if those that it rests on do not
+/// apply.
 fn causes(buffers: &Buffers, now: Session, calls: &[u64], room: usize) -> Vec<u64> {
     let mut causes = Vec::new();
     let whole = calls.len() / 3;

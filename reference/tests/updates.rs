@@ -50,7 +50,7 @@ fn two_eliminations_give_the_inverse_after_a_pick() {
     }
 }
 
-/// Not only for edges: the rest has an inverse exactly where the entry of the
+/// Not only for edges: the rest has an inverse exactly if the entry of the
 /// inverse is not 0.
 #[test]
 fn the_rest_has_an_inverse_where_the_entry_is_not_zero() {

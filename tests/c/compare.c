@@ -104,20 +104,21 @@ static void compare_guards(const char *name, const uint8_t *block, size_t start,
             differs(name, "guard", i, block[i], guard_byte(i));
 }
 
-/* Whether a buffer holds 64-bit numbers and must be aligned as they are. */
+/* Tells whether a buffer holds 64-bit numbers and must be aligned as they are. */
 static bool holds_numbers(size_t buffer)
 {
     return buffer == CALLS || buffer == ANSWERS;
 }
 
-/* The first place for a buffer: a multiple of eight, or odd for bytes. */
+/* Returns the first place for a buffer: a multiple of eight, or odd for bytes. */
 static size_t start_of(size_t buffer, size_t position)
 {
     const size_t aligned = (position + 7) / 8 * 8;
     return holds_numbers(buffer) ? aligned : position | 1;
 }
 
-/* The buffers in one block between guard bytes, those of bytes at odd addresses. */
+/* Runs a call with the buffers in one block between guard bytes, those of bytes
+   at odd addresses. */
 static void run_in_one_block(const char *name, const struct call *call,
                              const struct outcome *expected)
 {
@@ -155,8 +156,9 @@ static uint8_t *allocate(const char *name, size_t length)
     return block;
 }
 
-/* Each buffer in a block of its own, so that a memory checker sees its ends. A
-   buffer of length 0 is the end of a block of one byte, or of one number. */
+/* Runs a call with each buffer in a block of its own, so that a memory checker
+   sees its ends. A buffer of length 0 is the end of a block of one byte, or of
+   one number. */
 static void run_in_own_blocks(const char *name, const struct call *call,
                               const struct outcome *expected)
 {

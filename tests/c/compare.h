@@ -21,7 +21,7 @@ extern const char *const entry_names[ENTRIES];
 extern const char *const buffer_names[BUFFERS];
 
 /* A call: the entry, its numbers, and for each buffer its length in bytes and
-   the bytes before. An entry uses some of the numbers and buffers only: a is
+   the bytes before. An entry uses only some of the numbers and buffers: a is
    also the seed of draws. Calls and answers are 64-bit numbers as they lie in
    memory. */
 struct call {
@@ -37,7 +37,7 @@ struct outcome {
     uint8_t bytes[BUFFERS][LONGEST];
 };
 
-/* A byte that differs from its neighbours, from 0 and from 255. */
+/* Returns a byte that differs from its neighbours, from 0 and from 255. */
 uint8_t guard_byte(size_t position);
 
 /* Runs a call twice: with the buffers in one block between guard bytes, those of

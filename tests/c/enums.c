@@ -1,8 +1,8 @@
 /*
- * Switches over the enums that the headers return, for every value that a number
- * may have there, known or not, and has the texts made of them. It is C and C++
- * alike. Stops with status 1 at the first difference, and prints how many values
- * there were.
+ * Switches over the enums that the headers return, for every value that a
+ * number may have there, known or not, and makes the texts of them. It compiles
+ * as C and as C++. Stops with status 1 at the first difference, and prints how
+ * many values there were.
  */
 #include "saszvigom_graph.h"
 

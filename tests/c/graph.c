@@ -41,13 +41,13 @@ static bool all(const uint8_t *bytes, size_t length, uint8_t value)
     return true;
 }
 
-/* Whether the graph is byte for byte the one kept before. */
+/* Tells whether the graph is byte for byte the one kept before. */
 static bool unchanged(void)
 {
     return memcmp(&graph, &before, sizeof graph) == 0;
 }
 
-/* A ring of n vertices with drawn weights. */
+/* Makes a ring of n vertices with drawn weights. */
 static void make_ring(uint64_t n)
 {
     check("init", saszvigom_graph_init(&graph, n));
@@ -317,8 +317,8 @@ static void replays(void)
     check("as opened", unchanged());
 }
 
-/* Whether a number is explained so with the graph, which is left as it was, into
-   room of every size. */
+/* Checks that this line explains a number with the graph, which stays as it
+   was, in room of every size. */
 static void check_line(const char *line, uint64_t number, enum saszvigom_from from)
 {
     const size_t length = strlen(line);
@@ -392,8 +392,8 @@ static void explained(void)
                3, call);
 }
 
-/* The largest graph: all adjacent, matched to the end and undone, and the same by
-   the entries of saszvigom.h with buffers as long as needed. */
+/* The largest graph: all adjacent, matched to the end and undone, and the same
+   by the entries of saszvigom.h with buffers of just the lengths needed. */
 static void largest(void)
 {
     check("init of 96", saszvigom_graph_init(&graph, 96));

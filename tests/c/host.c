@@ -261,7 +261,7 @@ static void accessors(void)
     check_that("accessors", right);
 }
 
-/* Words that are stored, and those that are refused with nothing written. */
+/* Words that are stored, and those that are refused and write nothing. */
 static void words(void)
 {
     const uint64_t refused[] = {65521, 65535, 65536, 65537, 131072, 4294967297u, (uint64_t)-1};

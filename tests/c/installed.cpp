@@ -42,7 +42,7 @@ bool carried_out(uint64_t number)
     return saszvigom_cause_of(number) == SASZVIGOM_NO_CAUSE;
 }
 
-/* How a graph opens, with no enumerator left out. */
+/* Returns how a graph opened; leaves no enumerator out. */
 const char *opening(uint64_t number)
 {
     switch (saszvigom_kind_of(number)) {

@@ -1,6 +1,6 @@
 /*
- * Command lines for the desk, good ones among bad ones: noise SEED LINES N, for a
- * sheet of N vertices.
+ * Prints command lines for the desk, good ones among bad ones: noise SEED LINES
+ * N, for a sheet of N vertices.
  */
 #include <stdint.h>
 #include <stdio.h>

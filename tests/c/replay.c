@@ -1,8 +1,8 @@
 /*
  * Runs the cases that tests/host writes and compares the number returned and
  * every byte of every buffer with what is expected. Prints how many cases had
- * which outcome. Stops with status 1 at the first difference, or where the
- * stream is not whole.
+ * which outcome. Stops with status 1 at the first difference, or if the stream
+ * is not whole.
  *
  * The stream, on standard input. Every number is eight bytes, the low one first.
  * For each case:
@@ -15,7 +15,7 @@
  *     the number expected
  *     the bytes of the ten buffers expected after the call
  *
- * and at the end 0, in the place of a name's length, and the number of cases.
+ * and at the end 0, in place of a name's length, and the number of cases.
  */
 #include "compare.h"
 
@@ -63,7 +63,7 @@ static uint64_t read_number(void)
     return number_from(bytes);
 }
 
-/* The length of a name, or 0 at the end. */
+/* Returns the length of a name, or 0 at the end. */
 static uint64_t read_name_length(void)
 {
     uint8_t bytes[8];
@@ -75,7 +75,7 @@ static uint64_t read_name_length(void)
     return number_from(bytes);
 }
 
-/* Reads a name; false at the end. */
+/* Reads a name; returns false at the end. */
 static bool read_name(void)
 {
     const uint64_t length = read_name_length();
@@ -118,7 +118,7 @@ static void read_buffers(uint8_t bytes[BUFFERS][LONGEST])
         read_bytes(bytes[b], call.length[b]);
 }
 
-/* Reads a case; false at the end. */
+/* Reads a case; returns false at the end. */
 static bool read_case(void)
 {
     if (!read_name())

@@ -33,7 +33,7 @@ static void open_session(void)
     }
 }
 
-/* A session with all edges of four vertices. */
+/* Opens a session with all edges of four vertices. */
 static void open_four(void)
 {
     set_graph(4);
@@ -61,7 +61,7 @@ static void set_numbers(size_t buffer, const uint64_t *numbers, size_t count)
         memcpy(call.bytes[buffer], numbers, call.length[buffer]);
 }
 
-/* A list of so many numbers, with room for so many answers. */
+/* Sets up a replay of the first length numbers, with room for `room` answers. */
 static void replay(const uint64_t *numbers, size_t length, size_t room)
 {
     static const uint64_t before[MOST_CALLS + 2] = {1, 2, 3};
@@ -70,7 +70,7 @@ static void replay(const uint64_t *numbers, size_t length, size_t room)
     set_numbers(ANSWERS, before, room);
 }
 
-/* Some call through an entry. */
+/* Sets up some call through an entry. */
 static void call_entry(enum entry entry)
 {
     const uint64_t list[] = {SASZVIGOM_CALL_AUTOMATIC, 0, 0};
@@ -255,7 +255,7 @@ static void session_by_hand(void)
     run("automatic pick of a session put together by hand");
 }
 
-/* Numbers that would do but for their high bits, and others. */
+/* Numbers that would do without their high bits, and others. */
 static void large_numbers(void)
 {
     const uint64_t large[] = {97, 255, 256, 257, 65536, 4294967296u, 4294967297u,
@@ -488,7 +488,7 @@ static void several_causes(void)
     run("one automatic pick with size 97");
 }
 
-/* A page, to be read only or also written. */
+/* Lets a page be only read, or also written. */
 static void protect(void *page, bool writable)
 {
     if (mprotect(page, 4096, writable ? PROT_READ | PROT_WRITE : PROT_READ) != 0) {
@@ -515,8 +515,8 @@ static void check_number(const char *name, uint64_t number, uint64_t wanted)
     check(name, number == wanted);
 }
 
-/* Four vertices in pages of their own: a buffer that is written while it is read
-   only ends the program. */
+/* Four vertices in pages of their own: writing to a buffer whose page may only
+   be read ends the program. */
 static void read_only_sessions(void)
 {
     enum { LENT = 5 };
@@ -601,8 +601,8 @@ static void long_list(void)
     printf("ok   long list\n");
 }
 
-/* The inverse of all linked vertices from the first on, with all weights 1: it
-   has (-1)^(j-i) above the diagonal. */
+/* Expects the inverse of the vertices from first on, all adjacent and with all
+   weights 1: it has (-1)^(j-i) above the diagonal. */
 static void expect_largest(unsigned smaller, unsigned larger, unsigned first)
 {
     static uint16_t inverse[SASZVIGOM_MAX_VERTICES * SASZVIGOM_MAX_VERTICES];

@@ -5,8 +5,8 @@
 #include <stdlib.h>
 #include <string.h>
 
-/* What the stack of a small thread has in all. The sanitizers put frames of
-   their own on it, between the library and memset. */
+/* The whole stack of a small thread. The sanitizers put frames of their own on
+   it, between the library and memset. */
 #ifdef __SANITIZE_ADDRESS__
 #define STACK_KIB 144
 #else

@@ -15,18 +15,18 @@ extern size_t cases;
 void run(const char *name);
 
 /* Sets up the opening of a graph without edges and with weights 1, in buffers
-   that are longer than needed by an odd number of bytes. What they hold else is
+   that are longer than needed by an odd number of bytes. What else they hold is
    arbitrary. There is no list of calls, and no sheet. */
 void set_graph(size_t n);
 
-/* The same with the edges given as in "01 12". */
+/* set_graph, with the edges given as in "01 12". */
 void set_edges(size_t n, const char *edges);
 
-/* Makes the buffers as long as the vertices need. */
+/* Makes the buffers just as long as the vertices need. */
 void set_lengths_as_needed(void);
 
-/* Stores any word, also one that is no residue, which saszvigom_store_word would
-   refuse. */
+/* Stores any word, even one that is not a residue, which saszvigom_store_word
+   would refuse. */
 void store_any(uint8_t *words, size_t index, uint16_t word);
 
 void set_cell(size_t i, size_t j, uint8_t value);
@@ -41,7 +41,7 @@ void expect_nothing_written(uint64_t number);
 void expect_refusal(unsigned cause, unsigned place);
 
 /* Runs something on a thread with a small stack, 128 KiB in all, and 144 with
-   sanitizers. Where that is too small the program ends by a signal, and the line
+   sanitizers. If that is too small, the program ends by a signal, and the line
    printed first is its last. */
 void run_on_small_stack(void *(*work)(void *));
 

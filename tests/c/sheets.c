@@ -60,7 +60,7 @@ static void expect_edge(size_t i, size_t j)
     expected.number += 1u << 16;
 }
 
-/* Expects the draws of a seed, one state after the other. */
+/* Expects the draws of a seed, one state after another. */
 static void expect_draws(size_t count, uint32_t seed)
 {
     uint64_t state = seed;
@@ -109,7 +109,8 @@ static void good_sheets(void)
     run("the sheet of document 01, buffers as long as needed");
 }
 
-/* A sheet of 96 vertices, all linked, without its end; the length. */
+/* Sets up a sheet of 96 vertices, all adjacent, without its end; returns its
+   length. */
 static size_t set_largest_sheet(void)
 {
     size_t length = 7;

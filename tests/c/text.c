@@ -112,7 +112,8 @@ static void texts(void)
     check_text("largest kind", saszvigom_kind_text((enum saszvigom_kind)~0u), "unknown");
 }
 
-/* Whether n vertices have no weight at an index, and the outputs are left. */
+/* Tells whether n vertices have no weight at an index, and the outputs are
+   left. */
 static bool no_vertices(uint64_t n, uint64_t index)
 {
     unsigned i = 77, j = 78;
@@ -158,7 +159,8 @@ static void indices(void)
     }
 }
 
-/* The number of a fault, as it is today and as it is announced. */
+/* Return the number of a fault in the present layout, and in the announced
+   one. */
 static uint64_t fault_now(unsigned n, unsigned i, unsigned j)
 {
     return 3 | (uint64_t)(i * n + j) << 16;
@@ -186,7 +188,8 @@ static void places_of_faults(void)
     check("column of no vertices", saszvigom_fault_column(0x90003, 0) == 0);
 }
 
-/* What opening refuses of a table of three vertices, and the fault. */
+/* Checks the place at which opening refuses a table of three vertices, and the
+   fault. */
 static void check_fault(const char *what, const uint8_t table[9], unsigned i, unsigned j,
                         enum saszvigom_fault fault)
 {
@@ -316,7 +319,7 @@ static const struct {
     {UINT64_MAX, UINT64_MAX, LIST, "no answer: both a cause and a kind"},
 };
 
-/* Every line into room of every size, with a byte after it that stays. */
+/* Writes every line into room of every size, with a byte after it that stays. */
 static void explanations(void)
 {
     for (size_t k = 0; k < COUNT(lines); k++) {
@@ -356,7 +359,7 @@ static uint8_t *bytes(size_t length)
     return made;
 }
 
-/* n vertices, all adjacent, with all weights 1. */
+/* Makes n vertices, all adjacent, with all weights 1. */
 static struct lent lend(size_t n)
 {
     struct lent lent = {n, SASZVIGOM_ADJACENCY_BYTES(n), SASZVIGOM_WEIGHTS_BYTES(n), NULL, NULL};
@@ -376,7 +379,7 @@ static void give_back(const struct lent *lent)
     free(lent->weights);
 }
 
-/* What opening returns for it. */
+/* Returns what opening returns for a graph. */
 static uint64_t opened(const struct lent *lent)
 {
     static uint8_t inverse[SASZVIGOM_INVERSE_BYTES(96)], sequence[SASZVIGOM_SEQUENCE_BYTES(96)],
@@ -386,7 +389,7 @@ static uint64_t opened(const struct lent *lent)
                           witness, sizeof witness, work, sizeof work);
 }
 
-/* The line of a number with the graph at hand. */
+/* Returns the line of a number, explained with a graph. */
 static const char *line_with(const struct lent *lent, uint64_t number)
 {
     static char text[SASZVIGOM_LINE_BYTES];
@@ -398,8 +401,8 @@ static const char *line_with(const struct lent *lent, uint64_t number)
     return text;
 }
 
-/* With no buffers, short ones, or only the other one, the line is that of the
-   number alone. */
+/* Checks that with no buffers, short ones, or only the other one, the line is
+   that of the number alone. */
 static void check_without(const struct lent *lent, uint64_t number)
 {
     char alone[SASZVIGOM_LINE_BYTES];
@@ -465,8 +468,9 @@ static void weights_at_fault(void)
 }
 
 /* Sets a byte of a graph that is in order, and the byte across the diagonal.
-   Opening must be refused at row i and column j, and the line go on so; also for a
-   number of the announced layout, which goes on so without the graph. */
+   Opening must be refused at row i and column j, and the line must go on with the
+   text `with`; so must the line of a number of the announced layout. If the graph
+   does not show the fault, the latter goes on with the text `alone`. */
 static void check_byte(const struct lent *lent, unsigned i, unsigned j, uint8_t byte,
                        uint8_t across, const char *with, enum saszvigom_fault fault,
                        const char *alone)
@@ -485,7 +489,7 @@ static void check_byte(const struct lent *lent, unsigned i, unsigned j, uint8_t 
     check_without(lent, number);
     check_without(lent, later);
 
-    /* In order since, and with another fault since. */
+    /* The byte is in order by now, or has another fault by now. */
     (void)snprintf(expected, sizeof expected,
                    "refused: the adjacency byte of row %u and column %u %s (cause 3)", i, j, alone);
     lent->adjacency[i * n + j] = lent->adjacency[j * n + i] = i != j;

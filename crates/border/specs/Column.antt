@@ -24,7 +24,7 @@ pub record Bordered (p n : ℕ) (t v : List ℕ) (a : ℕ) (x : List ℕ) : Type
   pub minus : Congruent p (vector x a + 1) 0
   pub rest : (k : ℕ) → k < n → k ≢ a → Congruent p (vector x k) (apply n (table n t) (vector v) k)
 
--- where v is column a of A
+-- x borders T if v is column a of A
 pub border-of : {p n a : ℕ} {t v x : List ℕ} {A : Matrix} → Bordered p n t v a x → ((k : ℕ) → k < n → Congruent p (vector v k) (A k a))
     → Border p n A (table n t) a (vector x)
 border-of {p} {n} {a} {t} {v} {A = A} B h = record {

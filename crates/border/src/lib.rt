@@ -1,4 +1,4 @@
-// What borders the inverse of a skew matrix on a set of indices when one more is added: the inverse applied to the index's column.
+// The column that borders the inverse of a skew matrix on a set of indices when one is added: the inverse applied to that index's column.
 use residue::Residue;
 ghost use mathlib.Core.Path.{_≡_};
 ghost use Prim.Native.Nat.{_*_, _%_, _≤_, _<_};
@@ -10,8 +10,7 @@ ghost use Rattle.residue.specs.Modulus.{modulus};
 ghost use Rattle.skew.specs.Inverse.{apply};
 ghost use Rattle.border.specs.Column.{Bordered};
 
-// The sum of the products of two lists of as many words, at most 96, reduced once: the only product of this crate, in 64 bits. For proved
-// callers.
+// Returns the sum of the products of u and v, at most 96 words each, reduced once. Every product of this crate is formed here, in 64 bits.
 pub fn dot(u: &[u16], v: &[u16]) -> u16
     requires { ⌜ (length (now u) ≡ length (now v)) × (length (now u) ≤ 96) ⌝ }
     ensures { λ r. ⌜ r ≡ sum (length (now (u .entry))) (λ k. vector (now (u .entry)) k * vector (now (v .entry)) k) % modulus ⌝ }
@@ -25,7 +24,7 @@ pub fn dot(u: &[u16], v: &[u16]) -> u16
     Residue::make(total).value
 }
 
-// x is T v, reduced.
+// Sets x to T v, reduced.
 fn image(t: &[u16], n: usize, v: &[u16], x: &mut [u16])
     requires { ⌜ Square n (now t) × (length (now v) ≡ n) × (length (now x) ≡ n) ⌝ }
     ensures { λ _.
@@ -41,7 +40,7 @@ fn image(t: &[u16], n: usize, v: &[u16], x: &mut [u16])
     }
 }
 
-// x is T v, reduced, but -1 at a: with the column of a as v, what borders the inverse T when a is added to its set. For proved callers.
+// Sets x to T v, reduced, but to -1 at a. If v is the column of a, this borders the inverse T when a is added to its set.
 pub fn border(t: &[u16], n: usize, v: &[u16], a: usize, x: &mut [u16])
     requires { ⌜ Square n (now t) × (length (now v) ≡ n) × (a < n) × (length (now x) ≡ n) ⌝ }
     ensures { λ _. ⌜ Bordered modulus n (now (t .entry)) (now (v .entry)) a (now (x .exit)) ⌝ }

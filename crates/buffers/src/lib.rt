@@ -1,10 +1,10 @@
-// The first words or bytes of a buffer that are filled with one value, and bytes that are copied.
+// Fills the first words or bytes of a buffer with one value, and copies bytes.
 ghost use mathlib.Core.Path.{_≡_};
 ghost use mathlib.Core.List.{_++_};
 ghost use Prim.Native.Nat.{_≤_};
 ghost use lib.ListN.{length, drop, replicate};
 
-// So many words v. For proved callers.
+// Sets the first count words to v.
 pub fn fill_words(words: &mut [u16], count: usize, v: u16)
     requires { ⌜ count ≤ length (now words) ⌝ }
     ensures { λ _. ⌜ now (words .exit) ≡ replicate count v ++ drop count (now (words .entry)) ⌝ }
@@ -16,7 +16,7 @@ pub fn fill_words(words: &mut [u16], count: usize, v: u16)
     }
 }
 
-// So many bytes v. For proved callers.
+// Sets the first count bytes to v.
 pub fn fill_bytes(bytes: &mut [u8], count: usize, v: u8)
     requires { ⌜ count ≤ length (now bytes) ⌝ }
     ensures { λ _. ⌜ now (bytes .exit) ≡ replicate count v ++ drop count (now (bytes .entry)) ⌝ }
@@ -28,7 +28,7 @@ pub fn fill_bytes(bytes: &mut [u8], count: usize, v: u8)
     }
 }
 
-// The bytes into as many others. For proved callers.
+// Copies bytes to target, which has the same length.
 pub fn copy_bytes(bytes: &[u8], target: &mut [u8])
     requires { ⌜ length (now target) ≡ length (now bytes) ⌝ }
     ensures { λ _. ⌜ now (target .exit) ≡ now (bytes .entry) ⌝ }

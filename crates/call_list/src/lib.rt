@@ -1,4 +1,4 @@
-// A list of calls as numbers, three a call: whether it is in order, and the call that three numbers are.
+// Lists of calls as numbers, three for each call: whether a list is in order, and which call three numbers are.
 use calls::Call;
 use refusals::Finding;
 use refusals::Refusal;
@@ -12,7 +12,7 @@ ghost use Rattle.refusals.specs.Meaning.{ruling-of, Finds};
 ghost use Rattle.calls.specs.Meaning.{call-is};
 ghost use Rattle.call_list.specs.List.{Unknown};
 
-// The index of the first call that is of no kind.
+// Finds the first of count calls whose call-kind is unknown.
 fn first_unknown(list: &[u64], count: usize) -> Finding
     requires { ⌜ 3 * count ≤ length (now list) ⌝ }
     ensures { λ r. ⌜ Finds count (Unknown (now (list .entry))) r ⌝ }
@@ -31,14 +31,14 @@ fn first_unknown(list: &[u64], count: usize) -> Finding
     Finding::Absent
 }
 
-// An index as a place of 16 bits.
+// Returns the index i as a place of 16 bits: 65535 if it is greater.
 fn place(i: usize) -> usize
     ensures { λ r. ⌜ r ≡ place-of i ⌝ }
 {
     if i < 65535 { i } else { 65535 }
 }
 
-// Judges whether every call is of a kind, and the list ends with a whole call.
+// Judges whether every call in list has a known call-kind, and the list ends with a whole call.
 pub fn judge(list: &[u64]) -> Ruling
     ensures { λ r. ⌜ ruling-of r ≡ judge (list-causes (now (list .entry))) ⌝ }
 {
@@ -54,7 +54,7 @@ pub fn judge(list: &[u64]) -> Ruling
     Ruling::Accepted
 }
 
-// Returns the call of a kind, with the two vertices that a hand pick looks at.
+// Returns the call of kind; only a pick uses a and b.
 pub fn call(kind: u64, a: usize, b: usize) -> Call
     ensures { λ r. ⌜ call-is r ≡ call-of kind a b ⌝ }
 {

@@ -1,4 +1,4 @@
--- The bytes of a sequence with a pair more and with a pair less. Assumes nothing.
+-- The bytes of a sequence with one pair more and with one pair less. Assumes nothing.
 use mathlib.Core.Path.{_≡_, sym, ap, _∙_}
 use mathlib.Core.List.{List, [], _∷_, _++_, append-assoc}
 use Prim.Native.Nat.{ℕ, suc, _+_, _-_, _≤_}
@@ -8,7 +8,7 @@ use lib.Seq.{set-at, append-snoc}
 use Rattle.matching.specs.Pairs.{Pair, Pairs, unused, bytes, sequence}
 use Rattle.laws.specs.Sequence.{length-bytes, newest}
 
--- two values after a front of k
+-- two values set after the first k
 pub two-set : (front : List ℕ) (k x y u v : ℕ) (rest : List ℕ) → length front ≡ k → set (set (front ++ x ∷ y ∷ rest) k u) (k + 1) v ≡ front ++ u ∷ v ∷ rest
 two-set front k x y u v rest e =
     ap (λ l. set l (k + 1) v) (set-at front x (y ∷ rest) u k e)

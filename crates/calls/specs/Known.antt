@@ -36,18 +36,18 @@ use Rattle.calls.specs.Meaning.{answer-of}
 use Rattle.calls.specs.Bytes.{bytes-appended}
 use Rattle.calls.specs.declared.Reply.{Reply}
 
--- the session is sound, and the marks are those of the vertices left
+-- the session is sound, and the marks are those of the unmatched vertices
 pub record Known (n made : ℕ) (adjacency weights inverse sequence marks : List ℕ) : Type 0 where
   pub sound : session-ruling modulus (state n made adjacency weights inverse sequence) ≡ accepted
   pub left : Left n sequence made marks
 
--- what the call leaves is what the definition says, and it is known again
+-- the call does what the definition says, and the marks are those of the vertices then unmatched
 pub record Called (c : Call) (n made : ℕ) (adjacency weights inverse sequence : List ℕ) (r : Reply) (inverse′ sequence′ marks′ : List ℕ) : Type 0 where
   pub handled : Handles modulus-prime (state n made adjacency weights inverse sequence) c (answer-of (r .answer))
       (state n (r .made) adjacency weights inverse′ sequence′)
   pub left : Left n sequence′ (r .made) marks′
 
--- the same where the weights are not read: there are such weights, and it is so for all of them
+-- the same for a call that does not read the weights: some weights make the session known, and what the call does holds for all of them
 abbrev pub KnownFor : (n made : ℕ) (adjacency inverse sequence marks : List ℕ) → Type 0
 KnownFor n made adjacency inverse sequence marks = (weights : List ℕ) × Known n made adjacency weights inverse sequence marks
 
@@ -61,7 +61,7 @@ pub same-state : (n : ℕ) (adjacency weights : List ℕ) {m m′ : ℕ} {i i′
     → state n m adjacency weights i q ≡ state n m′ adjacency weights i′ q′
 same-state n adjacency weights em ei eq = rw (em, ei, eq)
 
--- so a confirmation makes it known, or refuses every call
+-- a confirmation makes the session known, or refuses every call
 module _ {n made : ℕ} {adjacency weights inverse sequence marks : List ℕ} {v : Ruling} (C : Confirmed n made adjacency weights inverse sequence marks v) where
   pub known : v ≡ Accepted → Known n made adjacency weights inverse sequence marks
   known e = let ok : ruling-of v ≡ accepted = ap ruling-of e in record { sound = sym (C .ruled) ∙ ok; left = C .left ok }
@@ -114,7 +114,7 @@ module _ {n made : ℕ} {adjacency weights inverse sequence marks : List ℕ} (K
   pub valid : Valid modulus-prime g (in-play s) pairs
   valid = valid-on modulus-prime g (in-play s) made sequence (ok .1 .well-formed) (λ x l. refl)
 
-  -- the sequence is that of its pairs
+  -- the sequence is that of the session's pairs
   pub spelled : sequence ≡ spelling.sequence n pairs ++ drop n sequence
   spelled =
       sym (take-append-drop n sequence)
@@ -148,7 +148,7 @@ module _ {n made : ℕ} {adjacency weights inverse sequence marks : List ℕ} (K
     removed : Without (unmatched (in-play s) pairs) a b (unmatched (in-play s) (e ∷ pairs))
     removed = unmatched-without modulus-prime g (in-play s) pairs a b (A .named .2) (A .a-left) (A .b-left)
 
-    -- appended
+    -- the pair appended
     module _ {x : Pair} {inverse′ sequence′ marks′ : List ℕ} (W : Appended modulus n made a b inverse sequence marks x inverse′ sequence′ marks′) where
       spelled′ : sequence′ ≡ spelling.sequence n (e ∷ pairs) ++ drop n sequence
       spelled′ =
@@ -187,7 +187,7 @@ module _ {n made : ℕ} {adjacency weights inverse sequence marks : List ℕ} (K
           below : (e .smaller < n) × (e .larger < n)
           below = pair-below n a b (A .named .0) (A .named .1) e refl
 
-  -- a hand pick by its ruling
+  -- a pick, by its ruling
   pub pick-denied : {a b : ℕ} {r : Refusal} → refused r ≡ pick-ruling modulus-prime g (in-play s) pairs a b → Handles modulus-prime s (pick a b) (denied r) s
   pick-denied {a} {b} q = denies (pick a b) (rule-step modulus-prime g (in-play s) (pick-refused (sym q)))
 
@@ -198,7 +198,7 @@ module _ {n made : ℕ} {adjacency weights inverse sequence marks : List ℕ} (K
       → step modulus-prime g (in-play s) pairs (pick a b) ≡ record { answer = done (pair-of a b); pairs = pair-of a b ∷ pairs }
   pick-step a b q = rule-step modulus-prime g (in-play s) (picks (sym q))
 
-  -- an automatic pick by what is found
+  -- an automatic pick, by what is found
   in-set : (v : ℕ) → v < n → Marked marks v → v ∈ unmatched (in-play s) pairs
   in-set v l d = sym (K .left .same v l) ∙ marked-in marks v d
 
@@ -230,7 +230,7 @@ module _ {n made : ℕ} {adjacency weights inverse sequence marks : List ℕ} (K
       → step modulus-prime g (in-play s) pairs automatic ≡ record { answer = done (pair-of c r); pairs = pair-of c r ∷ pairs }
   automatic-step C R = rule-step modulus-prime g (in-play s) (picks-lowest (lowest-left C) R)
 
-  -- what a call leaves is known again
+  -- after a call the session is known again
   pub called-known : {c : Call} {r : Reply} {inverse′ sequence′ marks′ : List ℕ} → Called c n made adjacency weights inverse sequence r inverse′ sequence′ marks′
       → Known n (r .made) adjacency weights inverse′ sequence′ marks′
   called-known C = record { sound = handles-sound modulus-prime s (K .sound) (λ x l. refl) (C .handled); left = C .left }

@@ -1,4 +1,4 @@
--- The calls and the answers of this crate in the terms of the definitions. Assumes nothing.
+-- The calls and answers of this crate in the terms of the definitions. Assumes nothing.
 use Prim.Native.Nat.{ℕ, _^_, _<_}
 use Rattle.residue.specs.Modulus.{modulus-prime}
 use Rattle.matching.specs.Decision.{because}
@@ -27,7 +27,7 @@ abbrev pub AnswerFits : Answer → ℕ → Type 0
 AnswerFits (Done e) made = (e .smaller < 2 ^ 8) × (e .larger < 2 ^ 8) × (made < 2 ^ 8)
 AnswerFits (Denied r) made = r .place < 2 ^ 16
 
--- those of a call do
+-- the parts of a call's answer fit
 pub handles-fit : {s t : State} {c : model.Call} (a : Answer) → Handles modulus-prime s c (answer-of a) t → AnswerFits a (t .session .made)
 handles-fit (Done e) H = let h = handles-small modulus-prime H in (h .0, h .1, made-small modulus-prime H)
 handles-fit (Denied r) H = handles-small modulus-prime H .place-below

@@ -1,4 +1,4 @@
--- A take-back on a session that is known to be sound and has a pair. Assumes nothing.
+-- An undo on a session that is known to be sound and has a pair. Assumes nothing.
 use mathlib.Core.Path.{_≡_, refl, sym, ap, subst, _∙_}
 use mathlib.Core.Logic.{_≢_}
 use mathlib.Core.Bool.{Bool, true, false}
@@ -26,7 +26,7 @@ use Rattle.pairing.specs.Removed.{GrownTo, Removed}
 use Rattle.calls.specs.Bytes.{bytes-removed}
 use Rattle.calls.specs.Known.{Known, few, tables, sequence-fits, denies, words, valid, spelled, same-state}
 
--- no pair
+-- if there is no pair
 pub undo-none : {n made : ℕ} {adjacency weights inverse sequence marks : List ℕ} (K : Known n made adjacency weights inverse sequence marks) → made ≡ 0
     → Handles modulus-prime (state n made adjacency weights inverse sequence) undo (denied (because 11 0)) (state n made adjacency weights inverse sequence)
 unfolding pairs-on
@@ -86,7 +86,7 @@ module _ {n k : ℕ} {adjacency weights inverse sequence marks : List ℕ} (K : 
     grown : GrownTo modulus g (unmatched (in-play s) earlier) (take (n * n) inverse) r (R .words)
     grown = R .grows .grown (unmatched (in-play s) earlier) (unmatched (in-play s) (e ∷ earlier)) removed (rw split at (words K))
 
-    -- no inverse for the vertices then left
+    -- if there is no inverse for the vertices then unmatched
     module _ (q : r ≡ false) where
       inverse-same : inverse′ ≡ inverse
       inverse-same = R .inverse-is ∙ ap (λ w. onto w inverse) (R .grows .same q) ∙ onto-front-same (n * n) inverse (tables K .entries)
@@ -99,7 +99,7 @@ module _ {n k : ℕ} {adjacency weights inverse sequence marks : List ℕ} (K : 
       pub denied-left : Left n sequence′ (suc k) marks′
       denied-left = rw (R .sequence-same q, R .marks-same q) (K .left)
 
-    -- the newest pair is gone
+    -- if the newest pair is removed
     module _ (q : r ≡ true) where
       spelled′ : sequence′ ≡ spelling.sequence n earlier ++ drop n sequence
       spelled′ =
@@ -135,7 +135,7 @@ module _ {n k : ℕ} {adjacency weights inverse sequence marks : List ℕ} (K : 
             (fitting .smaller-left) (fitting .larger-left) (λ u l. rw split at (K .left .same u l)) v h);
       }
 
--- the same, where the number of pairs is not 0
+-- the same, if the number of pairs made is not 0
 module _ {n made : ℕ} {adjacency weights inverse sequence marks : List ℕ} (K : Known n made adjacency weights inverse sequence marks) (some : made ≢ 0) where
   abbrev less : ℕ
   less = made - 1

@@ -1,4 +1,5 @@
-// The session calls on a session that is known to be sound: what the plain model answers, and what it writes. The vertices left are marked.
+// The session calls on a session that is known to be sound: what the plain model answers, and what it writes. Unmatched vertices are
+// marked.
 use pairing::Pair;
 use refusals::Finding;
 use refusals::Refusal;
@@ -10,7 +11,7 @@ ghost use Rattle.matching.specs.Host.{answer-number};
 ghost use Rattle.calls.specs.Meaning.{call-is, answer-of, AnswerFits};
 ghost use Rattle.calls.specs.Known.{Known, Called, KnownFor, CalledFor};
 
-// A session call that changes the pairs: hand pick of two vertices, automatic pick, take-back.
+// A session call that changes the pairs: a pick of two vertices, an automatic pick, or an undo.
 pub enum Call {
     Pick(usize, usize),
     Automatic,
@@ -29,7 +30,7 @@ pub struct Reply {
     pub answer: Answer,
 }
 
-// The number that the host is answered, with the pairs made after the call. For proved callers.
+// Returns the number that answers the host, with the pairs made after the call.
 pub fn number(answer: Answer, made: usize) -> u64
     requires { ⌜ AnswerFits answer made ⌝ }
     ensures { λ r. ⌜ ((n : ℕ) → r ≡ answer-number (answer-of answer) (record { size = n; made = made })) ⌝ }
@@ -43,7 +44,7 @@ pub fn number(answer: Answer, made: usize) -> u64
     }
 }
 
-// Hand pick of a and b. For proved callers.
+// Picks a and b.
 pub fn pick(
     n: usize,
     made: usize,
@@ -74,7 +75,7 @@ pub fn pick(
     }
 }
 
-// Automatic pick: the lowest vertex left, with its lowest partner. For proved callers.
+// Picks the lowest unmatched vertex and its lowest partner.
 pub fn automatic(
     n: usize,
     made: usize,
@@ -110,7 +111,7 @@ pub fn automatic(
     }
 }
 
-// Take-back: the newest pair is removed. For proved callers.
+// Removes the newest pair.
 pub fn undo(
     n: usize,
     made: usize,

@@ -1,4 +1,4 @@
--- Laws of the faults of the adjacency table's cells, and of the first of them. Assumes nothing.
+-- Laws of the faults of the adjacency table's cells, and of the first fault. Assumes nothing.
 use mathlib.Core.Path.{_≡_, sym, ap, _∙_}
 use mathlib.Core.Logic.{_≢_}
 use mathlib.Core.List.{List, []}
@@ -18,7 +18,7 @@ use Rattle.checks.specs.declared.Fault.{Fault}
 use Rattle.checks.specs.declared.Cells.{Cells}
 use Rattle.checks.specs.declared.Cells.the-variants as variants
 
--- by the indices of the cell and of its mirror
+-- the fault by the indices of the cell and of its mirror
 pub fault-at : (g : Graph) (i j x y : ℕ) → x ≡ i * g .n + j → y ≡ j * g .n + i → cell-fault (getD (g .adjacency) x 0) (getD (g .adjacency) y 0) i j ≡ fault g i j
 fault-at g i j x y ex ey = rw (ex, ey) (sym (fault-of-cell g i j))
 
@@ -30,7 +30,7 @@ module _ (g : Graph) where
   abbrev pub RowsPassed : ℕ → Type 0
   RowsPassed i = (k : ℕ) → k < i → (l : ℕ) → k ≤ l → l < g .n → fault g k l ≡ 0
 
-  -- then no cell of these rows and of the next, up to a column before which it has no fault from the diagonal on, has one
+  -- then no cell of these rows has a fault, nor has a cell of row i before column j, if row i has none from the diagonal up to column j
   pub passed : (i j : ℕ) → j ≤ g .n → i * g .n + j ≤ g .n * g .n → RowsPassed i → ((l : ℕ) → i ≤ l → l < j → fault g i l ≡ 0)
       → Every (i * g .n + j) (λ x. ¬ Faulty g x)
   passed i j hj below rows row x l d = d (go (decLt (x / g .n) i) (decLt (x % g .n) (x / g .n)))
@@ -68,7 +68,7 @@ module _ (g : Graph) where
   unfolding bad-cell
   cells-absent rows = found-absent (first-faulty g) .1 (λ x l. passed (g .n) 0 (omega arith) (omega arith) rows (λ l a b. absurd (omega arith)) x (omega arith))
 
-  -- a row's scan after the rows before it
+  -- a fault that is the first of its row is the first of all, if the rows before have none
   pub first-in-row : (i : ℕ) → i < g .n → RowsPassed i → (f : Fault) → FaultInRow g i f → FirstFault g f
   first-in-row i hi rows f s = record {
     row = omega (arith, s .row);
@@ -84,7 +84,7 @@ module _ (g : Graph) where
       go (yes e) = rw e (row l (omega arith) c)
       go (no d) = rows k (omega arith) l b c
 
--- the weights have no part in it
+-- the weights do not matter
 pub whatever-weights : (n : ℕ) (adjacency : List ℕ) (r : Cells) → Located (over n adjacency []) r → (weights : List ℕ) → Located (over n adjacency weights) r
 unfolding bad-cell fault
 whatever-weights n adjacency variants.Faultless h weights = h

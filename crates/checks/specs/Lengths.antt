@@ -1,4 +1,4 @@
--- Laws of the size and of the lengths of the lent buffers. Assumes nothing.
+-- Laws of the number of vertices and of the lengths of the lent buffers. Assumes nothing.
 use mathlib.Core.Path.{_≡_, refl, ap, _∙_}
 use mathlib.Core.List.{List, [], _∷_, _++_}
 use Prim.Native.Nat.{ℕ, _*_, _≤_, _<_}
@@ -33,7 +33,7 @@ is-short length needed number later l = choose-yes (decLt length needed) (at num
 pub is-long : (length needed number : ℕ) (later : Finding) → needed ≤ length → choose (decLt length needed) (at number) later ≡ later
 is-long length needed number later l = choose-no (decLt length needed) (at number) later (λ h. omega arith)
 
--- the size, and the buffers that are always lent, case by case
+-- the number of vertices, and the buffers that are always lent, case by case
 module _ (n adjacency weights inverse sequence : ℕ) where
   abbrev pub always : List Lent
   always = lent-always n adjacency weights inverse sequence
@@ -71,7 +71,7 @@ module _ (n adjacency weights inverse sequence : ℕ) where
 abbrev pub short-ruling : Finding → Ruling
 short-ruling f = unless f 2 accepted
 
--- the buffers lent to opening alone, case by case, and what comes after them
+-- the buffers that only opening is lent, case by case, and what comes after them
 module _ (n witness work : ℕ) where
   pub short-witness : witness < n → judge (too-short (lent-besides n witness work) ∷ []) ≡ refused (because 2 5)
   short-witness h = ap short-ruling (is-short witness n 5 _ h)
@@ -89,7 +89,7 @@ short-then buffers later = go (first-short buffers)
     go absent = refl
     go (at x) = refl
 
--- the buffers of a first list, and those after them: a cause found among the first is that of all, and else the others are looked at
+-- the buffers of a first list, and those after them: a cause found among the first is that of all; else the others are looked at
 module _ (n : ℕ) (a b : List Lent) (later : List Cause) where
   pub lengths-refused : (r : Refusal) → judge (too-large n ∷ too-short a ∷ []) ≡ refused r → judge (too-large n ∷ too-short (a ++ b) ∷ later) ≡ refused r
   lengths-refused r e = rw (short-append a b) (go (when (decLt largest n) 0) (first-short a) e)

@@ -15,7 +15,7 @@ abbrev pub then : decision.Ruling → decision.Ruling → decision.Ruling
 then accepted v = v
 then (refused r) v = refused r
 
--- what the scan of one row from the diagonal on says
+-- what the scan of one row finds, from the diagonal on
 pub record FaultInRow (g : Graph) (i : ℕ) (f : Fault) : Type 0 where
   pub row : f .row ≡ i
   pub column : f .column < g .n
@@ -27,7 +27,7 @@ abbrev pub InRow : Graph → ℕ → Cells → Type 0
 InRow g i Faultless = (l : ℕ) → i ≤ l → l < g .n → fault g i l ≡ 0
 InRow g i (Faulty f) = FaultInRow g i f
 
--- the first cell with a fault is that of cause 3, and the fault is the cell's
+-- the first faulty cell is that of cause 3, and the fault is the cell's
 pub record FirstFault (g : Graph) (f : Fault) : Type 0 where
   pub row : f .row < g .n
   pub column : f .column < g .n

@@ -1,4 +1,4 @@
--- Laws of the causes 3 and 4, and of 1 to 4 as session calls and opening look at them, case by case. Assumes nothing.
+-- Laws of causes 3 and 4, and of causes 1 to 4 as session calls and opening look at them, case by case. Assumes nothing.
 use mathlib.Core.Path.{_≡_, sym, _∙_}
 use mathlib.Core.List.{List, [], _∷_}
 use Prim.Native.Nat.{ℕ, _*_, _≤_}
@@ -29,7 +29,7 @@ module _ (p : ℕ) (g : Graph) where
     abbrev pub before : List Lent
     before = lent-always (g .n) (length (g .adjacency)) (length (g .weights)) inverse sequence
 
-    -- what is judged of the size and the first lengths
+    -- the ruling on the number of vertices and the first lengths
     abbrev pub lengths-judged : Ruling
     lengths-judged = judge (too-large (g .n) ∷ too-short before ∷ [])
 
@@ -39,14 +39,14 @@ module _ (p : ℕ) (g : Graph) where
         let judged = lengths-accepted (g .n) before [] graph-causes (sym e) in
         (judged .0, judged .1 .0, judged .1 .1 .0)
 
-    -- a session call's 1 to 4
+    -- causes 1 to 4 of a session call
     pub session-lengths : (r : Refusal) → refused r ≡ lengths-judged → refused r ≡ judge (opening-causes p g before)
     session-lengths r e = sym (lengths-refused (g .n) before [] graph-causes r (sym e))
 
     pub session-rest : accepted ≡ lengths-judged → (c : Ruling) → c ≡ judge graph-causes → c ≡ judge (opening-causes p g before)
     session-rest e c r = r ∙ sym (lengths-accepted (g .n) before [] graph-causes (sym e) .2)
 
-    -- opening's
+    -- causes 1 to 4 of opening
     module _ (witness work : ℕ) where
       abbrev pub after : List Lent
       after = lent-besides (g .n) witness work

@@ -1,4 +1,4 @@
--- How many weights a graph needs, and laws of the first one out of range. Assumes nothing.
+-- How many weights a graph needs, and laws of the first weight out of range. Assumes nothing.
 use mathlib.Core.Path.{_≡_}
 use Prim.Native.Nat.{ℕ, _*_, _-_, _≤_, _<_}
 use native.Mathlib.Nat.{mul-le-mul}
@@ -23,11 +23,11 @@ pub pair-count-most : (n m : ℕ) → n ≤ m → pair-count n ≤ pair-count m
 pair-count-most n m l =
     let k : n * (n - 1) ≤ m * (m - 1) = mul-le-mul {n₁ = n} {m₁ = n - 1} {n₂ = m} {m₂ = m - 1} l (omega arith) in omega arith
 
--- the largest graph has 96 * 95 / 2 pairs of vertices
+-- the largest graph has 96 * 95 / 2 weights
 pub pair-count-small : (n : ℕ) → n ≤ largest → pair-count n ≤ 4560
 pair-count-small n l = pair-count-most n 96 l
 
--- one for each pair of vertices, and none where there are too many vertices
+-- one weight for each two vertices, and none if there are too many vertices
 abbrev pub needed : ℕ → ℕ
 needed n = choose (decLt largest n) 0 (pair-count n)
 
@@ -37,7 +37,7 @@ needed-none n h = choose-yes (decLt largest n) 0 (pair-count n) h
 pub needed-all : (n : ℕ) → n ≤ largest → needed n ≡ pair-count n
 needed-all n h = choose-no (decLt largest n) 0 (pair-count n) (λ l. omega arith)
 
--- no more than those of 96 vertices
+-- at most the weights of 96 vertices
 pub needed-small : (n : ℕ) → needed n ≤ 4560
 needed-small n = go (decLt largest n)
   where

@@ -1,4 +1,4 @@
-// The check of a graph as it is lent: the causes 1 to 4 of document 01's table with their places, in that order.
+// Checks a lent graph: causes 1 to 4 of document 01's table with their places, in that order.
 ghost use mathlib.Core.Path.{_≡_};
 ghost use mathlib.Core.Bool.{true};
 ghost use mathlib.Core.List.{List, [], _∷_, _++_};
@@ -19,20 +19,21 @@ use residue::Residue;
 // The most vertices that a graph may have.
 pub const LARGEST: usize = 96;
 
-// A cell of the adjacency table with a fault: 1 not 0 or 1, 2 on the diagonal and not 0, 3 unequal to its mirror.
+// A faulty cell of the adjacency table. Its kind is 1 if it is not 0 or 1, 2 if it is not 0 on the diagonal, 3 if it differs from its
+// mirror.
 pub struct Fault {
     pub row: usize,
     pub column: usize,
     pub kind: u8,
 }
 
-// The first cell with a fault, or that there is none.
+// The first faulty cell, or none.
 pub enum Cells {
     Faultless,
     Faulty(Fault),
 }
 
-// How many pairs of vertices there are.
+// Returns n (n - 1) / 2, one for each two vertices.
 fn pair_count(n: usize) -> usize
     requires { ⌜ n ≤ largest ⌝ }
     ensures { λ r. ⌜ r ≡ pair-count n ⌝ }
@@ -43,7 +44,7 @@ fn pair_count(n: usize) -> usize
     n * (n - 1) / 2
 }
 
-// How many weights a graph needs: one for each pair of vertices, and none where there are too many vertices.
+// Returns how many weights a graph of n vertices needs: one for each two vertices, and 0 if n is above 96.
 pub fn weights_needed(n: usize) -> usize
     ensures { λ r. ⌜ r ≡ needed n ⌝ }
 {
@@ -53,8 +54,8 @@ pub fn weights_needed(n: usize) -> usize
     pair_count(n)
 }
 
-// The number of the first buffer that is too short, of those that opening and every session call are lent: 1 adjacency, 2 weights,
-// 3 inverse, 4 sequence.
+// Finds the first buffer that is too short for n vertices, of those that opening and every session call are lent: 1 adjacency, 2 weights, 3
+// inverse, 4 sequence. The arguments are their lengths.
 fn first_short(
     n: usize,
     adjacency: usize,
@@ -81,7 +82,7 @@ fn first_short(
     Finding::Absent
 }
 
-// Causes 1 and 2, for the size and the lengths of buffers 1 to 4.
+// Judges causes 1 and 2 by n and the lengths of buffers 1 to 4.
 pub fn judge_lengths(
     n: usize,
     adjacency: usize,
@@ -100,7 +101,7 @@ pub fn judge_lengths(
     }
 }
 
-// The fault of a cell, by its number; 0 for none.
+// Returns the kind of fault of a cell at row and column with its mirror, and 0 if it has none.
 fn cell_fault(cell: u8, mirror: u8, row: usize, column: usize) -> u8
     ensures { λ r. ⌜ r ≡ cell-fault cell mirror row column ⌝ }
 {
@@ -119,7 +120,7 @@ fn cell_fault(cell: u8, mirror: u8, row: usize, column: usize) -> u8
     3
 }
 
-// The first fault of a row from the diagonal on, whose index is start.
+// Finds the first fault of a row from the diagonal on; start is the index of the diagonal cell.
 fn row_fault(n: usize, adjacency: &[u8], row: usize, start: usize) -> Cells
     requires { ⌜ (n ≤ largest) × (n * n ≤ length (now adjacency)) × (row < n) × (start ≡ row * n + row) ⌝ }
     ensures { λ r. ⌜ InRow (over n (now (adjacency .entry)) []) row r ⌝ }
@@ -127,6 +128,7 @@ fn row_fault(n: usize, adjacency: &[u8], row: usize, start: usize) -> Cells
     let mut column = row;
     let mut index = start;
     let mut mirror = start;
+    // index is the cell at row and column, and mirror the cell at column and row.
     while column < n {
         let kind = cell_fault(adjacency[index], adjacency[mirror], row, column);
         if kind != 0 {
@@ -139,13 +141,14 @@ fn row_fault(n: usize, adjacency: &[u8], row: usize, start: usize) -> Cells
     Cells::Faultless
 }
 
-// The first fault, row by row. A cell left of the diagonal has one only if its mirror, which comes before it, has one.
+// Finds the first fault, row by row. A cell left of the diagonal has a fault only if its mirror, which comes earlier, has one.
 fn first_fault(n: usize, adjacency: &[u8]) -> Cells
     requires { ⌜ (n ≤ largest) × (n * n ≤ length (now adjacency)) ⌝ }
     ensures { λ r. ⌜ ((weights : List ℕ) → Located (over n (now (adjacency .entry)) weights) r) ⌝ }
 {
     let mut row = 0;
     let mut start = 0;
+    // start is the index of the diagonal cell of row.
     while row < n {
         if let Cells::Faulty(fault) = row_fault(n, adjacency, row, start) {
             return Cells::Faulty(fault);
@@ -156,7 +159,7 @@ fn first_fault(n: usize, adjacency: &[u8]) -> Cells
     Cells::Faultless
 }
 
-// 1 where a weight is 0 or not below the modulus, else 0.
+// Returns 1 if weight is 0 or not below the modulus, else 0.
 fn outside(weight: u16) -> u16
     ensures { λ r. ⌜ (r ≤ 1) × (r ≡ 0 → (0 < weight) × (weight < modulus)) ⌝ }
 {
@@ -170,7 +173,7 @@ fn outside(weight: u16) -> u16
     0
 }
 
-// Whether no weight is such a one. They are counted, so that the compiler takes several weights at once.
+// Tells whether every weight is in range. Counts instead of stopping early, so that the loop vectorizes.
 fn none_outside(weights: &[u16]) -> bool
     requires { ⌜ length (now weights) ≤ 4560 ⌝ }
     ensures { λ r.
@@ -190,7 +193,7 @@ fn none_outside(weights: &[u16]) -> bool
     false
 }
 
-// The first weight that is 0 or not below the modulus, of one for each pair of vertices.
+// Finds the first weight of n vertices that is 0 or not below the modulus.
 fn find_outside(n: usize, weights: &[u16]) -> Finding
     requires { ⌜ (n ≤ largest) × (pair-count n ≤ length (now weights)) ⌝ }
     ensures { λ r. ⌜ ((adjacency : List ℕ) → finding-of r ≡ bad-weight modulus (over n adjacency (now (weights .entry))) .finding) ⌝ }
@@ -210,7 +213,7 @@ fn find_outside(n: usize, weights: &[u16]) -> Finding
     Finding::Absent
 }
 
-// The same; a graph without one takes less time.
+// find_outside, with a shortcut if every weight is in range.
 fn first_outside(n: usize, weights: &[u16]) -> Finding
     requires { ⌜ (n ≤ largest) × (pair-count n ≤ length (now weights)) ⌝ }
     ensures { λ r. ⌜ ((adjacency : List ℕ) → finding-of r ≡ bad-weight modulus (over n adjacency (now (weights .entry))) .finding) ⌝ }
@@ -223,7 +226,7 @@ fn first_outside(n: usize, weights: &[u16]) -> Finding
     find_outside(n, weights)
 }
 
-// Causes 3 and 4, for tables that are long enough.
+// Judges causes 3 and 4, for tables that are long enough.
 fn judge_graph(n: usize, adjacency: &[u8], weights: &[u16]) -> Ruling
     requires { ⌜ (n ≤ largest) × (n * n ≤ length (now adjacency)) × (pair-count n ≤ length (now weights)) ⌝ }
     ensures { λ r.
@@ -240,7 +243,7 @@ fn judge_graph(n: usize, adjacency: &[u8], weights: &[u16]) -> Ruling
     Ruling::Accepted
 }
 
-// Cause 2, for the lengths of buffers 5 and 6.
+// Judges cause 2 by the lengths of buffers 5 and 6, which only opening is lent.
 fn judge_besides(n: usize, witness: usize, work: usize) -> Ruling
     requires { ⌜ n ≤ largest ⌝ }
     ensures { λ r. ⌜ ruling-of r ≡ judge (too-short (lent-besides n witness work) ∷ []) ⌝ }
@@ -254,7 +257,7 @@ fn judge_besides(n: usize, witness: usize, work: usize) -> Ruling
     Ruling::Accepted
 }
 
-// Causes 1 and 2 as opening looks at them, for the size and the lengths of buffers 1 to 6.
+// Judges causes 1 and 2 for opening, by n and the lengths of buffers 1 to 6.
 pub fn judge_room(
     n: usize,
     adjacency: usize,
@@ -274,7 +277,7 @@ pub fn judge_room(
     judge_besides(n, witness, work)
 }
 
-// The first of two rulings that is a refusal.
+// Returns a if it is a refusal, else b.
 fn earlier(a: Ruling, b: Ruling) -> Ruling
     ensures { λ r. ⌜ ruling-of r ≡ then (ruling-of a) (ruling-of b) ⌝ }
 {
@@ -284,7 +287,7 @@ fn earlier(a: Ruling, b: Ruling) -> Ruling
     }
 }
 
-// Causes 1 to 4 as a session call looks at them. The last two are the lengths of the other buffers lent to it.
+// Judges causes 1 to 4 for a session call; inverse and sequence are the lengths of these buffers.
 pub fn judge_session(
     n: usize,
     adjacency: &[u8],
@@ -310,7 +313,7 @@ pub fn judge_session(
     judge_graph(n, adjacency, weights)
 }
 
-// Causes 1 to 4 as opening looks at them. The last four are the lengths of the other buffers lent to it.
+// Judges causes 1 to 4 for opening; inverse, sequence, witness and work are the lengths of these buffers.
 pub fn judge_opening(
     n: usize,
     adjacency: &[u8],

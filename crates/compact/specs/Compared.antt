@@ -30,17 +30,17 @@ use Rattle.pivot.specs.Words.{Small, matrix}
 use Rattle.exchange.specs.Run.{Holds, word, word-diagonal, word-small, word-matrix}
 use Rattle.solve.specs.Solved.{Blank, filled-matrix, filled-below, word-below}
 
--- the k vertices before m that are marked, in ascending order
+-- the k marked vertices below m, in ascending order
 pub record Listing (m : ℕ) (marks vertices : List ℕ) (k : ℕ) : Type 0 where
   pub size : k ≡ count m (marked marks)
   pub elements : Listed m (marked marks) (vector vertices)
 
--- a list of all vertices below n that are marked, and of nothing else
+-- a list of all marked vertices below n, and of nothing else
 pub record Numbered (n : ℕ) (marks vertices : List ℕ) : Type 0 where
   pub size : length vertices ≡ count n (marked marks)
   pub elements : Listed n (marked marks) (vector vertices)
 
--- vertex m is written at the end, and counts where it is marked
+-- vertex m is written at the end, and counts if it is marked
 module _ {m : ℕ} {marks vertices : List ℕ} {k : ℕ} (X : Listing m marks vertices k) where
   pub listing-most : k ≤ m
   listing-most = omega (arith, X .size, count-most m (marked marks))
@@ -67,7 +67,7 @@ module _ {m : ℕ} {marks vertices : List ℕ} {k : ℕ} (X : Listing m marks ve
     elements = written l;
   }
 
--- the part that is listed of a list with others after it
+-- the listed part of a list with others after it
 module _ {m : ℕ} {marks vertices : List ℕ} {k : ℕ} (rest : List ℕ) (X : Listing m marks vertices k) (full : length vertices ≡ m) where
   pub part-within : k ≤ length (vertices ++ rest)
   part-within = omega (arith, listing-most X, length-append vertices rest)
@@ -158,7 +158,7 @@ module _ (n : ℕ) (inverse vertices t : List ℕ) (i : ℕ) where
 abbrev ClearAt : ℕ → ℕ → ℕ → Type 0
 ClearAt row column w = (row ≡ 0 → w ≡ 0) × (column ≡ 0 → w ≡ 0)
 
--- r is not 0 where it is not
+-- r is at most 1, and not 0 exactly if the word should be 0 and is not
 pub record Stray (row column w r : ℕ) : Type 0 where
   pub none : r ≡ 0 → ClearAt row column w
   pub some : r ≢ 0 → ¬ ClearAt row column w
@@ -172,7 +172,7 @@ pub record RowClear (words : List ℕ) (mark : ℕ) (marks : List ℕ) (m : ℕ)
 pub record AllClear (n : ℕ) (inverse marks : List ℕ) (m : ℕ) : Type 0 where
   pub at : (a b : ℕ) → a < m → b < n → ClearAt (vector marks a) (vector marks b) (table n inverse a b)
 
--- so many words of a row up to m are not 0 where they should be
+-- k is at most m, and not 0 exactly if a word of the row up to m should be 0 and is not
 pub record Strays (words : List ℕ) (mark : ℕ) (marks : List ℕ) (m k : ℕ) : Type 0 where
   pub none : k ≡ 0 → RowClear words mark marks m
   pub some : k ≢ 0 → ¬ RowClear words mark marks m
@@ -214,7 +214,7 @@ module _ (n : ℕ) (inverse marks : List ℕ) (a : ℕ) where
   pub clear-none : a < n → ¬ RowClear row (vector marks a) marks n → ¬ AllClear n inverse marks n
   clear-none h d X = d (record { at = λ b l. subst (λ (w : ℕ). ClearAt (vector marks a) (vector marks b) w) (sym (part-at inverse (a * n) n b l)) (X .at a b h l) })
 
--- the table is filled at the vertices listed, and all of them wait
+-- the table is filled for the listed vertices, and all of them wait
 module _ (g : Graph) {marks vertices : List ℕ} (N : Numbered (g .n) marks vertices) where
   abbrev n : ℕ
   n = g .n

@@ -1,5 +1,6 @@
-// Whether a buffer has the inverse for a set of vertices: it is solved again for these vertices alone, numbered in ascending order, and
-// compared word by word, which is exact both ways, since there is one inverse only. The set is a mark for each vertex, not 0 for those in it.
+// Tells whether a buffer has the inverse for a set of vertices: computes the inverse again for these vertices alone, numbered in ascending
+// order, and compares word by word. This is exact both ways, since there is only one inverse. The set is a mark for each vertex, not 0 if
+// it is in the set.
 use exchange::Outcome;
 ghost use mathlib.Core.Path.{_≡_};
 ghost use Prim.Native.Nat.{ℕ, _*_, _-_, _%_, _≤_, _<_};
@@ -14,13 +15,14 @@ ghost use Rattle.tutte.specs.Table.{Complete};
 ghost use Rattle.solve.specs.Solved.{Blank};
 ghost use Rattle.compact.specs.Compared.{Listing, Numbered, Comparing, CrossEqual, AllEqual, Stray, RowClear, AllClear};
 
-// Lists the vertices that are marked, in ascending order; how many they are.
+// Lists the marked vertices in ascending order, and returns how many they are.
 fn list(marks: &[u8], vertices: &mut [u8]) -> usize
     requires { ⌜ (length (now marks) ≤ 96) × (length (now vertices) ≡ length (now marks)) ⌝ }
     ensures { λ k. ⌜ Listing (length (now (marks .entry))) (now (marks .entry)) (now (vertices .exit)) k ⌝ }
 {
     let mut k = 0;
     let mut i = 0;
+    // The first k of vertices are the marked vertices below i.
     while i < marks.len() {
         vertices[k] = i as u8;
         if marks[i] != 0 {
@@ -31,7 +33,7 @@ fn list(marks: &[u8], vertices: &mut [u8]) -> usize
     k
 }
 
-// Whether the words in row a and column b, and in row b and column a, are a residue and its negative.
+// Tells whether the words of inverse at (a, b) and (b, a) are right and its negative.
 fn pair_equal(inverse: &[u16], n: usize, a: usize, b: usize, right: u16) -> bool
     requires { ⌜ (n ≤ 96) × (n * n ≤ length (now inverse)) × (a < n) × (b < n) × (right < modulus) ⌝ }
     ensures { λ r.
@@ -46,7 +48,7 @@ fn pair_equal(inverse: &[u16], n: usize, a: usize, b: usize, right: u16) -> bool
     true
 }
 
-// Whether row and column i of what a table holds, from the diagonal on, are those of the inverse at the vertices listed.
+// Tells whether row and column i of the matrix in t, from the diagonal on, are those of inverse at the listed vertices.
 fn cross_equal(inverse: &[u16], n: usize, vertices: &[u8], t: &[u64], i: usize) -> bool
     requires { ⌜ Comparing n (now inverse) (now vertices) (now t) × (i < length (now vertices)) ⌝ }
     ensures { λ r.
@@ -69,7 +71,7 @@ fn cross_equal(inverse: &[u16], n: usize, vertices: &[u8], t: &[u64], i: usize) 
     true
 }
 
-// Whether all of it is that of the inverse.
+// Tells whether the whole matrix in t is that of inverse at the listed vertices.
 fn all_equal(inverse: &[u16], n: usize, vertices: &[u8], t: &[u64]) -> bool
     requires { ⌜ Comparing n (now inverse) (now vertices) (now t) ⌝ }
     ensures { λ r.
@@ -86,7 +88,7 @@ fn all_equal(inverse: &[u16], n: usize, vertices: &[u8], t: &[u64]) -> bool
     true
 }
 
-// 1 where a word is not 0 and one of its two vertices is not marked, else 0.
+// Returns 1 if word is not 0 and the mark of its row or its column is 0, else 0.
 fn stray(row: u8, column: u8, word: u16) -> u16
     ensures { λ r. ⌜ Stray row column word r ⌝ }
 {
@@ -102,7 +104,7 @@ fn stray(row: u8, column: u8, word: u16) -> u16
     0
 }
 
-// Whether a row whose vertex has this mark has no such word. Words are counted, so that the compiler takes several at once.
+// Tells whether a row whose vertex has this mark has no stray word. Counts instead of stopping early, so that the loop vectorizes.
 fn row_clear(words: &[u16], mark: u8, marks: &[u8]) -> bool
     requires { ⌜ (length (now marks) ≤ 96) × (length (now words) ≡ length (now marks)) ⌝ }
     ensures { λ r. ⌜ Tells (RowClear (now (words .entry)) mark (now (marks .entry)) (length (now (marks .entry)))) r ⌝ }
@@ -119,7 +121,7 @@ fn row_clear(words: &[u16], mark: u8, marks: &[u8]) -> bool
     true
 }
 
-// Whether the rows and columns of the vertices that are not marked are 0.
+// Tells whether the rows and columns of the unmarked vertices are 0.
 fn all_clear(inverse: &[u16], n: usize, marks: &[u8]) -> bool
     requires { ⌜ (n ≤ 96) × (n * n ≤ length (now inverse)) × (length (now marks) ≡ n) ⌝ }
     ensures { λ r. ⌜ Tells (AllClear n (now (inverse .entry)) (now (marks .entry)) n) r ⌝ }
@@ -137,7 +139,7 @@ fn all_clear(inverse: &[u16], n: usize, marks: &[u8]) -> bool
     true
 }
 
-// Whether a buffer has the inverse, which is solved in a table of zeros.
+// Tells whether inverse is the inverse for the marked vertices, which is computed in t, a table of zeros.
 fn is_inverse_over(
     n: usize,
     adjacency: &[u8],
@@ -169,7 +171,7 @@ fn is_inverse_over(
     }
 }
 
-// The same, with a table for as many vertices as are listed: a small one takes less time to clear.
+// Calls is_inverse_over with a table of its own; a table for few vertices takes less time to clear.
 fn is_inverse_of(
     n: usize,
     adjacency: &[u8],
@@ -222,7 +224,7 @@ fn is_inverse_of(
     )
 }
 
-// Whether a buffer has the inverse for the vertices marked. For proved callers, who have accepted the graph.
+// Tells whether inverse is the inverse for the marked vertices. The graph must already have been checked.
 pub fn is_inverse(
     n: usize,
     adjacency: &[u8],

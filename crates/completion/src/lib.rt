@@ -2,11 +2,11 @@
 use calls::Answer;
 ghost use mathlib.Core.List.{List};
 ghost use Prim.Native.Nat.{ℕ};
-ghost use Rattle.matching.specs.Graph.{over};
+ghost use Rattle.matching.specs.Session.{state};
 ghost use Rattle.calls.specs.Known.{Known, KnownFor};
-ghost use Rattle.completion.specs.Completed.{Completed};
+ghost use Rattle.completion.specs.Completed.{CompletedFrom};
 
-// Makes automatic picks until one is refused, and says how many were accepted. For proved callers.
+// Makes automatic picks until one is refused, and returns how many were accepted.
 pub fn complete(
     n: usize,
     adjacency: &[u8],
@@ -18,9 +18,10 @@ pub fn complete(
     ensures { λ made.
         ⌜ ((weights : List ℕ)
         → Known n 0 (now (adjacency .entry)) weights (now (inverse .entry)) (now (sequence .entry)) (now (marks .entry))
-        → Completed (over n (now (adjacency .entry)) weights) made (now (sequence .exit))) ⌝ }
+        → CompletedFrom (state n 0 (now (adjacency .entry)) weights (now (inverse .entry)) (now (sequence .entry))) made (now (sequence .exit))) ⌝ }
 {
     let mut made = 0;
+    // made picks were accepted so far; each matches two more vertices, so the loop ends.
     loop {
         let reply = calls::automatic(n, made, adjacency, inverse, sequence, marks);
         let answer = reply.answer;

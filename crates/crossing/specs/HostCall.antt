@@ -22,12 +22,12 @@ use Rattle.crossing.specs.Needed.{needed-weights, needed-agree}
 use Rattle.crossing.specs.Steps.{step-same}
 use Rattle.crossing.specs.HostFits.{HostFits, needed-inverse, needed-state, table-length, ruling-same}
 
--- the first words of a table, so many of them, stored over bytes where a pair is answered
+-- the first `size` words of a table, stored over bytes if the answer is a pair
 abbrev pub stored : Answer → ℕ → (table bytes : List ℕ) → List ℕ
 stored (done e) size table bytes = onto (bytes-of 2 (take size table)) bytes
 stored (denied r) size table bytes = bytes
 
--- a call over lent words, where the inverse's bytes are `bytes`
+-- a call over lent words; `bytes` are the bytes of the inverse
 pub record HandlesOver (s : State) (c : Call) (bytes : List ℕ) (answer : ℕ) (bytes′ sequence′ : List ℕ) : Type 0 where
   pub given : Answer
   pub left : State
@@ -36,13 +36,13 @@ pub record HandlesOver (s : State) (c : Call) (bytes : List ℕ) (answer : ℕ) 
   pub stored : bytes′ ≡ stored given (length (s .inverse)) (left .inverse) bytes
   pub sequence : sequence′ ≡ left .sequence
 
--- what is left to show of a call over lent words
+-- what remains to be shown of a call over lent words
 module _ {s left : State} {c : Call} {a : Answer} (h : Handles modulus-prime s c a left) where
   pub answers : {given : Answer} {answer : ℕ} {bytes bytes′ : List ℕ} → a ≡ given → answer ≡ answer-number given (left .session)
       → bytes′ ≡ stored given (length (s .inverse)) (left .inverse) bytes → HandlesOver s c bytes answer bytes′ (left .sequence)
   answers {given} q n w = record { given = given; left = left; outcome = rw q at h; numbered = n; stored = w; sequence = refl }
 
--- a call over the words that the graph needs is one over all of the host's
+-- a call over the words that the graph needs is a call over all words of the host
 module _ (n made : ℕ) (adjacency weights inverse sequence : List ℕ) where
   abbrev host : State
   host = state n made adjacency weights inverse sequence
@@ -102,7 +102,7 @@ module _ (n made : ℕ) (adjacency weights inverse sequence : List ℕ) where
       rw (O .numbered, O .stored, O .sequence, table-length n made adjacency weights inverse sequence F)
       (handed (O .given) (O .left) (through B F (O .outcome)))
 
-  -- a refusal for the size or the lengths is the host's
+  -- a refusal for the number of vertices or the lengths is the host's
   pub host-refuses : (c : Call) {r : Refusal} → session-ruling modulus (unpacked-state first-edition host) ≡ refused r
       → HostHandles first-edition host c (answer-number (denied r) (host .session)) (handed-back host (answer-number (denied r) (host .session)) inverse sequence)
   host-refuses c {r} e = handed (denied r) host (refused-through c (unsound r e))

@@ -1,4 +1,5 @@
--- A session call's byte slices, judged by their lengths, and the words lent in their place: all that the graph needs. Assumes nothing.
+-- A session call's byte slices, judged by their lengths, and the words lent in their place: only those that the graph needs.
+-- Assumes nothing.
 use mathlib.Core.Path.{_≡_, sym, ap, _∙_}
 use mathlib.Core.List.{List, [], _∷_, _++_}
 use Prim.Native.Nat.{ℕ, _*_, _/_, _≤_}
@@ -22,7 +23,7 @@ use Rattle.soundness.specs.Besides.{lengths-first, more-parts}
 use Rattle.crossing.specs.Needed.{needed-weights, needed-agree, needed-counted, needed-fits}
 use Rattle.crossing.specs.Steps.{session-same}
 
--- the size and the lengths are in order
+-- the number of vertices and the lengths are in order
 pub record HostFits (s : State) : Type 0 where
   pub size : s .session .size ≤ largest
   pub fits : SessionFits s
@@ -43,14 +44,14 @@ pub record Needed (n : ℕ) (weights inverse : List ℕ) : Type 0 where
   pub weights-fit : 2 * needed n ≤ length weights
   pub inverse-fits : 2 * (n * n) ≤ length inverse
 
--- two arrays begin with the words that n vertices need of these bytes
+-- two arrays begin with the words of these bytes that n vertices need
 pub record Unpacked (n : ℕ) (weights inverse values table : List ℕ) : Type 0 where
   pub weights-room : needed n ≤ length values
   pub inverse-room : n * n ≤ length table
   pub weights-are : take (needed n) values ≡ needed-weights n weights
   pub inverse-are : take (n * n) table ≡ needed-inverse n inverse
 
--- so the parts that are lent of them have these words, k of them the weights
+-- so the lent parts of these arrays have these words, of which k are weights
 module _ {n : ℕ} {weights inverse values table : List ℕ} (U : Unpacked n weights inverse values table) where
   pub table-part : length (take (n * n) table) ≡ n * n
   table-part = length-take-le (n * n) table (U .inverse-room)
@@ -64,7 +65,7 @@ module _ {n : ℕ} {weights inverse values table : List ℕ} (U : Unpacked n wei
   pub values-are : {k : ℕ} → k ≡ needed n → take k values ≡ needed-weights n weights
   values-are e = ap (λ j. take j values) e ∙ U .weights-are
 
--- the words lent in the place of a host's bytes
+-- the words lent in place of the host's bytes
 abbrev pub needed-state : State → State
 needed-state s = record {
   session = s .session;
@@ -78,14 +79,14 @@ module _ (n made : ℕ) (adjacency weights inverse sequence : List ℕ) where
   abbrev s : State
   s = unpacked-state first-edition (state n made adjacency weights inverse sequence)
 
-  -- the size and the lengths of the bytes, judged
+  -- the ruling on the number of vertices and the lengths of the bytes
   abbrev pub room : Ruling
   room = judge (too-large n ∷ too-short (lent-always n (length adjacency) (length weights / 2) (length inverse / 2) (length sequence)) ∷ [])
 
   pub in-words : judge (too-large n ∷ too-short (lent-to-session s []) ∷ []) ≡ room
   in-words = rw (words-length 2 weights, words-length 2 inverse)
 
-  -- they are looked at first, whatever a call is lent besides and looks at afterwards
+  -- they are looked at first, whatever else a call is lent and looks at afterwards
   pub room-first : (p : ℕ) (more : List Lent) (later : List Cause) {r : Refusal} → refused r ≡ room → judge (session-causes p s more ++ later) ≡ refused r
   room-first p more later e = lengths-first p s more later (e ∙ sym in-words)
 
@@ -113,13 +114,13 @@ module _ (n made : ℕ) (adjacency weights inverse sequence : List ℕ) where
       sequence-fits = F .fits .sequence-fits;
     }
 
-    -- a call over them is refused for the same cause
+    -- a call over the words needed is refused for the same cause
     pub ruling-same : (p : ℕ) → session-ruling p (needed-state (state n made adjacency weights inverse sequence)) ≡ session-ruling p s
     ruling-same p =
         session-same p n made adjacency sequence (needed-weights n weights) (words 2 weights) (needed-inverse n inverse) (words 2 inverse) (needed-agree n weights (F .size))
         (λ x l. getD-take (n * n) (words 2 inverse) x 0 l) needed-long (F .fits)
 
-    -- nor does it matter where it is lent buffers besides and looks at causes afterwards
+    -- and so is a call that is lent more buffers and looks at more causes afterwards
     pub more-same : (p : ℕ) (more : List Lent) (later : List Cause)
         → judge (session-causes p (needed-state (state n made adjacency weights inverse sequence)) more ++ later) ≡ judge (session-causes p s more ++ later)
     more-same p more later =

@@ -1,4 +1,4 @@
--- Tables that agree as far as they are needed, the words lent in the place of bytes, and session calls over them.
+-- Tables that agree as far as they are needed, the words lent in place of bytes, and session calls over them.
 pub mod Same
 pub mod Steps
 pub mod Needed

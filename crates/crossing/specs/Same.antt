@@ -18,7 +18,7 @@ use Rattle.matching.specs.Causes.{bad-cell, first-outside, bad-weight}
 use Rattle.laws.specs.Weights.{index-fits}
 use Rattle.laws.specs.Judge.{found-absent, found-at}
 
--- the first number with a property is that with any other that holds of the same numbers
+-- two properties of the same numbers have the same first number
 found-same : {n : ℕ} {P Q : ℕ → Type 0} (f : First n P) (h : First n Q) → Every n (λ k. P k → Q k) → Every n (λ k. Q k → P k) → found f ≡ found h
 found-same f (nowhere none) to from = found-absent f .1 (λ k l a. none k l (to k l a))
 found-same f (first-at x l e none) to from = found-at f x l (from x l e) (λ k m a. none k m (to k (omega arith) a))

@@ -19,14 +19,14 @@ use Rattle.laws.specs.OpeningOutcome.{table-over}
 use Rattle.laws.specs.Rules.{step-rule, rule-step}
 use Rattle.crossing.specs.Same.{cells-same, weights-same, tutte-same, table-same}
 
--- a cause that rests on a condition applies where it does for an equivalent one
+-- causes with equivalent conditions apply alike
 when-same : {A B : Type 0} (d : Dec A) (e : Dec B) → (A → B) → (B → A) → when (not? d) 0 ≡ when (not? e) 0
 when-same (yes a) (yes b) to from = refl
 when-same (yes a) (no n) to from = absurd (n (to a))
 when-same (no n) (yes b) to from = absurd (n (from b))
 when-same (no n) (no m) to from = refl
 
--- so many words agree
+-- the first `count` words agree
 abbrev pub Agree : (count : ℕ) (u v : List ℕ) → Type 0
 Agree count u v = Every count (λ x. getD u x 0 ≡ getD v x 0)
 
@@ -75,7 +75,7 @@ module _ {p : ℕ} (P : OddPrime p) (S : Subset) (n : ℕ) (adjacency : List ℕ
         → step P (over n adjacency u) S pairs c ≡ step P (over n adjacency v) S pairs c
     step-same pairs c I = sym (rule-step P (over n adjacency v) S (rule-same (step-rule P (over n adjacency u) S pairs c I)))
 
--- a session is well formed whatever the weights are
+-- whether a session is well formed does not depend on the weights
 formed-same : (n made : ℕ) (adjacency u v sequence : List ℕ) → WellFormed (over n adjacency u) made sequence → WellFormed (over n adjacency v) made sequence
 formed-same n made adjacency u v sequence W =
     record { few = W .few; ordered = W .ordered; below = W .below; adjacent = W .adjacent; different = W .different; rest = W .rest }

@@ -14,8 +14,8 @@ ghost use Rattle.calls.specs.Meaning.{call-is};
 ghost use Rattle.crossing.specs.HostFits.{Needed, Unpacked, HostFits};
 ghost use Rattle.crossing.specs.HostCall.{HandlesOver};
 
-// Makes a call over lent words, with the session as numbers, and answers one. Where a pair is answered, the words of the table are stored as
-// the inverse's bytes.
+// Makes a call over lent words, with the session as numbers, and returns the host's number. If the answer is a pair, stores the words of
+// table as the bytes of inverse.
 fn call_over(
     call: Call,
     n: usize,
@@ -46,8 +46,8 @@ fn call_over(
     }
 }
 
-// The words that n vertices need, of those of two byte slices; there is room for the largest graph: 96 * 95 / 2 weights, and 96 * 96 words of
-// the inverse. For proved callers.
+// Unpacks the words that n vertices need from weights and inverse. There is room for the largest graph: 96 * 95 / 2 weights in values, and
+// 96 * 96 words of the inverse in table.
 pub fn unpack(n: usize, weights: &[u8], inverse: &[u8], values: &mut [u16], table: &mut [u16])
     requires { ⌜ Needed n (now weights) (now inverse) × (length (now values) ≡ 4560) × (length (now table) ≡ 9216) ⌝ }
     ensures { λ _. ⌜ Unpacked n (now (weights .entry)) (now (inverse .entry)) (now (values .exit)) (now (table .exit)) ⌝ }
@@ -58,7 +58,7 @@ pub fn unpack(n: usize, weights: &[u8], inverse: &[u8], values: &mut [u16], tabl
     packing::unpack(inverse, &mut table[..cells]);
 }
 
-// Makes a call over bytes, of which as many words are read as the graph needs.
+// call_over, on words unpacked from the host's bytes: only those n vertices need.
 fn call_words(
     call: Call,
     n: usize,
@@ -90,7 +90,7 @@ fn call_words(
     )
 }
 
-// A call through the host. Words are taken only where the size and the lengths are in order.
+// Makes a call through the host. Unpacks words only if n and the lengths are in order.
 fn handle(
     call: Call,
     n: usize,
@@ -117,7 +117,7 @@ fn handle(
     call_words(call, n, made, adjacency, weights, inverse, sequence)
 }
 
-// Hand pick of a and b through the host.
+// Picks a and b through the host.
 pub fn pick(
     n: usize,
     made: usize,
@@ -146,7 +146,7 @@ pub fn pick(
     )
 }
 
-// Automatic pick through the host.
+// Picks the lowest unmatched vertex and its lowest partner through the host.
 pub fn automatic(
     n: usize,
     made: usize,
@@ -170,7 +170,7 @@ pub fn automatic(
     )
 }
 
-// Take-back through the host.
+// Removes the newest pair through the host.
 pub fn undo(
     n: usize,
     made: usize,

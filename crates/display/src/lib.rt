@@ -4,7 +4,7 @@ ghost use Rattle.matching.specs.Display.{display, words-of, start-of};
 ghost use Rattle.display.specs.Words.{Tells};
 use checks::LARGEST;
 
-// Whether any word is not 0.
+// Tells whether any word is not 0.
 fn any_nonzero(words: &[u16]) -> bool
     ensures { λ r. ⌜ Tells (now (words .entry)) r ⌝ }
 {
@@ -18,8 +18,8 @@ fn any_nonzero(words: &[u16]) -> bool
     false
 }
 
-// The witness's first n words where one of them is not 0, else the inverse table's n * n; the empty part at the start of the inverse for a
-// size above 96 or a short buffer.
+// Returns the first n words of witness if one of them is not 0, else the first n * n of inverse. If n is above 96 or a buffer is too short,
+// returns the empty part at the start of inverse.
 pub fn part<'a>(n: usize, inverse: &'a [u16], witness: &'a [u16]) -> &'a [u16]
     ensures words { λ r.
         ⌜ now r ≡ words-of (display n (now (inverse .entry)) (now (witness .entry))) (now (inverse .entry)) (now (witness .entry)) ⌝ }

@@ -10,7 +10,7 @@ fn show(state: u32) {
     io::write_all(STDOUT_FILENO, b"\n");
 }
 
-// Steps, shows the state then, and returns it.
+// Steps to the next state, shows it and returns it.
 fn step(state: u32) -> u32 {
     let next = draws::next(state);
     show(next);
@@ -22,7 +22,7 @@ fn steps(seed: u32) {
     step(step(step(step(seed))));
 }
 
-// Shows the first and the last state that have this high half.
+// Shows the first and the last state whose high half is high.
 fn halves(high: u16) {
     let first = high as u32 * 65536;
     show(first);
@@ -51,7 +51,7 @@ fn list(words: &[u16]) {
     io::write_all(STDOUT_FILENO, b"\n");
 }
 
-// Fills the words from index from up to, not including, index to, where they have such a part.
+// Fills words[from..to], if there is such a part.
 fn fill_part(words: &mut [u16], from: usize, to: usize, seed: u32) {
     if from <= to {
         if to <= words.len() {
@@ -70,7 +70,7 @@ fn main() {
     halves(65534);
     halves(65535);
 
-    // All the words are filled; then the three in the middle; then none.
+    // Fills all the words, then the three in the middle, then none.
     let mut words = [0u16; 5];
     draws::fill(&mut words, 0);
     list(&words);

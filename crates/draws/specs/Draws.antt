@@ -15,7 +15,7 @@ unfoldable pub stateAfter : ℕ → ℕ → ℕ
 stateAfter seed zero = seed
 stateAfter seed (suc k) = next (stateAfter seed k)
 
--- the first k draws from the seed, in order, where draw-of gives the draw of a state; the first is that of the state after the seed, not of
+-- the first k draws from the seed, in order, if draw-of gives the draw of a state; the first is the draw of the state after the seed, not of
 -- the seed
 unfoldable pub draws : (draw-of : ℕ → ℕ) (seed k : ℕ) → List ℕ
 draws draw-of seed zero = []

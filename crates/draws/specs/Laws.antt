@@ -16,12 +16,12 @@ next-below s = omega arith
 pub draw-range : (s : ℕ) → (1 ≤ draw s) × (draw s < 65521)
 draw-range s = (omega arith, omega arith)
 
--- a step more at the end
+-- one more step at the end
 pub stateAfter-more : (seed k : ℕ) → stateAfter seed (k + 1) ≡ next (stateAfter seed k)
 unfolding stateAfter
 stateAfter-more seed k = simp add-one
 
--- a step more at the start is one at the end
+-- one more step at the start is one more at the end
 pub stateAfter-next : (seed k : ℕ) → stateAfter (next seed) k ≡ next (stateAfter seed k)
 unfolding stateAfter
 stateAfter-next seed zero = refl
@@ -38,11 +38,11 @@ module _ (draw-of : ℕ → ℕ) where
       ∙ list-of-same k (λ i. draw-of (stateAfter (next seed) (i + 1))) (λ i. draw-of (stateAfter seed (suc i + 1)))
       (λ i _. ap draw-of (stateAfter-next seed (i + 1) ∙ simp add-one)))
 
-  -- as many draws as are asked for
+  -- there are k draws
   pub draws-length : (seed k : ℕ) → length (draws draw-of seed k) ≡ k
   draws-length seed k = rw (draws-values seed k) (length-list-of k _)
 
-  -- what holds of every state's draw holds of each
+  -- if the draw of every state is from 1 to p - 1, so is each of the draws
   pub draws-range : {p : ℕ} → ((s : ℕ) → (1 ≤ draw-of s) × (draw-of s < p)) → (seed k i : ℕ) → i < k
       → (1 ≤ getD (draws draw-of seed k) i 0) × (getD (draws draw-of seed k) i 0 < p)
   draws-range range seed k i h =

@@ -1,4 +1,4 @@
--- Reading a sheet from an offset on: what the record that stands there comes to. Assumes nothing.
+-- Reading a sheet from an offset on: what follows from the record that stands there. Assumes nothing.
 use mathlib.Core.Path.{_≡_, refl}
 use mathlib.Core.List.{List, [], _∷_}
 use Prim.Native.Nat.{ℕ, _+_, _≤_, _<_}
@@ -14,15 +14,15 @@ use Rattle.records.specs.Stands.{record-of, width-of, Stands, stands-whole, sta
 use Rattle.records.specs.declared.Record.{Record}
 use Rattle.records.specs.declared.Next.the-variants.{Whole, Cut, Unknown, Nothing}
 
--- with this progress, the bytes from an offset on are read so
+-- how the bytes from an offset on are read with this progress
 abbrev pub ReadsOn : Edition → List ℕ → Progress → ℕ → Reading → Type 0
 ReadsOn E bytes q at r = Reads E (length bytes) q at (drop at bytes) r
 
--- reading comes from one offset to another: what is read from there on is what is read
+-- reading comes from one offset to another: how the bytes are read from the second on is how they are read from the first on
 abbrev pub Follows : Edition → List ℕ → Progress → ℕ → Progress → ℕ → Type 0
 Follows E bytes q at q′ at′ = (r : Reading) → ReadsOn E bytes q′ at′ r → ReadsOn E bytes q at r
 
--- a record has a kind, and takes a byte at least
+-- a record has a kind, and takes at least a byte
 record First (k : ℕ) (bytes : List ℕ) : Type 0 where
   body : List ℕ
   begin : bytes ≡ k ∷ body

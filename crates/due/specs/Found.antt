@@ -1,4 +1,4 @@
--- What is due after each progress, and what is found there: what the contracts of `src/` cite. Assumes nothing.
+-- What is due after each progress, and what is found there. The contracts of `src/` cite it. Assumes nothing.
 use mathlib.Core.Path.{_≡_, refl}
 use mathlib.Core.Logic.{_≢_}
 use mathlib.Core.Bool.{Bool, true, false}
@@ -22,7 +22,7 @@ use Rattle.due.specs.declared.Due.the-variants.{Size, Seed, Edges}
 use Rattle.due.specs.declared.Found.{Found}
 use Rattle.due.specs.declared.Found.the-variants.{Whole, Refused}
 
--- the case of what is due after a progress; which kinds a case admits is said by document 01's `Due` alone
+-- the case of what is due after a progress; document 01's `Due` alone says which record-kinds a case admits
 pub data Awaits : Progress → Due → Type 0 where
   awaits-size : Awaits start Size
   awaits-seed : {n : ℕ} → Awaits (sized n) Seed
@@ -33,19 +33,19 @@ abbrev pub Says : Type 0 → Bool → Type 0
 Says A true = A
 Says A false = ¬ A
 
--- whether a kind is due after every progress of a case
+-- whether a record-kind is due after every progress of a case
 abbrev pub Admits : Due → ℕ → Bool → Type 0
 Admits d k r = (q : Progress) → Awaits q d → Says (paper.Due q k) r
 
--- why no whole record stands at an offset: 12 there, for a byte that is no kind, and for a cut body of a kind that is not due; 13 at the
--- length, for a cut body of a kind that is due, and for no byte
+-- why no whole record stands at an offset: 12 there, for a byte that is not a record-kind, and for a cut body of a record that is not due;
+-- 13 at the length, for a cut body of a record that is due, and for no byte
 pub data Missing (bytes : List ℕ) (at : ℕ) (q : Progress) : Refusal → Type 0 where
   no-kind : Stands bytes at next.Unknown → Missing bytes at q (because 12 at)
   undue-body : {k : ℕ} → Stands bytes at (next.Cut k) → ¬ paper.Due q k → Missing bytes at q (because 12 at)
   due-body : {k : ℕ} → Stands bytes at (next.Cut k) → paper.Due q k → Missing bytes at q (because 13 (length bytes))
   no-byte : Stands bytes at next.Nothing → Missing bytes at q (because 13 (length bytes))
 
--- a whole record, of any kind, or the refusal for what is none, after every progress of a case
+-- a whole record, of any kind, or the refusal for what is not a whole record, after every progress of a case
 abbrev pub FoundAt : List ℕ → ℕ → Due → Found → Type 0
 FoundAt bytes at d (Whole r) = Stands bytes at (next.Whole r)
 FoundAt bytes at d (Refused why) = (q : Progress) → Awaits q d → Missing bytes at q (refusal-of why)
@@ -57,7 +57,7 @@ says-equal {A} k m f g = go (eqb k m) refl
     go true e = f (eqb-true k m e)
     go false e = g (eqb-false k m e)
 
--- the kinds of each case, the last of which decides
+-- the record-kinds of each case, the last of which decides
 module _ (k : ℕ) where
   pub admits-size : Admits Size k (eqb k 1)
   admits-size _ awaits-size = says-equal k 1 (λ e. rw e size-due) only-size
@@ -71,7 +71,7 @@ module _ (k : ℕ) where
   pub admits-end : k ≢ 2 → Admits Edges k (eqb k 4)
   admits-end d _ awaits-edges = says-equal k 4 (λ e. rw e end-due) (only-edges d)
 
--- so the rest is refused; where no byte stands, some kind is due in every case
+-- so the sheet is refused from there on; if no byte stands there, some record-kind is due in every case
 pub missing-reads : {E : Edition} {bytes : List ℕ} {at : ℕ} {q : Progress} {d : Due} {why : Refusal} → Awaits q d → Missing bytes at q why → ReadsOn E bytes q at (unread why)
 missing-reads a (no-kind s) = unknown-here s
 missing-reads a (undue-body s u) = undue-cut s u

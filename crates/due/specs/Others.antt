@@ -39,6 +39,6 @@ variant-tag (Share _) = refl
 variant-tag (Seed _) = refl
 variant-tag End = refl
 
--- so it is of none of them
+-- so it is not of a kind taken
 pub other-kind : (taken : List ℕ) (r : Record) (k : ℕ) → Left taken r → T (not (hasKey (untaken taken 0 kinds) (variant kinds k))) → kind (record-of r) ≢ k
 other-kind taken r k left none e = miss (untaken taken 0 kinds) (variant kinds k) none (rw (variant-tag r, e) at left)

@@ -1,4 +1,4 @@
-// The record that stands at an offset of a sheet where some kinds are due: causes 12 and 13.
+// The record that stands at an offset of a sheet where some record-kinds are due: causes 12 and 13.
 use records::Next;
 use records::Record;
 use refusals::Refusal;
@@ -33,7 +33,7 @@ fn admits(due: Due, kind: u8) -> bool
     }
 }
 
-// Finds what stands at offset at of bytes, where due says which kinds may. A whole record is left to the caller, whatever its kind.
+// Finds what stands at offset at of bytes; due says which record-kinds may. A whole record is left to the caller, whatever its kind.
 pub fn found_at(bytes: &[u8], at: usize, due: Due) -> Found
     ensures { λ r. ⌜ FoundAt (now (bytes .entry)) at due r ⌝ }
 {

@@ -1,4 +1,4 @@
--- An edge that is marked in the table of those before it, or refused. Assumes nothing.
+-- An edge that is marked in the table of the edges before it, or refused. Assumes nothing.
 use mathlib.Core.Path.{_≡_, sym, _∙_}
 use mathlib.Core.Logic.{_≢_}
 use mathlib.Core.List.{List, _∷_}
@@ -17,7 +17,7 @@ pub record Taken (E : Edition) (n a b : ℕ) (weights : List ℕ) (edges : List 
   pub takes : Takes E (weighted n weights edges) (share a b) (weighted n weights (pair-of a b ∷ edges))
   pub marks : table ≡ cells n (pair-of a b ∷ edges)
 
--- for whatever edition, and whatever edges the table has
+-- for any edition, and any edges that the table may have
 abbrev pub Marked : (n a b : ℕ) → List ℕ → Mark → List ℕ → Type 0
 Marked n a b table Made table′ =
     (E : Edition) (weights : List ℕ) (edges : List Pair) → table ≡ cells n edges → Taken E n a b weights edges table′

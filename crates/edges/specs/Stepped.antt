@@ -1,4 +1,4 @@
--- One record among the edges, and all of them to the end. Assumes nothing.
+-- One record among the edges, and all of them up to the end. Assumes nothing.
 use mathlib.Core.Path.{_≡_, refl, ap, _∙_}
 use mathlib.Core.List.{List, [], _∷_}
 use Prim.Native.Nat.{ℕ, _+_, _≤_, _<_}
@@ -25,7 +25,7 @@ use Rattle.edges.specs.declared.Step.the-variants as step
 use Rattle.edges.specs.declared.Edges.{Edges}
 use Rattle.edges.specs.declared.Edges.the-variants as edges
 
--- an edge more
+-- one edge more
 pub record OneMore (E : Edition) (bytes : List ℕ) (at n : ℕ) (weights : List ℕ) (edges : List Pair) (next : ℕ) (table : List ℕ) : Type 0 where
   pub edge : Pair
   pub marks : table ≡ cells n (edge ∷ edges)
@@ -40,7 +40,7 @@ Stepped bytes at n table (step.Refused why) table′ =
     (E : Edition) (weights : List ℕ) (edges : List Pair) → table ≡ cells n edges → ReadsOn E bytes (weighted n weights edges) at (unread (refusal-of why))
 
 module _ {bytes : List ℕ} {at n : ℕ} where
-  -- another kind than share and end
+  -- a record-kind other than share and end
   pub step-undue : {r : Record} → Stands bytes at (Whole r) → Left (2 ∷ 4 ∷ []) r → (E : Edition) (weights : List ℕ) (edges : List Pair)
       → ReadsOn E bytes (weighted n weights edges) at (unread (because 12 at))
   step-undue {r} S left E weights edges = undue-here S (only-edges (other-kind (2 ∷ 4 ∷ []) r 2 left tt) (other-kind (2 ∷ 4 ∷ []) r 4 left tt))

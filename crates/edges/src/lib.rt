@@ -18,7 +18,7 @@ pub enum Mark {
     Refused(u8),
 }
 
-// What the record at an offset comes to: an edge, and the offset behind it; the end of the sheet; a refusal.
+// What the record at an offset is: an edge, with the offset after it; the end of the sheet; or a refusal.
 pub enum Step {
     On(usize),
     Done,
@@ -31,7 +31,7 @@ pub enum Edges {
     Refused(Refusal),
 }
 
-// Marks a and b as adjacent in both cells of table. Refuses what is not two vertices below n, and an edge that is marked already.
+// Marks a and b as adjacent in both cells of table. Refuses them if they are not two vertices below n, or already marked as an edge.
 fn mark_edge(n: usize, a: usize, b: usize, table: &mut [u8]) -> Mark
     requires { ⌜ Square n (now table) ⌝ }
     ensures { λ r. ⌜ Marked n a b (now (table .entry)) r (now (table .exit)) ⌝ }
@@ -83,14 +83,15 @@ fn take_record(bytes: &[u8], at: usize, n: usize, table: &mut [u8]) -> Step
     }
 }
 
-// Reads the share records at offset from of bytes up to the end record, and marks their edges in table, where every cell is 0 before.
-// Behind each record, the table has the edges of the records so far, and count is their number.
+// Reads the share records of bytes, from offset from up to the end record, and marks their edges in table, where every cell is 0 before.
+// After each record, the table has the edges of the records so far, and count is their number.
 pub fn read_edges(bytes: &[u8], from: usize, n: usize, table: &mut [u8]) -> Edges
     requires { ⌜ Square n (now table) × (now table ≡ cells n []) ⌝ }
     ensures { λ r. ⌜ ((E : Edition) (weights : List ℕ) → EdgesRead E (now (bytes .entry)) from n weights r (now (table .exit))) ⌝ }
 {
     let mut at = from;
     let mut count = 0;
+    // at grows with every edge, and no record stands past the end of bytes, so the loop ends.
     loop {
         let took = take_record(bytes, at, n, table);
         match took {

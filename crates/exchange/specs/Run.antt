@@ -29,7 +29,7 @@ use Rattle.exchange.specs.declared.Outcome.the-variants.{Column}
 use Rattle.pivot.specs.Words.{limit, square, Small, matrix, place, residue, residue-small, residue-matrix}
 use Rattle.pivot.specs.Step.{Stepped}
 
--- x is not 0 where the index waits and w is not 0
+-- x is not 0 exactly if the index waits and w is not congruent to 0
 pub record Weight (waits w x : ℕ) : Type 0 where
   pub none : x ≡ 0 → waits ≢ 0 → w % modulus ≡ 0
   pub some : x ≢ 0 → (waits ≢ 0) × (w % modulus ≢ 0)
@@ -98,7 +98,7 @@ pub record Holds (n : ℕ) (A : Matrix) (S : Subset) (t : List ℕ) : Type 0 whe
   pub on : (i j : ℕ) → Index n S i → Index n S j → Congruent modulus (matrix n t i j) (A i j)
   pub outer : (i j : ℕ) → i < n → j < n → i ∉ S → Congruent modulus (matrix n t i j) 0
 
--- what holds at c
+-- what holds at c of the matrix
 pub record Running (n : ℕ) (A : Matrix) (S : Subset) (c : ℕ) (t waiting : List ℕ) : Type 0 where
   pub skew : Skew modulus n A
   pub state : State modulus n A S (done S waiting) (matrix n t) c
@@ -106,7 +106,7 @@ pub record Running (n : ℕ) (A : Matrix) (S : Subset) (c : ℕ) (t waiting : Li
   pub within : (i : ℕ) → i ∈ marked waiting → i ∈ S
   pub outer : (i j : ℕ) → i < n → j < n → i ∉ S → Congruent modulus (matrix n t i j) 0
 
--- and what holds of the words
+-- what holds at c of the words
 pub record Bounded (n c : ℕ) (t waiting : List ℕ) : Type 0 where
   pub table-square : Square n t
   pub small : Small ((c + 1) * (square + square)) n t
@@ -140,7 +140,7 @@ word-matrix n t i j = go (ℕ-discrete i j)
     go (yes e) = equals (word-diagonal n t i j e ∙ rw e (sym (mirror-diagonal (modulus-prime .odd) (table n t) j)))
     go (no d) = equals (word-other n t i j d) ⨾ residue-matrix n t i j d
 
--- the witness at f: row f where an index does not wait, and the identity where it does
+-- the witness of column f: row f at an index that does not wait, and the identity at one that waits
 unfoldable pub witness-word : ℕ → List ℕ → List ℕ → ℕ → Vector
 unfolding ℕ-discrete word delta
 witness-word n t waiting f k = choose (ℕ-discrete (vector waiting k) 0) (word n t f k) (delta f k)

@@ -1,5 +1,5 @@
-// Symmetric exchange of pairs of indices of a skew matrix of residues, to its end, in a square table of which only the words above the
-// diagonal count.
+// Symmetric exchange of the indices of a skew matrix of residues, two at a time, to the end. Only the words above the diagonal of the
+// square table count.
 ghost use mathlib.Core.Path.{_≡_};
 ghost use lib.ListN.{length};
 ghost use Rattle.lists.specs.Table.{Square};
@@ -9,13 +9,13 @@ ghost use Rattle.pivot.specs.Words.{Small};
 ghost use Rattle.exchange.specs.Run.{Weight, TurnReady, Found, Turned, Holds, Ended};
 use residue::Residue;
 
-// How exchange ends: with the inverse, or at the first dependent column.
+// How the exchanges end: with the inverse, or at the first dependent column.
 pub enum Outcome {
     Inverse,
     Column(usize),
 }
 
-// 0 where the index does not wait or w is 0.
+// Returns the residue of w if the index waits, else 0.
 fn weight(waits: u8, w: u64) -> u64
     ensures { λ x. ⌜ Weight waits w x ⌝ }
 {
@@ -25,7 +25,7 @@ fn weight(waits: u8, w: u64) -> u64
     Residue::make(w).value as u64
 }
 
-// The lowest partner of c: an index after c that waits, where row c is not 0; or n.
+// Finds the lowest partner of c: an index after c that waits and whose entry in row c is not 0. Returns n if there is none.
 fn partner(t: &[u64], n: usize, c: usize, waiting: &[u8]) -> usize
     requires { ⌜ TurnReady n c (now t) (now waiting) ⌝ }
     ensures { λ r. ⌜ Found n c (now (t .entry)) (now (waiting .entry)) r ⌝ }
@@ -41,8 +41,8 @@ fn partner(t: &[u64], n: usize, c: usize, waiting: &[u8]) -> usize
     r
 }
 
-// Exchanges c with its lowest partner, and neither waits any more; n where it has none, and c where it does not wait. x and y are room for
-// two columns.
+// Exchanges c with its lowest partner and returns the partner; then neither waits. Returns n if c has no partner, and c if it does not
+// wait. x and y are room for two columns.
 fn turn(
     t: &mut [u64],
     n: usize,
@@ -67,8 +67,8 @@ fn turn(
     r
 }
 
-// Exchanges the indices that wait, to the end or to the first dependent column. For proved callers. The contract is about any skew
-// matrix that the table holds on the set of these indices; outside the set the table holds 0.
+// Exchanges the indices that wait, to the end or to the first dependent column. The contract is about any skew matrix that the table holds
+// on the set of these indices; outside the set the table holds 0.
 pub fn run(t: &mut [u64], n: usize, waiting: &mut [u8]) -> Outcome
     requires { ⌜ Square n (now t) × Small 65536 n (now t) × (length (now waiting) ≡ n) ⌝ }
     ensures { λ o.
@@ -78,6 +78,7 @@ pub fn run(t: &mut [u64], n: usize, waiting: &mut [u8]) -> Outcome
     let mut x = [0u64; 96];
     let mut y = [0u64; 96];
     let mut c = 0;
+    // No index below c waits.
     while c < n {
         let r = turn(t, n, c, waiting, &mut x[..n], &mut y[..n]);
         if r == n {

@@ -1,4 +1,4 @@
--- How large what is read from bytes can be: the place of a refusal and the number of edges. Assumes nothing.
+-- Bounds of what is read from bytes: the place of a refusal and the number of edges. Assumes nothing.
 use mathlib.Core.Path.{_≡_, refl, ap}
 use mathlib.Core.List.{List}
 use Prim.Native.Nat.{ℕ, _+_, _*_, _^_, _≤_, _<_}
@@ -14,7 +14,7 @@ use Rattle.matching.specs.Records.{Record, Progress, start, sized, weighted, en
 use Rattle.matching.specs.Computed.{begins-width}
 use Rattle.laws.specs.Reading.{reads-fit}
 
--- a refusal whose cause is a byte other than 0, and whose place is at most so large
+-- a refusal whose cause is a byte other than 0, and whose place is at most `len`
 pub record Within (len : ℕ) (why : Refusal) : Type 0 where
   pub cause-from : 0 < why .cause
   pub cause-below : why .cause < 2 ^ 8
@@ -75,7 +75,7 @@ room-within n adjacency weights {why} = go (decLt (length adjacency) (n * n)) (d
     go (no _) (yes _) e = is 2 e (omega arith)
     go (no _) (no _) e = absurd (let z : _≡_ {A = ℕ} 0 1 = cc in omega arith)
 
--- the answer of the reader, where there are so many bytes
+-- bounds of the reader's answer to `len` bytes
 abbrev pub AnswerBounds : Read → ℕ → Type 0
 AnswerBounds (graph-read n m) len = (n ≤ largest) × (m ≤ len)
 AnswerBounds (not-read why) len = Within (len + 2) why

@@ -1,4 +1,4 @@
--- Each session call, and each list of them, has exactly one outcome; and demand 2's "exactly when" for a hand pick. Assumes nothing.
+-- Each session call, and each list of them, has exactly one outcome; and demand 2's "exactly when" for a pick. Assumes nothing.
 use mathlib.Core.Path.{_≡_, refl, sym, ap, ap₂, _∙_}
 use mathlib.Core.List.{List, [], _∷_, _++_}
 use Prim.Native.Nat.{ℕ}

@@ -1,4 +1,4 @@
--- The adjacency table of a list of edges, and of one edge more. Assumes nothing.
+-- The adjacency table of a list of edges, and of a list with one edge more. Assumes nothing.
 use mathlib.Core.Path.{_≡_, refl, sym, ap₂, _∙_}
 use mathlib.Core.Logic.{_≢_}
 use mathlib.Core.List.{List, [], _∷_}
@@ -28,7 +28,7 @@ unfolding pair-of
 pair-of-equal i j e =
     let h : ¬ (i < j) = λ l. omega arith in rw (choose-no (decLt i j) i j h, choose-no (decLt i j) j i h, e)
 
--- the same two, in one order or the other
+-- i and j are a and b, in one order or the other
 data Either (i j a b : ℕ) : Type 0 where
   straight : i ≡ a → j ≡ b → Either i j a b
   crossed : i ≡ b → j ≡ a → Either i j a b
@@ -78,7 +78,7 @@ module _ (n : ℕ) where
   unfolding cells among
   cells-none = list-of-constant (n * n) 0
 
-  -- one edge more is 1 in two cells more
+  -- one edge more sets two more cells to 1
   pub cells-more : (edges : List Pair) (a b : ℕ) → Named n a b → set (set (cells n edges) (a * n + b) 1) (b * n + a) 1 ≡ cells n (pair-of a b ∷ edges)
   cells-more edges a b h = ext-getD 0 new (cells n (pair-of a b ∷ edges)) (size ∙ sym (cells-length (pair-of a b ∷ edges))) (λ x l. at x (ℕ-discrete x (b * n + a)) (ℕ-discrete x (a * n + b)) (omega (arith, size)))
     where

@@ -51,13 +51,13 @@ once-at g made s v x small W below l e = record {
     go y h q (yes a) (no _) (yes c) = absurd (W .different x l y c (q ∙ sym e))
     go y h q (yes a) (no b) (no c) = omega arith
 
--- the state of valid pairs, over the buffers of a first one
+-- the state of valid pairs, over the buffers of a first state
 module _ {p : ℕ} (P : OddPrime p) (g : Graph) (first : State) where
   pub record Stands (pairs : Pairs) (s : State) : Type 0 where
     pub state : StateOf P g (in-play first) first pairs s
     pub valid : Valid P g (in-play first) pairs
 
-  -- one state only is that of given pairs
+  -- given pairs have only one state
   pub stands-same : {pairs : Pairs} {s t : State} → Stands pairs s → Stands pairs t → s ≡ t
   stands-same {pairs} A B =
       let a = A .state in
@@ -69,7 +69,7 @@ module _ {p : ℕ} (P : OddPrime p) (g : Graph) (first : State) where
   stands-nonsingular M = (_, M .state .words-inverse .is-inverse)
 
   module _ (long : GraphFits g) (order : InOrder p g) where
-    -- it is sound
+    -- the state is sound
     pub stands-sound : (pairs : Pairs) (words : List ℕ) → length words ≡ g .n * g .n → InverseTable p g (unmatched (in-play first) pairs) words → Valid P g (in-play first) pairs
         → session-ruling p (with-pairs g pairs words first) ≡ accepted
     stands-sound pairs words l I v =
@@ -157,7 +157,7 @@ refused-stays P s (c ∷ calls) (x ∷ later) (more h rest) (suc k) r a = refuse
 
 -- the plain model from place to place
 module _ {p : ℕ} (P : OddPrime p) (g : Graph) (S : Subset) where
-  -- its pairs grow by one, shrink by one or stay
+  -- its pairs grow by one, shrink by one or stay the same
   moves : (pairs : Pairs) (calls : List Call) → Nonsingular P g S pairs → (k : ℕ) → Moves (pairs-after P g S pairs calls k) (pairs-after P g S pairs calls (suc k))
   unfolding pairs-after
   moves pairs [] I zero = stays refl
@@ -173,7 +173,7 @@ module _ {p : ℕ} (P : OddPrime p) (g : Graph) (S : Subset) where
   called pairs (d ∷ calls) zero c a h q = rw (← h) (ap (λ z. record { answer = z; pairs = step P g S pairs d .pairs }) q)
   called pairs (d ∷ calls) (suc k) c a h q = called (step P g S pairs d .pairs) calls k c a h q
 
-  -- an accepted take-back removes the newest pair
+  -- an accepted undo removes the newest pair
   pub undo-removes : (pairs : Pairs) (e : Pair) (after : Pairs) → step P g S pairs undo ≡ record { answer = done e; pairs = after } → pairs ≡ e ∷ after
   unfolding step
   undo-removes [] e after q = absurd (let w = ap (λ s. s .answer) q in let z : _≡_ {A = ℕ} 0 1 = cc in omega arith)
@@ -186,7 +186,7 @@ module _ {p : ℕ} (P : OddPrime p) (g : Graph) (S : Subset) where
           cc
       go (no _) q = absurd (let w = ap (λ s. s .answer) q in let z : _≡_ {A = ℕ} 0 1 = cc in omega arith)
 
-  -- from no pairs on a take-back that has a pair to remove is never refused
+  -- from no pairs on, an undo that has a pair to remove is never refused
   pub undo-accepted : (calls : List Call) (k : ℕ) (e : Pair) (earlier : Pairs) → Nonsingular P g S [] → pairs-after P g S [] calls k ≡ e ∷ earlier
       → step P g S (e ∷ earlier) undo ≡ record { answer = done e; pairs = earlier }
   unfolding pairs-after
@@ -194,7 +194,7 @@ module _ {p : ℕ} (P : OddPrime p) (g : Graph) (S : Subset) where
       let A = appended-once (pairs-after P g S [] calls) (moves [] calls I) k [] e earlier (omega arith) q in
       rule-step P g S (undoes refl (rw (A .found) at (after-nonsingular P g S [] calls (A .time) I)))
 
--- demand 3 for a session that stands for the pairs at the start
+-- demand 3 for a session that is the state of the pairs at the start
 module _ {p : ℕ} (P : OddPrime p) (g : Graph) (s : State) (long : GraphFits g) (order : InOrder p g) where
   pub stands-follows : (start : Pairs) (calls : List Call) (returned : List Returned) → Stands P g s start s → Runs P s calls returned
       → FollowsModel P g (in-play s) start calls s returned
@@ -257,7 +257,7 @@ module _ {p : ℕ} (P : OddPrime p) (g : Graph) (s : State) (long : GraphFits g)
           out (inside i) = absurd (none-left v l i)
           out (outside o) = o
 
--- every sound session whose pairs are in play stands for the pairs on its sequence
+-- every sound session whose pairs are in play is the state of the pairs on its sequence
 module _ {p : ℕ} (P : OddPrime p) (s : State) (ok : session-ruling p s ≡ accepted) (play : Inside (in-play s) (s .session .made) (s .sequence)) where
   sound : SessionFits s × Sound p s
   sound = session-accepted p s .0 ok
@@ -288,7 +288,7 @@ module _ {p : ℕ} (P : OddPrime p) (s : State) (ok : session-ruling p s ≡ acc
       let M = stands-step P (graph-of s) s long (sound .1 .in-order) (pairs-of s) s t c a sound-stands h in
       (M .0, rw (M .1 .state .is) (pairs-on-sequence P (graph-of s) (in-play s) _ _))
 
-  -- a call leaves it sound
+  -- a call leaves the session sound
   pub handles-sound : {c : Call} {a : Answer} {t : State} → Handles P s c a t → session-ruling p t ≡ accepted
   handles-sound {c} {a} {t} h =
       let M = stands-step P (graph-of s) s long (sound .1 .in-order) (pairs-of s) s t c a sound-stands h .1 in

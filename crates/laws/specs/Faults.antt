@@ -11,7 +11,7 @@ pub fault-of-cell : (g : Graph) (i j : ℕ) → fault g i j ≡ cell-fault (cell
 unfolding fault cell-fault
 fault-of-cell g i j = refl
 
--- case by case
+-- by cases
 module _ (x y i j : ℕ) where
   pub fault-large : 1 < x → cell-fault x y i j ≡ 1
   unfolding cell-fault
@@ -37,7 +37,7 @@ module _ (x y i j : ℕ) where
   fault-unequal l d e =
       choose-no (decLt 1 x) _ _ (λ h. omega arith) ∙ choose-no (ℕ-discrete i j) _ _ d ∙ choose-no (ℕ-discrete x y) _ _ e
 
--- off the diagonal a cell without fault has a mirror without fault
+-- off the diagonal, a cell without a fault has a mirror without a fault
 pub cell-fault-mirror : (x y i j : ℕ) → i ≢ j → cell-fault x y i j ≡ 0 → cell-fault y x j i ≡ 0
 cell-fault-mirror x y i j d e = go (decLt 1 x) (ℕ-discrete x y)
   where

@@ -14,7 +14,7 @@ use Rattle.matching.specs.Pairs.{Pair, pair-of, Pairs, unmatched}
 use Rattle.matching.specs.Model.{Call, pick, automatic, undo, done, denied, Step, Nonsingular, nonsingular?, Adjacent, pick-ruling, Allowed, append, remove-last, step}
 use Rattle.laws.specs.ModelLaws.{pair-of-smaller, pair-of-larger, allowed-of-accepted, refused-pick, Automatic, lowest, nobody, automatic-cases, lowest-allowed}
 
--- the smaller vertex first, both among those left by the earlier pairs, and adjacent
+-- the smaller vertex first, both left unmatched by the earlier pairs, and adjacent
 pub record Appendable {p : ℕ} (P : OddPrime p) (g : Graph) (S : Subset) (e : Pair) (earlier : Pairs) : Type 0 where
   pub ordered : e .smaller < e .larger
   pub below : e .larger < g .n
@@ -75,7 +75,7 @@ module _ {p : ℕ} (P : OddPrime p) (g : Graph) (S : Subset) where
       tail (cons _ w) = w
   change-valid pairs _ (unchanged k) v = v
 
--- lists of pairs one after another, each with one pair more than the last, or without its newest, or the same
+-- two lists of pairs, of which the second has one pair more than the first, or lacks its newest, or is the same
 pub data Moves (a b : Pairs) : Type 0 where
   grows : (e : Pair) → b ≡ e ∷ a → Moves a b
   shrinks : (e : Pair) → a ≡ e ∷ b → Moves a b
@@ -98,7 +98,7 @@ module _ (at : ℕ → Pairs) (moves : (k : ℕ) → Moves (at k) (at (suc k))) 
     pub leaves : at (suc time) ≡ e ∷ earlier
     pub since : (m : ℕ) → time < m → m ≤ k → length earlier < length (at m)
 
-  -- what stands at k is longer than what was there before it
+  -- the pairs at k are more than the earlier ones
   longer : (k : ℕ) (more : Pairs) (e : Pair) (earlier : Pairs) → at k ≡ more ++ e ∷ earlier → length earlier < length (at k)
   longer k more e earlier q = rw q (omega (arith, length-append more (e ∷ earlier)))
 
@@ -115,7 +115,7 @@ module _ (at : ℕ → Pairs) (moves : (k : ℕ) → Moves (at k) (at (suc k))) 
       go m h j (yes q) = rw q l
       go m h j (no d) = a .since m h (omega arith)
 
-  -- so was every pair that stands above those at the start
+  -- every pair above those at the start was appended so
   pub appended-once : (k : ℕ) (more : Pairs) (e : Pair) (earlier : Pairs) → length (at 0) ≤ length earlier → at k ≡ more ++ e ∷ earlier → Appended k e earlier
   appended-once zero more e earlier l q = absurd (omega (arith, ap length q, length-append more (e ∷ earlier)))
   appended-once (suc k) more e earlier l q = go (moves k) more q (λ xs r. appended-once k xs e earlier l r)

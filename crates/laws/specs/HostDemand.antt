@@ -1,5 +1,5 @@
 -- Demand 3 through the host by single calls: what opening stores is sound when it is read back, and every call is given the words that the
--- last one left. Assumes nothing.
+-- one before left. Assumes nothing.
 use mathlib.Core.Path.{_≡_, refl, sym, ap, ap₂, _∙_}
 use mathlib.Core.Logic.{_≢_}
 use mathlib.Core.List.{List, [], _∷_, map}
@@ -43,7 +43,7 @@ module _ (E : Edition) where
       })
       (read-words (E .width) table (s .inverse) B (omega arith) (λ x h. omega (arith, E .fits, I .small x (omega arith))))
 
-  -- the inverse's words are as many after every call
+  -- the number of the inverse's words stays the same
   as-long : {s left : State} {c : Call} {a : Answer} → Handles (E .prime) s c a left → length (left .inverse) ≡ length (s .inverse)
   as-long (unsound r e) = refl
   as-long (refuses r e k) = refl
@@ -64,7 +64,7 @@ module _ (E : Edition) where
       ap (λ i. record { session = s .session; adjacency = s .adjacency; weights = s .weights; inverse = i; sequence = s .sequence })
       (sym (own-words (E .width) (s .inverse) B))
 
-  -- and over those that a call left
+  -- and over the bytes that a call left
   over-left : (a : Answer) (left s t : State) → length (t .inverse) ≡ length (left .inverse) → stored-over E t (state-stored E a left s) ≡ stored-over E t s
   over-left (denied r) left s t q = refl
   over-left (done x) left s t q =
@@ -89,7 +89,7 @@ module _ (E : Edition) where
         go (denied _) f e = refl
         go (done x) f e = absurd (d (ap cause-in e ∙ answer-low-byte (done x) (H .left .session) f))
 
-    -- a call before others
+    -- one call before a list of calls
     one-more : {calls : List Call} {later : List HostReturned} (on-words : List Returned) → HostOnWords E (r .state) calls later on-words
         → HostOnWords E s (c ∷ calls) (r ∷ later) (record { answer = H .given; state = H .left } ∷ on-words)
     unfolding state-after host-after At
@@ -160,7 +160,7 @@ module _ (E : Edition) where
       let N = numbered-at rest k answer e in
       record { given = N .given; session = N .session; stands = N .stands; small = N .small; numbered = N .numbered }
 
-  -- where the states of the words are equal, as after a take-back and before its pick, so are those of the bytes
+  -- if the states of the words are equal, as after an undo and before its pick, so are those of the bytes
   host-restores : (g : Graph) (s : State) {calls : List Call} {returned : List HostReturned} {on-words : List Returned} → HostOnWords E s calls returned on-words
       → FollowsModel (E .prime) g (in-play s) [] calls (unpacked-state E s) on-words → HostRestores E g s calls returned
   host-restores g s {calls} {returned} {on-words} M F j answer u d z = go (N .given) (N .stands) (N .small) (N .numbered)
@@ -180,7 +180,7 @@ module _ (E : Edition) where
     abbrev g : Graph
     g = over n adjacency (words (E .width) weights)
 
-    -- an opening of kind 1 is one with an inverse, which is read back
+    -- an opening of answer-kind 1 is one with an inverse, which is read back
     record Back (b buffers : Buffers) (o : Opening) : Type 0 where
       is : o ≡ opened (session n [])
       bytes : Bytes (stored-after E o buffers b .inverse)
@@ -213,7 +213,7 @@ module _ (E : Edition) where
       opens-words : Opens (E .modulus) g (players n (unpacked E b)) (unpacked E b) (opened (session n [])) (H .buffers)
       opens-words = rw (h .is) at (H .outcome)
 
-      -- bytes that opening left with kind 1 are sound when they are read back
+      -- bytes that opening left with answer-kind 1 are sound when they are read back
       pub host-opened-sound : session-ruling (E .modulus) (unpacked-state E (host-opened-state n adjacency weights answer after)) ≡ accepted
       host-opened-sound = rw read (opened-sound (E .prime) g opens-words .0)
 
@@ -227,7 +227,7 @@ module _ (E : Edition) where
         (M .0, M .1, host-restores g (host-opened-state n adjacency weights answer after) (M .1) F′, F′)
 
 module _ (E : Edition) where
-  -- every list of single calls has a run, and no other
+  -- every list of single calls has exactly one run
   pub host-runs-some : (s : State) (calls : List Call) → (returned : List HostReturned) × HostRuns E s calls returned
   host-runs-some s [] = ([], host-none)
   host-runs-some s (c ∷ calls) =

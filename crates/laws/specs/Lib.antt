@@ -15,7 +15,7 @@ pub mod CallOutcome
 -- Demand 3.
 pub mod Demand
 pub mod Fresh
--- The reader, and one outcome for open row, replay, the reader and the listing.
+-- The reader, and one outcome for the row of a vertex, replay, the reader and the listing.
 pub mod Cells
 pub mod Reading
 pub mod Bounds
@@ -26,5 +26,5 @@ pub mod Sheets
 pub mod Numbers
 pub mod Words
 pub mod HostDemand
--- Where a weight stands.
+-- The index of a weight.
 pub mod Weights

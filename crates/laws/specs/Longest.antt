@@ -37,7 +37,7 @@ unfolding total
 total-none zero f h = refl
 total-none (suc m) f h = omega (arith, total-none m f h, h m)
 
--- one value that was 0 is 1
+-- if one value turns from 0 to 1, the sum grows by 1
 total-more : (m a : ℕ) (f g : ℕ → ℕ) → a < m → f a ≡ 0 → g a ≡ 1 → ((i : ℕ) → i ≢ a → g i ≡ f i) → total m g ≡ total m f + 1
 unfolding total
 total-more zero a f g l z o h = absurd (omega arith)
@@ -50,7 +50,7 @@ total-more (suc m) a f g l z o h = go (ℕ-discrete a m) (λ k. total-more m a f
         omega (arith, total-same m f g (λ i k. h i (λ q. omega arith)))
     go (no d) later = omega (arith, later (omega arith), h m (λ q. d (sym q)))
 
--- how many pairs there are below j: they are numbered by their larger vertex, then by their smaller one
+-- the number of pairs below j: pairs are numbered by their larger vertex, then by their smaller one
 unfoldable below : ℕ → ℕ
 below zero = 0
 below (suc j) = below j + j
@@ -71,7 +71,7 @@ below-all = refl
 abbrev coded : Pair → ℕ
 coded e = below (e .larger) + e .smaller
 
--- a pair comes before the pairs with a larger larger vertex
+-- a pair comes before every pair whose larger vertex is larger
 coded-before : (e : Pair) (j : ℕ) → e .smaller < e .larger → e .larger < j → coded e < below j
 unfolding below
 coded-before e j l h = omega (arith, below-mono (suc (e .larger)) j (omega arith))
@@ -84,7 +84,7 @@ coded-same e f l m q = go (decLt (e .larger) (f .larger)) (decLt (f .larger) (e 
     go (no _) (yes h) = absurd (omega (arith, coded-before f (e .larger) m h))
     go (no c) (no d) = let s : e .larger ≡ f .larger = omega arith in (omega (arith, ap below s), s)
 
--- 1 where an edge has this number
+-- 1 if an edge has this number, else 0
 unfoldable listed : List Pair → ℕ → ℕ
 unfolding ℕ-discrete
 listed [] x = 0
@@ -141,7 +141,7 @@ takes-own (takes-share {n = n} {a = a} {b = b} {edges = edges} h z) F =
     }
 takes-own takes-end F = F
 
--- the bytes of what has been read
+-- the number of bytes read so far
 abbrev spent : Progress → ℕ
 spent start = 0
 spent (sized n) = 2
@@ -178,7 +178,7 @@ reads-bytes (goes-on b t R) e F = omega (arith, reads-bytes R e (takes-own t F),
 pub sheet-bytes : {E : Edition} {bytes : List ℕ} {n : ℕ} {weights : List ℕ} {edges : List Pair} → ReadsAs E bytes (sheet n weights edges) → length bytes ≤ 13688
 sheet-bytes R = omega (arith, reads-bytes R refl tt)
 
--- bytes behind those that a record was read from
+-- a record is read in the same way if more bytes follow
 begins-longer : {r : Record} {bytes rest : List ℕ} (more : List ℕ) → Begins r bytes rest → Begins r (bytes ++ more) (rest ++ more)
 begins-longer more begins-size = begins-size
 begins-longer more begins-share = begins-share
@@ -199,7 +199,7 @@ not-cut (a ∷ b ∷ []) d l f = absurd (omega arith)
 not-cut (a ∷ b ∷ c ∷ []) d l f = absurd (omega arith)
 not-cut (a ∷ b ∷ c ∷ e ∷ rest) d l f = let s = begins-some d a b c e rest in f (s .0) (s .1) (s .2)
 
--- where there are more bytes than a good sheet has, the reading ends before the last of them, and so before any that follow
+-- if there are more bytes than a good sheet has, the reading ends before the last of them, and so before any that follow
 reads-longer : {E : Edition} {len : ℕ} {q : Progress} {at : ℕ} {bytes : List ℕ} {r : Reading} (more : List ℕ) → Reads E len q at bytes r → Own E q → spent q ≡ at
     → at + length bytes ≡ len → 13692 < len → Reads E (len + length more) q at (bytes ++ more) r
 reads-longer {E} more (whole {n = n} {weights = weights} {edges = edges}) F s l h = absurd (omega (arith, spent-most E (ended n weights edges) F))
@@ -211,7 +211,7 @@ reads-longer more (goes-on b t R) F s l h =
     goes-on (begins-longer more b) t
     (reads-longer more R (takes-own t F) (omega (arith, takes-spent t)) (omega (arith, begins-width b)) h)
 
--- the first 16,384 bytes are read as all of them are
+-- the first 16,384 bytes are read just as all of them are
 pub limit-unseen : {E : Edition} (bytes : List ℕ) {r : Reading} → ReadsAs E (take input-limit bytes) r → ReadsAs E bytes r
 limit-unseen {E} bytes {r} R = go (decLe (length bytes) input-limit)
   where

@@ -1,5 +1,5 @@
--- What holds of the plain model: after any list of calls the vertices left have an inverse, half as many picks are to come, each
--- vertex left has an open partner, and a take-back gives back the pairs from before its pick. Assumes nothing.
+-- What holds of the plain model: after any list of calls the unmatched vertices have an inverse, half as many picks are to come, each
+-- unmatched vertex has an open partner, and an undo gives back the pairs from before its pick. Assumes nothing.
 use mathlib.Core.Path.{_≡_, refl, sym, ap}
 use mathlib.Core.Logic.{_≢_, _↔_}
 use mathlib.Core.List.{List, [], _∷_}
@@ -82,7 +82,7 @@ module _ {p : ℕ} (P : OddPrime p) (g : Graph) (S : Subset) where
       (adjacent? g (pair-of a b)) (nonsingular? P g S (pair-of a b ∷ pairs))
       .1 (h .named, h .a-left, h .b-left, h .adjacent, h .nonsingular)
 
-  -- an allowed pick removes two vertices from those left
+  -- an allowed pick removes two vertices from the unmatched ones
   pub unmatched-without : (pairs : Pairs) (a b : ℕ) → a ≢ b → a ∈ unmatched S pairs → b ∈ unmatched S pairs
       → Without (unmatched S pairs) a b (unmatched S (pair-of a b ∷ pairs))
   unfolding unmatched
@@ -93,7 +93,7 @@ module _ {p : ℕ} (P : OddPrime p) (g : Graph) (S : Subset) where
       go (no _) (yes l) = rw (pair-of-larger a b l) (swap (without (unmatched S pairs) b a (λ e. d (sym e)) hb ha))
       go (no h) (no k) = absurd (d (omega arith))
 
-  -- where the Tutte matrix is not 0 the two are adjacent
+  -- two vertices at which the Tutte matrix is not 0 are adjacent
   nonzero-upper : (i j : ℕ) → ¬ Congruent p (upper g i j) 0 → cell g i j ≡ 1
   unfolding upper
   nonzero-upper i j h = go (ℕ-discrete (cell g i j) 1)
@@ -116,7 +116,7 @@ module _ {p : ℕ} (P : OddPrime p) (g : Graph) (S : Subset) where
           (λ z. h (equals (tutte-lower g p a b l) ⨾ linear (negative-plus positive (upper g b a) ⊖ z) (omega arith))))
       go (no d) (no e) = let same : a ≡ b = omega arith in absurd (h (rw same (equals (tutte-diagonal g p b))))
 
-  -- every vertex left has an open partner
+  -- every unmatched vertex has an open partner
   pub open-partner : (pairs : Pairs) → Nonsingular P g S pairs → (c : ℕ) → c < g .n → c ∈ unmatched S pairs
       → (r : ℕ) × (r < g .n) × OpenPartner P g S pairs c r
   open-partner pairs I c hc l =
@@ -135,7 +135,7 @@ module _ {p : ℕ} (P : OddPrime p) (g : Graph) (S : Subset) where
         }),
       )
 
-  -- an automatic pick where a vertex is left, and where none is
+  -- an automatic pick if a vertex is unmatched, and if none is
   pub data Automatic (pairs : Pairs) : Type 0 where
     lowest : (c r : ℕ) → Lowest (g .n) (λ k. k ∈ unmatched S pairs) c → Lowest (g .n) (OpenPartner P g S pairs c) r
         → step P g S pairs automatic ≡ record { answer = done (pair-of c r); pairs = pair-of c r ∷ pairs } → Automatic pairs
@@ -159,7 +159,7 @@ module _ {p : ℕ} (P : OddPrime p) (g : Graph) (S : Subset) where
           partner (first-at r hr a k) q =
               lowest c r (record { below = hc; holds = l; none-before = h }) (record { below = hr; holds = a; none-before = k }) (rw (e, q))
 
-  -- the pick that it makes is allowed
+  -- the pick that an automatic pick makes is allowed
   pub lowest-allowed : (pairs : Pairs) (c r : ℕ) → Lowest (g .n) (OpenPartner P g S pairs c) r → Allowed P g S pairs c r
   lowest-allowed pairs c r R = allowed-of-accepted pairs c r (R .holds)
 
@@ -189,7 +189,7 @@ module _ {p : ℕ} (P : OddPrime p) (g : Graph) (S : Subset) where
   after-nonsingular pairs [] (suc k) I = I
   after-nonsingular pairs (c ∷ calls) (suc k) I = after-nonsingular (step P g S pairs c .pairs) calls k (step-nonsingular pairs c I)
 
-  -- an allowed pick leaves two vertices fewer
+  -- an allowed pick leaves two fewer vertices unmatched
   fewer : (pairs : Pairs) (c r : ℕ) → Allowed P g S pairs c r
       → count (g .n) (unmatched S pairs) ≡ suc (suc (count (g .n) (unmatched S (pair-of c r ∷ pairs))))
   fewer pairs c r a =
@@ -202,7 +202,7 @@ module _ {p : ℕ} (P : OddPrime p) (g : Graph) (S : Subset) where
       not-in i d (inside k) = absurd (d k)
       not-in i d (outside o) = o
 
-  -- picks to come are half of the vertices left, and no other number is
+  -- picks to come are half of the unmatched vertices, and no other number is
   pub picks-to-come : (m : ℕ) (pairs : Pairs) → Nonsingular P g S pairs → count (g .n) (unmatched S pairs) ≡ m + m → PicksToCome P g S pairs m
   picks-to-come zero pairs I e = go (automatic-cases pairs I)
     where

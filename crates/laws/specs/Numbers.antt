@@ -59,7 +59,7 @@ pub record Small (r : Refusal) : Type 0 where
   pub cause-below : r .cause < 2 ^ 8
   pub place-below : r .place < 2 ^ 16
 
--- for an opening of n vertices: the size is the one sent
+-- what fits of an opening of n vertices: its session has n vertices
 abbrev pub SmallOpening : ℕ → Opening → Type 0
 SmallOpening n (opened s) = s .size ≡ n
 SmallOpening n (singular f) = f < 2 ^ 16
@@ -120,7 +120,7 @@ answer-numbers (done x) (denied r) s t h k e = absurd (omega (arith, k .cause-fr
 answer-numbers (denied q) (done y) s t h k e = absurd (omega (arith, h .cause-from, h .cause-below))
 answer-numbers (denied q) (denied r) s t h k e = ap denied (same-refusal h k e)
 
--- what fits where a call is only accepted or refused: the pairs of the session handed back
+-- what fits if a call is only accepted or refused: the pairs of the session handed back
 abbrev pub SmallRuling : Ruling → Session → Type 0
 SmallRuling accepted s = s .made < 2 ^ 8
 SmallRuling (refused r) s = Small r
@@ -133,14 +133,14 @@ pub ruled-low-byte : (kind : ℕ) (v : Ruling) (s : Session) → kind < 2 ^ 8 �
 ruled-low-byte kind accepted s l h = omega arith
 ruled-low-byte kind (refused r) s l h = omega arith
 
--- and two different rulings of a kind have different numbers
+-- and two different rulings of an answer-kind have different numbers
 pub ruled-numbers : (kind : ℕ) (v w : Ruling) (s t : Session) → kind < 2 ^ 8 → SmallRuling v s → SmallRuling w t → ruled-number kind v s ≡ ruled-number kind w t → v ≡ w
 ruled-numbers kind accepted accepted s t l h k e = refl
 ruled-numbers kind accepted (refused r) s t l h k e = absurd (omega (arith, k .cause-from, k .cause-below))
 ruled-numbers kind (refused q) accepted s t l h k e = absurd (omega (arith, h .cause-from, h .cause-below))
 ruled-numbers kind (refused q) (refused r) s t l h k e = ap refused (same-refusal h k e)
 
--- the first of the causes that applies: its place, or a later one
+-- a refusal by the first cause, at its place, or by a later one
 data Judged (f : Finding) (k : ℕ) (later : Ruling) (r : Refusal) : Type 0 where
   here : (x : ℕ) → f ≡ at x → r ≡ because k x → Judged f k later r
   there : f ≡ absent → later ≡ refused r → Judged f k later r
@@ -186,11 +186,11 @@ small-judged (c ∷ later) {r} h e = go (judged (c .finding) (c .number) (judge 
     go (here x q t) rest = small (c .number) x t (h .0) (h .1) (h .2 x q)
     go (there _ t) rest = rest t
 
--- one at place 0
+-- a cause at place 0
 at-zero : {A : Type 0} (d : Dec A) (x : ℕ) → when d 0 ≡ at x → x < 2 ^ 16
 at-zero d x q = omega (arith, place-when d 0 q)
 
--- a refusal by the causes 1 to 4 is small, and so is one by later causes that are
+-- a refusal by causes 1 to 4 is small, and so is one by later causes that are small
 small-causes : (p : ℕ) (g : Graph) (buffers : List Lent) (later : List Cause) {r : Refusal} → SmallNumbers buffers → SmallCauses later
     → judge (opening-causes p g buffers ++ later) ≡ refused r → Small r
 unfolding bad-cell bad-weight
@@ -237,7 +237,7 @@ opens-small {p} {g} (finds-singular f witness e l s) =
     omega (arith, s .kernel .below, opening-accepted p g _ _ _ _ .0 e .1 .size)
 
 module _ {p : ℕ} (P : OddPrime p) where
-  -- and so is what a session call answers, whatever it is lent besides and looks at afterwards
+  -- and so is what a session call answers, whatever else it is lent and looks at afterwards
   session-small : (s : State) (besides : List Lent) (later : List Cause) {r : Refusal} → SmallNumbers besides → SmallCauses later
       → judge (session-causes p s besides ++ later) ≡ refused r → Small r
   unfolding ill-formed not-inverse
@@ -312,7 +312,7 @@ module _ {p : ℕ} (P : OddPrime p) where
           grown (shrinks _ q) = omega (arith, ap length q)
           grown (stays q) = rw q (omega arith)
 
-  -- the pairs made are few on a sound session, and after calls; the size is the same
+  -- on a sound session, and after calls, the pairs made are few, and the number of vertices is the same
   made-few : (s : State) → session-ruling p s ≡ accepted → s .session .made < 2 ^ 8
   made-few s e = let k = session-accepted p s .0 e .1 in omega (arith, k .well-formed .few, k .in-order .size)
 
@@ -337,7 +337,7 @@ module _ {p : ℕ} (P : OddPrime p) where
       after (refuses _ _ _) = refl
       after (carries _ _ _ _ _ _ _) = refl
 
-  -- what open row and replay answer is small
+  -- what the row of a vertex and a replay answer is small
   pub row-small : {s t : State} {a : ℕ} {row row′ : List ℕ} {v : Ruling} → ShowsRow P s a row v t row′ → SmallRuling v (s .session)
   unfolding row-ruling
   row-small {s} {a = a} {row = row} (shows e) =
@@ -374,7 +374,7 @@ module _ {p : ℕ} (P : OddPrime p) where
       run-made runs (made-few s (replay-accepted P s numbers answers .0 e .0))
 
 module _ (E : Edition) where
-  -- every session call through the host has an outcome, and no other
+  -- every session call through the host has exactly one outcome
   pub host-handles-some : (s : State) (c : Call) → (k : ℕ) × (t : State) × HostHandles E s c k t
   host-handles-some s c =
       let h = handles-some (E .prime) (unpacked-state E s) c in
@@ -418,7 +418,7 @@ module _ (E : Edition) where
         λ w. absurd (let q = d .1 w .1 in let z : _≡_ {A = ℕ} 0 1 = cc in omega arith),
       )
 
-  -- open row through the host has an outcome, and no other
+  -- the row of a vertex through the host has exactly one outcome
   pub host-row-some : (s : State) (a : ℕ) (row : List ℕ) → (k : ℕ) × (t : State) × (after : List ℕ) × HostShowsRow E s a row k t after
   host-row-some s a row = go (row-ruling (E .prime) (unpacked-state E s) a row) refl
     where

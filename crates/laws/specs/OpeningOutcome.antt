@@ -1,5 +1,5 @@
--- One buffer only holds an inverse or a witness; opening has exactly one outcome, and opens exactly when there is an inverse. Assumes
--- nothing.
+-- Only one buffer holds a given inverse or witness; opening has exactly one outcome, and opens exactly when there is an inverse.
+-- Assumes nothing.
 use mathlib.Core.Path.{_≡_, refl, sym, ap, ap₂, _∙_}
 use mathlib.Core.Logic.{_↔_}
 use mathlib.Core.List.{List, []}
@@ -40,7 +40,7 @@ table-over {p} {g} words other e I = record {
 }
 
 module _ {p : ℕ} (P : OddPrime p) (g : Graph) (S : Subset) where
-  -- one buffer only holds the inverse on a set
+  -- only one buffer holds the inverse on a set
   pub inverse-table-unique : {L : Subset} {u v : List ℕ} → length u ≡ g .n * g .n → length v ≡ g .n * g .n → InverseTable p g L u → InverseTable p g L v → u ≡ v
   inverse-table-unique {L} {u} {v} hu hv U W = ext-getD 0 u v (hu ∙ sym hv) same
     where
@@ -53,7 +53,7 @@ module _ {p : ℕ} (P : OddPrime p) (g : Graph) (S : Subset) where
           let i = index-of (g .n) x in
           below-equal (U .small x k) (W .small x k) (equals (ap (λ z. getD u z 0) (sym i)) ⨾ e ⨾ equals (ap (λ z. getD v z 0) i))
 
-  -- and where there is an inverse, one does
+  -- and if there is an inverse, a buffer holds it
   pub inverse-table-of : {L : Subset} {T : Matrix} → Inverse p (g .n) (tutte g p) L T → (words : List ℕ) × (length words ≡ g .n * g .n) × InverseTable p g L words
   inverse-table-of {L} {T} I = (words, length-list-of (g .n * g .n) word, record { small = small; is-inverse = inverse-same (λ _ _ _ _. refl) (λ _ _. refl) entries I })
     where
@@ -75,7 +75,7 @@ module _ {p : ℕ} (P : OddPrime p) (g : Graph) (S : Subset) where
           ⨾ remainder (T ((i * g .n + j) / g .n) ((i * g .n + j) % g .n))
           ⨾ equals (ap₂ T (index-row (g .n) i j hj) (index-column (g .n) i j hj))
 
-  -- one column and one buffer only are the witness
+  -- only one column and one buffer are the witness
   pub singular-unique : {f h : ℕ} {u v : List ℕ} → length u ≡ g .n → length v ≡ g .n → Singular p g S f u → Singular p g S h v → (f ≡ h) × (u ≡ v)
   singular-unique {f} {h} {u} {v} hu hv U W =
       let e : f ≡ h = first-unique P (g .n) (tutte g p) (skew P g) S (U .first) (W .first) in
@@ -121,7 +121,7 @@ module _ {p : ℕ} (P : OddPrime p) (g : Graph) (S : Subset) where
       go accepted e (column f w F W) =
           let s = singular-of F W in (singular f, with-witness (g .n) (s .0) b, finds-singular f (s .0) e (s .1) (s .2))
 
-  -- and no other
+  -- and only one
   pub opens-unique : {b : Buffers} {o o′ : Opening} {a a′ : Buffers} → Opens p g S b o a → Opens p g S b o′ a′ → (o ≡ o′) × (a ≡ a′)
   opens-unique (refuses-opening r e) (refuses-opening r′ e′) = (cc, refl)
   opens-unique (refuses-opening r e) (opens words e′ l h) = absurd (let z : _≡_ {A = ℕ} 0 1 = cc in omega arith)

@@ -1,4 +1,4 @@
--- Open row, replay, the reader and the listing have exactly one outcome each. Assumes nothing.
+-- The row of a vertex, replay, the reader and the listing have exactly one outcome each. Assumes nothing.
 use mathlib.Core.Path.{_≡_, refl, sym, ap, _∙_}
 use mathlib.Core.Logic.{_↔_}
 use mathlib.Core.List.{List, [], _∷_, _++_}
@@ -47,7 +47,7 @@ module _ {p : ℕ} (P : OddPrime p) where
   row-unique (row-refused r e) (row-refused r′ e′) = (cc, refl, refl)
 
 module _ {p : ℕ} (P : OddPrime p) where
-  -- a replay is not refused exactly when the session is sound, there is room for the answers, and the list is in order
+  -- a replay is accepted exactly when the session is sound, there is room for the answers, and the list is in order
   pub replay-accepted : (s : State) (numbers answers : List ℕ)
       → (replay-ruling P s numbers answers ≡ accepted)
       ↔ ((session-ruling p s ≡ accepted) × LongEnough (lent-answers (call-count numbers) (length answers) ∷ []) × (judge (list-causes numbers) ≡ accepted))
@@ -81,7 +81,7 @@ fills-some E bytes at adjacency weights = by-reading (read-from E bytes at .read
         go accepted e = (graph-read n (length edges), _, _, fills R e)
         go (refused why) e = (not-read why, adjacency, weights, lacks-room R e)
 
--- the parts of a sheet
+-- equal sheets have equal parts
 sheets : {n n′ : ℕ} {drawn drawn′ : List ℕ} {edges edges′ : List Pair} → sheet n drawn edges ≡ sheet n′ drawn′ edges′
     → (n ≡ n′) × (drawn ≡ drawn′) × (edges ≡ edges′)
 sheets e = (cc, cc, cc)

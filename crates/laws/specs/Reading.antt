@@ -106,14 +106,14 @@ abbrev pub EdgesFit : ℕ → List Pair → Type 0
 EdgesFit n [] = Unit {0}
 EdgesFit n (e ∷ edges) = (e .smaller < e .larger) × (e .larger < n) × EdgesFit n edges
 
--- what holds of a sheet that is read
+-- what holds of a sheet that has been read
 pub record Fit (E : Edition) (n : ℕ) (weights : List ℕ) (edges : List Pair) : Type 0 where
   pub small : n ≤ largest
   pub seeded-by : ℕ
   pub drawn : weights ≡ draws (E .draw) seeded-by (pair-count n)
   pub edges-fit : EdgesFit n edges
 
--- so far
+-- what holds of the sheet so far
 abbrev pub So : Edition → Progress → Type 0
 So E start = Unit {0}
 So E (sized n) = n ≤ largest

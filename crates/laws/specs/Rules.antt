@@ -21,7 +21,7 @@ lowest-unique {n} {x} {y} X Y = go (decLt x y) (decLt y x)
     go (no a) (no b) = omega arith
 
 module _ {p : ℕ} (P : OddPrime p) (g : Graph) (S : Subset) where
-  -- wherever the vertices left have an inverse, the function's answer is that of a rule
+  -- if the unmatched vertices have an inverse, the function's answer is that of a rule
   pub step-rule : (pairs : Pairs) (c : Call) → Nonsingular P g S pairs → Rule P g S pairs c (step P g S pairs c .answer) (step P g S pairs c .pairs)
   unfolding step
   step-rule pairs (pick a b) I = go (pick-ruling P g S pairs a b) refl
@@ -43,7 +43,7 @@ module _ {p : ℕ} (P : OddPrime p) (g : Graph) (S : Subset) where
       go (yes J) = undoes refl J
       go (no d) = undo-refused refl d
 
-  -- what a rule gives, the function gives
+  -- the function gives whatever a rule gives
   pub rule-step : {pairs after : Pairs} {c : Call} {a : Answer} → Rule P g S pairs c a after → step P g S pairs c ≡ record { answer = a; pairs = after }
   unfolding step
   rule-step {pairs} (picks {a} {b} e) = ap (append pairs (pair-of a b)) e

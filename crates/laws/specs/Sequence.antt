@@ -1,4 +1,4 @@
--- The sequence of bytes that valid pairs make: it gives the pairs back, and it is well formed. Assumes nothing.
+-- The bytes of valid pairs as a sequence: the pairs can be read back, and it is well formed. Assumes nothing.
 use mathlib.Core.Path.{_≡_, refl, sym, ap, _∙_}
 use mathlib.Core.Logic.{_≢_}
 use mathlib.Core.List.{List, [], _∷_, _++_, append-assoc}
@@ -34,7 +34,7 @@ module _ (earlier : Pairs) (a b : ℕ) (rest : List ℕ) where
       ap (λ k. getD (bytes earlier ++ a ∷ b ∷ rest) (k + 1) 0) (sym (length-bytes earlier))
       ∙ getD-append-add (bytes earlier) (a ∷ b ∷ rest) 1 0
 
--- the pairs are read off again
+-- the pairs are read back
 pub pairs-on-bytes : (pairs : Pairs) (rest : List ℕ) → pairs-on (bytes pairs ++ rest) (length pairs) ≡ pairs
 unfolding pairs-on
 pairs-on-bytes [] rest = refl
@@ -42,7 +42,7 @@ pairs-on-bytes (e ∷ earlier) rest =
     rw (newest e earlier rest, at-smaller earlier (e .smaller) (e .larger) rest, at-larger earlier (e .smaller) (e .larger) rest, pairs-on-bytes earlier (e .smaller ∷ e .larger ∷ rest))
 
 module _ {p : ℕ} (P : OddPrime p) (g : Graph) (S : Subset) where
-  -- a property of two vertices that every pair has
+  -- a property of the two vertices of every valid pair holds of their two bytes
   pub every-pair : (Q : ℕ → ℕ → Type 0) → ((e : Pair) (earlier : Pairs) → Appendable P g S e earlier → Q (e .smaller) (e .larger))
       → (pairs : Pairs) (rest : List ℕ) → Valid P g S pairs
       → Every (length pairs) (λ k. Q (getD (bytes pairs ++ rest) (k + k) 0) (getD (bytes pairs ++ rest) (k + k + 1) 0))
@@ -116,7 +116,7 @@ module _ {p : ℕ} (P : OddPrime p) (g : Graph) (S : Subset) where
           rw (h, at-larger earlier (e .smaller) (e .larger) rest) (last (ℕ-discrete x (length earlier + length earlier)) b (omega arith))
       go (no d) (no c) r b = r (omega arith)
 
-  -- two vertices fewer are left for each pair
+  -- each pair leaves two fewer vertices unmatched
   pub count-left : (pairs : Pairs) → Valid P g S pairs → count (g .n) (unmatched S pairs) + (length pairs + length pairs) ≡ count (g .n) S
   unfolding unmatched
   count-left [] nil = omega arith
@@ -208,11 +208,11 @@ sequence-on g made s l W =
         ∙ getD-replicate (g .n - (made + made)) d unused 0 (omega arith)
         ∙ sym (getD-take (g .n) s x 0 h ∙ W .rest x h (omega arith))
 
--- the vertices of its pairs are in play
+-- the vertices of the pairs are in play
 abbrev pub Inside : Subset → ℕ → List ℕ → Type 0
 Inside S made s = Every (made + made) (λ x. getD s x 0 ∈ S)
 
--- a vertex in play that is none of the first bytes is left
+-- a vertex in play that is not among the first bytes is unmatched
 pub left-on : (S : Subset) (s : List ℕ) (v k : ℕ) → v ∈ S → Every (k + k) (λ x. getD s x 0 ≢ v) → v ∈ unmatched S (pairs-on s k)
 unfolding pairs-on unmatched
 left-on S s v zero m d = m
@@ -221,7 +221,7 @@ left-on S s v (suc k) m d =
     ∙ remove-other (unmatched S (pairs-on s k)) (getD s (k + k) 0) v (λ e. d (k + k) (omega arith) (sym e))
     ∙ left-on S s v k m (λ x l. d x (omega arith))
 
--- and none of the first bytes is
+-- and none of the first bytes is unmatched
 pub used-on : (S : Subset) (s : List ℕ) (k x : ℕ) → x < k + k → getD s x 0 ∉ unmatched S (pairs-on s k)
 unfolding pairs-on unmatched
 used-on S s zero x l = absurd (omega arith)
@@ -263,7 +263,7 @@ module _ {p : ℕ} (P : OddPrime p) (g : Graph) (S : Subset) (made : ℕ) (s : L
   pub valid-on : Valid P g S (pairs-on s made)
   valid-on = valid-up-to made (omega arith)
 
--- a vertex in play that is not left stands among the bytes
+-- a vertex in play that is matched stands among the bytes
 place-of : (S : Subset) (pairs : Pairs) (rest : List ℕ) (v : ℕ) → v ∈ S → v ∉ unmatched S pairs
     → (x : ℕ) × (x < length pairs + length pairs) × (getD (bytes pairs ++ rest) x 0 ≡ v)
 unfolding unmatched

@@ -1,4 +1,4 @@
--- Listing into a buffer, and reading a sheet through the host, have exactly one outcome each; what the number of a sheet says back; and
+-- Listing into a buffer, and reading a sheet through the host, have exactly one outcome each; what the number of a sheet gives back; and
 -- opening through the host does not refuse what was read through it. Assumes nothing.
 use mathlib.Core.Path.{_≡_, refl, sym, ap, ap₂, _∙_}
 use mathlib.Core.List.{List, [], _∷_}
@@ -50,7 +50,7 @@ host-reads-unique {E} {weights = weights} H H′ =
       H .stored ∙ ap₂ (λ o left. weights-stored E o left weights) (u .0) (u .2) ∙ sym (H′ .stored),
     )
 
--- the cause of an answer, 0 when none
+-- the cause of an answer, 0 if there is none
 abbrev pub read-cause : Read → ℕ
 read-cause (graph-read n m) = 0
 read-cause (not-read why) = why .cause
@@ -69,7 +69,7 @@ read-numbers len (not-read why) (graph-read n m) l h h′ e = absurd (omega (ari
 read-numbers len (not-read why) (not-read why′) l h h′ e =
     ap not-read (ap₂ because {x = why .cause} {y = why′ .cause} (omega (arith, h .cause-below, h′ .cause-below)) (omega (arith, h .cause-below, h′ .cause-below)))
 
--- the buffers that opening is lent besides the graph are long enough for n vertices, as bytes
+-- the other buffers that opening is lent are, as bytes, long enough for n vertices
 abbrev pub LongBytes : Edition → ℕ → Buffers → Type 0
 LongBytes E n b =
     LongEnough

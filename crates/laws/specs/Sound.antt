@@ -1,4 +1,5 @@
--- What an accepting ruling says: the size, the lengths, the tables and the session are in order; and conversely. Assumes nothing.
+-- What an accepting ruling says: the number of vertices, the lengths, the tables and the session are in order; and conversely.
+-- Assumes nothing.
 use mathlib.Core.Path.{_≡_, refl}
 use mathlib.Core.Logic.{_↔_}
 use mathlib.Core.List.{List, [], _∷_, _++_}
@@ -29,7 +30,7 @@ pub record GraphFits (g : Graph) : Type 0 where
   pub cells : g .n * g .n ≤ length (g .adjacency)
   pub weights : pair-count (g .n) ≤ length (g .weights)
 
--- and so are the buffers that opening is lent besides, by their lengths
+-- and so are the other buffers that opening is lent, by their lengths
 pub record OpeningFits (g : Graph) (inverse sequence witness work : ℕ) : Type 0 where
   pub graph : GraphFits g
   pub inverse-fits : g .n * g .n ≤ inverse
@@ -140,13 +141,13 @@ session-accepted p s =
     let f = session-fits s [] in
     (λ e. let h = o .0 (r .0 e) in (f .0 (h .0) .0, h .1), λ h. r .1 (o .1 (f .1 (h .0, tt), h .1)))
 
--- the causes of two lists
+-- none of the causes of two lists applies
 none-both : (a b : List Cause) → NoneApplies (a ++ b) ↔ (NoneApplies a × NoneApplies b)
 none-both [] b = (λ h. (tt, h), λ h. h .1)
 none-both (c ∷ a) b = let k = none-both a b in (λ h. ((h .0, k .0 (h .1) .0), k .0 (h .1) .1), λ h. (h .0 .0, k .1 (h .0 .1, h .1)))
 
--- a session call that is lent `more` besides and looks at `later` after 1 to 6 is accepted exactly when the session is sound, these are long
--- enough, and none of the later causes applies
+-- a session call that is lent `more` as well and looks at `later` after 1 to 6 is accepted exactly when the session is sound, `more` are
+-- long enough, and none of the later causes applies
 pub more-accepted : (p : ℕ) (s : State) (more : List Lent) (later : List Cause)
     → (judge (session-causes p s more ++ later) ≡ accepted) ↔ ((session-ruling p s ≡ accepted) × LongEnough more × (judge later ≡ accepted))
 more-accepted p s more later =

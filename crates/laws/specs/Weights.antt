@@ -1,4 +1,4 @@
--- Where a weight stands: the closed form of its index, and that it is below n(n - 1)/2. Assumes nothing.
+-- The index of a weight: its closed form, and that it is below n(n - 1)/2. Assumes nothing.
 use mathlib.Core.Path.{_≡_, sym, ap, _∙_}
 use Prim.Native.Nat.{ℕ, zero, suc, _+_, _*_, _-_, _/_, _≤_, _<_}
 use native.Mathlib.Nat.{add-zero, le-refl, mul-div-cancel}
@@ -6,7 +6,7 @@ use native.Mathlib.Omega.{arith}
 use Rattle.modular.specs.Sum.{sum, sum-none, sum-suc}
 use Rattle.matching.specs.Graph.{Graph, pair-count, weight-index}
 
--- the weights of the rows before i
+-- the number of weights of the rows before i
 abbrev pub row-start : ℕ → ℕ → ℕ
 row-start n i = sum i (λ k. n - 1 - k)
 
@@ -33,7 +33,7 @@ row-start-double n (suc i) l =
 halved : (s t : ℕ) → s * 2 ≡ t → t / 2 ≡ s
 halved s t e = ap (λ z. z / 2) (sym e) ∙ mul-div-cancel s (omega arith)
 
--- the index as code computes it
+-- the index as the code computes it
 pub row-start-closed : (n i : ℕ) → i ≤ n → row-start n i ≡ i * (2 * n - i - 1) / 2
 row-start-closed n i l = sym (halved (row-start n i) (i * (2 * n - i - 1)) (row-start-double n i l))
 

@@ -11,7 +11,7 @@ use Rattle.lists.specs.Values.{list-of, length-list-of, getD-list-of, list-of-s
 use Rattle.lists.specs.Onto.{onto, onto-length, onto-front, onto-front-same, onto-behind}
 use Rattle.matching.specs.Host.{word, words, Bytes, low-bytes, bytes-of}
 
--- a word is that of its bytes, wherever they stand
+-- a word is the same wherever its bytes stand
 word-same : (w : ℕ) (l m : List ℕ) (a b : ℕ) → ((k : ℕ) → k < w → getD l (a + k) 0 ≡ getD m (b + k) 0) → word w l a ≡ word w m b
 unfolding word
 word-same zero l m a b h = refl
@@ -22,7 +22,7 @@ word-same (suc w) l m a b h =
     shifted : (a k : ℕ) → a + 1 + k ≡ a + suc k
     shifted a k = omega arith
 
--- behind the first k bytes
+-- a word behind the first k bytes
 word-drop : (w k : ℕ) (l : List ℕ) (x : ℕ) → word w (drop k l) x ≡ word w l (k + x)
 word-drop w k l x = word-same w (drop k l) l x (k + x) (λ j q. getD-drop k l (x + j) 0 ∙ ap (λ i. getD l i 0) (omega arith))
 
@@ -45,7 +45,7 @@ unfolding low-bytes
 low-length zero x = refl
 low-length (suc w) x = ap suc (low-length w (x / 256))
 
--- a number that fits is the word of its bytes
+-- a number that fits w bytes is the word of its low bytes
 word-low : (w x : ℕ) → x < 256 ^ w → word w (low-bytes w x) 0 ≡ x
 unfolding word low-bytes
 word-low zero x h = omega arith
@@ -53,7 +53,7 @@ word-low (suc w) x h =
     omega
     (arith, word-drop w 1 (x % 256 ∷ low-bytes w (x / 256)) 0, word-low w (x / 256) (omega (arith, pow-suc 256 w)))
 
--- and the bytes of a word are those that make it
+-- the low bytes of a word are the bytes that it was made of
 low-word : (w : ℕ) (l : List ℕ) → Bytes l → w ≤ length l → low-bytes w (word w l 0) ≡ take w l
 unfolding word low-bytes
 low-word zero l B h = refl
@@ -66,7 +66,7 @@ low-word (suc w) (a ∷ l) B h =
     rw (e, low, high) (ap (λ r. a ∷ r) (low-word w l (λ x. B (suc x)) (omega arith)))
 
 module _ (w : ℕ) where
-  -- how many words there are
+  -- the number of words
   pub words-length : (l : List ℕ) → length (words w l) ≡ length l / w
   unfolding words
   words-length l = length-list-of _ _
@@ -74,7 +74,7 @@ module _ (w : ℕ) where
   words-within : (l : List ℕ) (k : ℕ) → k ≤ length (words w l) → w * k ≤ length l
   words-within l k h = omega (arith, mul-le-mul-left w (rw words-length at h), mul-div-le (length l) w)
 
-  -- a word, and the first ones
+  -- the word at index i, and the first k words
   pub words-at : (l : List ℕ) (i : ℕ) → i < length (words w l) → getD (words w l) i 0 ≡ word w l (w * i)
   unfolding words
   words-at l i h = getD-list-of _ _ i (rw words-length at h)
@@ -82,7 +82,7 @@ module _ (w : ℕ) where
   words-front : (l : List ℕ) (k : ℕ) → k ≤ length (words w l) → take k (words w l) ≡ list-of k (λ i. word w l (w * i))
   words-front l k h = sym (list-of-front k (words w l) h) ∙ list-of-same k _ _ (λ i q. words-at l i (omega arith))
 
-  -- how many bytes words have, and a byte of them
+  -- the number of bytes, and byte k of the word at index i
   pub bytes-length : (l : List ℕ) → length (bytes-of w l) ≡ w * length l
   unfolding bytes-of
   bytes-length [] = sym (mul-zero w)
@@ -103,7 +103,7 @@ module _ (w : ℕ) where
   bytes-append [] b = refl
   bytes-append (x ∷ a) b = ap (λ r. low-bytes w x ++ r) (bytes-append a b) ∙ sym (append-assoc (low-bytes w x) (bytes-of w a) (bytes-of w b))
 
-  -- the bytes of the first k words of a byte slice are its own
+  -- the bytes of the first k words of a byte slice are its first bytes
   own-bytes : (k : ℕ) (l : List ℕ) → Bytes l → w * k ≤ length l → bytes-of w (list-of k (λ i. word w l (w * i))) ≡ take (w * k) l
   unfolding bytes-of list-of
   own-bytes zero l B h = rw (mul-zero w)
@@ -115,7 +115,7 @@ module _ (w : ℕ) where
       ∙ sym (take-add w (w * k) l)
       ∙ ap (λ n. take n l) (sym more)
 
-  -- the first words of a byte slice stored over it again, and all of them
+  -- the words of a byte slice, the first k or all of them, stored over it again leave it as it was
   pub own-front : (k : ℕ) (l : List ℕ) → Bytes l → k ≤ length (words w l) → onto (bytes-of w (take k (words w l))) l ≡ l
   own-front k l B h =
       let q = words-within l k h in
@@ -140,7 +140,7 @@ module _ (w : ℕ) where
       ∙ append-assoc (bytes-of w new) behind rest
       ∙ ap (λ r. bytes-of w new ++ r) (sym (drop-at front (behind ++ rest) (length (bytes-of w new)) fronts) ∙ ap (drop (length (bytes-of w new))) whole)
 
-  -- and so where the words were written over others
+  -- the first k words, new ones over others, are stored as if they stood over the slice's own words
   pub stored-front : (new old l : List ℕ) (k : ℕ) → Bytes l → length new ≡ k → k ≤ length (words w l)
       → onto (bytes-of w (take k (onto new old))) l ≡ onto (bytes-of w (onto new (words w l))) l
   stored-front new old l k B e h =
@@ -176,12 +176,12 @@ module _ (w : ℕ) where
           ∙ sym (words-at l i (omega (arith, same-length, onto-length new (words w l) h)))
           ∙ sym (onto-behind new (words w l) i late)
 
-  -- and so where they were written over the words of these bytes
+  -- and so are words that were written over the words of these bytes
   pub read-words : (new l : List ℕ) → Bytes l → length new ≤ length (words w l) → ((x : ℕ) → x < length new → getD new x 0 < 256 ^ w)
       → words w (onto (bytes-of w (onto new (words w l))) l) ≡ onto new (words w l)
   read-words new l B h b = ap (words w) (stored-words new l B h) ∙ back new l h b
 
-  -- what is stored are bytes
+  -- what is stored is bytes
   bytes-are : (l : List ℕ) → Bytes (bytes-of w l)
   unfolding bytes-of
   bytes-are [] = λ x. omega arith
@@ -190,7 +190,7 @@ module _ (w : ℕ) where
   pub stored-bytes : (new l : List ℕ) → Bytes l → Bytes (onto (bytes-of w new) l)
   stored-bytes new l B = bytes-both (bytes-of w new) (drop (length (bytes-of w new)) l) (bytes-are new) (bytes-drop (length (bytes-of w new)) l B)
 
--- two bytes
+-- words of two bytes
 pub words-at-two : (l : List ℕ) (i : ℕ) → 2 * i + 1 < length l → getD (words 2 l) i 0 ≡ getD l (2 * i) 0 + 256 * getD l (2 * i + 1) 0
 unfolding word
 words-at-two l i h = words-at 2 l i (omega (arith, words-length 2 l)) ∙ omega arith

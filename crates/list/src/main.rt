@@ -1,4 +1,4 @@
-// Lists the sheet on standard input: what is read, at most 16,384 bytes of it, and what is written, are `io`'s; the text is `listing`'s.
+// Lists the sheet on standard input. `io` reads at most 16,384 bytes of it and writes the text, which `listing` makes.
 use libc::STDIN_FILENO;
 use libc::STDOUT_FILENO;
 use listing::Listed;

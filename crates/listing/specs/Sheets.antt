@@ -21,18 +21,18 @@ use Rattle.sheet.specs.Filled.{room-enough, drawn-needed}
 use Rattle.text.specs.Puts.{puts-first}
 use Rattle.verdict.specs.Lines.{Writes, Verdict, full, none, GraphLines, Acceptable}
 
--- the listing of each input whose first bytes, as many as are read, are these
+-- the listing of every input whose first `input-limit` bytes are these
 abbrev pub ListsBytes : List ℕ → List ℕ → Type 0
 ListsBytes bytes text = (input : List ℕ) → take input-limit input ≡ bytes → Lists first-edition input text
 
--- tables for the largest graph, no more bytes than are read, and room for the text
+-- tables for the largest graph, at most `input-limit` bytes, and room for the text
 pub record Tables (bytes adjacency weights text : List ℕ) : Type 0 where
   pub few : length bytes ≤ input-limit
   pub cells-room : length adjacency ≡ 9216
   pub weights-room : length weights ≡ 4560
   pub text-fits : text-room ≤ length text
 
--- a sheet that is read: its graph, over just the cells and the weights that it needs, and the listing of its lines
+-- a sheet that was read: its graph, over just the cells and the weights that it needs, and the listing of its lines
 pub record Sheet (bytes : List ℕ) (n m : ℕ) (adjacency weights : List ℕ) : Type 0 where
   pub small : n ≤ largest
   pub few-edges : m ≤ length bytes
@@ -63,7 +63,7 @@ sheet-read {bytes} {adjacency} {weights} {n = n} {m = m} (fills {drawn = drawn} 
       lists = λ G. sheet-lists R (rw (a, w) at G);
     }
 
--- with tables for the largest graph a sheet is refused for its records only
+-- with tables for the largest graph, a sheet is refused only for its records
 pub sheet-refused : {bytes adjacency weights adjacency′ weights′ : List ℕ} {why : Refusal} → length adjacency ≡ 9216 → length weights ≡ 4560
     → Fills first-edition bytes adjacency weights (not-read why) adjacency′ weights′ → ListsBytes bytes (refused-line why)
 sheet-refused {why = why} la lw (refuses-records R) input e = refuses-sheet {r = why} (rw e R)
@@ -78,7 +78,7 @@ pub writes-into : {input before after : List ℕ} {end : ℕ} → text-room ≤ 
 writes-into {input} fits W =
     let p = puts-first (W .puts) in rw (p .0, p .1) (lists-into fits (W .lines input refl))
 
--- the text is no longer than the buffer, which stays as long as it was
+-- the text is no longer than the buffer, which keeps its length
 pub text-within : {input before after : List ℕ} {end : ℕ} → ListsInto first-edition input before (definition.text-of end) after → length after ≡ length before → end ≤ length before
 text-within {before = before} (lists-into {text = text} _ _) e =
     omega (arith, length-append text (drop (length text) before), length-drop (length text) before)

@@ -8,13 +8,13 @@ ghost use Rattle.verdict.specs.Lines.{Writes};
 ghost use Rattle.listing.specs.Meaning.{listed-of};
 ghost use Rattle.listing.specs.Sheets.{ListsBytes, Tables};
 
-// What the listing answers: how long the text is, or that the buffer has no room for every text.
+// What list answers: the length of the text, or that the buffer is shorter than 2,048 bytes.
 pub enum Listed {
     Text(usize),
     NoRoom,
 }
 
-// All lines of a sheet, with tables for the largest graph.
+// Writes all lines of the sheet bytes; adjacency and weights have room for the largest graph.
 fn sheet_lines(bytes: &[u8], adjacency: &mut [u8], weights: &mut [u16], text: &mut [u8]) -> usize
     requires { ⌜ Tables (now bytes) (now adjacency) (now weights) (now text) ⌝ }
     ensures { λ r. ⌜ Writes (ListsBytes (now (bytes .entry))) 0 (now (text .entry)) (now (text .exit)) r ⌝ }
@@ -37,7 +37,7 @@ fn sheet_lines(bytes: &[u8], adjacency: &mut [u8], weights: &mut [u16], text: &m
     }
 }
 
-// The same, with tables of its own.
+// Calls sheet_lines with tables of its own.
 fn write_lines(bytes: &[u8], text: &mut [u8]) -> usize
     requires { ⌜ (length (now bytes) ≤ input-limit) × (text-room ≤ length (now text)) ⌝ }
     ensures { λ r. ⌜ Writes (ListsBytes (now (bytes .entry))) 0 (now (text .entry)) (now (text .exit)) r ⌝ }
@@ -48,7 +48,7 @@ fn write_lines(bytes: &[u8], text: &mut [u8]) -> usize
     sheet_lines(bytes, &mut adjacency, &mut weights, text)
 }
 
-// Lists an input, of which at most 16,384 bytes are read, into a buffer of 2,048 bytes or more.
+// Lists the first 16,384 bytes of input, or all of them if there are fewer, into text, which needs 2,048 bytes.
 pub fn list(input: &[u8], text: &mut [u8]) -> Listed
     ensures { λ r. ⌜ ListsInto first-edition (now (input .entry)) (now (text .entry)) (listed-of r) (now (text .exit)) ⌝ }
 {

@@ -16,16 +16,16 @@ module _ (new old : List ℕ) (k : ℕ) (e : length new ≡ k) where
   pub onto-front : take k (onto new old) ≡ new
   onto-front = take-at new (drop (length new) old) k e
 
--- over nothing there is no excess
+-- over the empty list there is no excess
 pub onto-nothing : (new : List ℕ) → onto new [] ≡ new
 onto-nothing new = rw (drop-nil (length new), append-nil new)
 
--- new words over new ones of the same length
+-- of two lists of new words with the same length, the second counts
 pub onto-again : (new newer old : List ℕ) → length newer ≡ length new → onto newer (onto new old) ≡ onto newer old
 onto-again new newer old l =
     ap (λ r. newer ++ r) (ap (λ k. drop k (onto new old)) l ∙ drop-at new (drop (length new) old) (length new) refl ∙ ap (λ k. drop k old) (sym l))
 
--- the first words of a list over it
+-- the first words of a list over the list itself
 pub onto-front-same : (k : ℕ) (l : List ℕ) → k ≤ length l → onto (take k l) l ≡ l
 onto-front-same k l h = ap (λ m. take k l ++ drop m l) (length-take-le k l h) ∙ take-append-drop k l
 
@@ -35,11 +35,11 @@ onto-length new old h = omega (arith, length-append new (drop (length new) old),
 pub onto-longer : (new old : List ℕ) → length old ≤ length (onto new old)
 onto-longer new old = omega (arith, length-append new (drop (length new) old), length-drop (length new) old)
 
--- over a list that is as long there is no excess
+-- over a list of the same length there is no excess
 pub onto-covers : (new old : List ℕ) → length old ≡ length new → onto new old ≡ new
 onto-covers new old e = ap (λ k. new ++ drop k old) (sym e) ∙ ap (λ l. new ++ l) (drop-length old) ∙ append-nil new
 
--- behind the new values the old ones stand
+-- after the new values stand the old ones
 pub onto-behind : (new old : List ℕ) (x : ℕ) → length new ≤ x → getD (onto new old) x 0 ≡ getD old x 0
 onto-behind new old x h =
     let e : length new + (x - length new) ≡ x = omega arith in

@@ -26,18 +26,18 @@ state-after s returned zero = s
 state-after s [] (suc k) = s
 state-after s (r ∷ later) (suc k) = state-after (r .state) later k
 
--- 1 where a pick is accepted, else 0
+-- 1 if accepted, else 0
 abbrev pub bit-of : Ruling → ℕ
 bit-of accepted = 1
 bit-of (refused r) = 0
 
 module _ {p : ℕ} (P : OddPrime p) where
-  -- what the plain model makes of the pairs made
+  -- the plain model's step from the pairs made
   abbrev pub model-step : State → Call → Step
   model-step s c = step P (graph-of s) (in-play s) (pairs-of s) c
 
-  -- hand pick, automatic pick and take-back: the answer, and the state handed back. A refused call changes nothing; an accepted one
-  -- leaves the model's pairs and the inverse for the vertices then left
+  -- pick, automatic pick and undo (document 01: hand pick, automatic pick, take-back): the answer, and the state handed back. A refused
+  -- call changes nothing; an accepted one leaves the model's pairs and the inverse for the vertices then unmatched
   pub data Handles (s : State) (c : Call) : Answer → State → Type 0 where
     unsound : (r : Refusal) → session-ruling p s ≡ refused r → Handles s c (denied r) s
     refuses : (r : Refusal) → session-ruling p s ≡ accepted → model-step s c .answer ≡ denied r → Handles s c (denied r) s
@@ -46,23 +46,23 @@ module _ {p : ℕ} (P : OddPrime p) where
         → length inverse ≡ s .session .size * s .session .size → InverseTable p (graph-of s) (unmatched (in-play s) pairs) inverse
         → Handles s c (done e) (with-pairs (graph-of s) pairs inverse s)
 
-  -- demand 2, second half: on a sound session a hand pick is accepted exactly when `Allowed`. It follows from `Handles`.
+  -- demand 2, second half: on a sound session a pick is accepted exactly when `Allowed`. It follows from `Handles`.
   abbrev pub PickedExactly : State → (a b : ℕ) → Answer → Type 0
   PickedExactly s a b answer =
       session-ruling p s ≡ accepted → (((e : Pair) × (answer ≡ done e)) ↔ Allowed P (graph-of s) (in-play s) (pairs-of s) a b)
 
-  -- a list of calls, each given the state that the last one handed back, and what each returned
+  -- a list of calls, each given the state that the one before handed back, and what each returned
   pub data Runs : State → List Call → List Returned → Type 0 where
     none : {s : State} → Runs s [] []
     more : {s : State} {c : Call} {calls : List Call} {r : Returned} {later : List Returned} → Handles s c (r .answer) (r .state)
         → Runs (r .state) calls later → Runs s (c ∷ calls) (r ∷ later)
 
-  -- for each vertex b, whether a pick of a and b would be accepted
+  -- the row of a (document 01: open row): for each vertex b, 1 if a pick of a and b would be accepted, else 0
   unfoldable pub open-row : State → ℕ → List ℕ
   unfolding list-of pick-ruling
   open-row s a = list-of (s .session .size) (λ b. bit-of (pick-ruling P (graph-of s) (in-play s) (pairs-of s) a b))
 
-  -- open row of a: causes 1 to 6, with the row among the lent buffers, then 7 and 8 of a itself
+  -- the ruling on the row of a: causes 1 to 6, with the row among the lent buffers, then 7 and 8 of a itself
   unfoldable pub row-ruling : State → ℕ → List ℕ → Ruling
   unfolding session-ruling decLt
   row-ruling s a row =
@@ -72,7 +72,7 @@ module _ {p : ℕ} (P : OddPrime p) where
       ∷ needs 8 (in? (unmatched (in-play s) (pairs-of s)) a)
       ∷ [])
 
-  -- whether it was refused, the state handed back, which is always as it came, and the row afterwards
+  -- the row of a: its ruling, the state handed back, which is always as it came, and the row buffer afterwards
   pub data ShowsRow (s : State) (a : ℕ) (row : List ℕ) : Ruling → State → List ℕ → Type 0 where
     shows : row-ruling s a row ≡ accepted → ShowsRow s a row accepted s (onto (open-row s a) row)
     row-refused : (r : Refusal) → row-ruling s a row ≡ refused r → ShowsRow s a row (refused r) s row

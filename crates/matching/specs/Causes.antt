@@ -1,5 +1,5 @@
--- The causes 1 to 6 of document 01's table, each with its place, and the order in which opening and the session calls look at them.
--- Causes 7 to 11 are in Model, 12 to 15 in Records; a replay has 12 and 13 of its own, in Replay. Assumes nothing.
+-- Causes 1 to 6 of document 01's table, each with its place, and the order in which opening and the session calls look at them. Causes 7 to
+-- 11 are in Model, 12 to 15 in Records; a replay has 12 and 13 of its own, in Replay. Assumes nothing.
 use mathlib.Core.List.{List, [], _∷_, _++_}
 use Prim.Native.Nat.{ℕ, _*_, _/_, _%_, _≤_}
 use native.Mathlib.Decide.{ℕ-discrete, decLt}
@@ -12,7 +12,7 @@ use Rattle.matching.specs.Pairs.{unmatched}
 use Rattle.matching.specs.Session.{State, in-play, graph-of, pairs-of}
 use Rattle.matching.specs.Decided.{inverse-table?, well-formed?}
 
--- a lent buffer: its number in the table, how long it is, and how much of it the call needs
+-- a lent buffer: its number in the table, its length, and the length that the call needs
 pub record Lent : Type 0 where
   pub number : ℕ
   pub length : ℕ
@@ -41,11 +41,11 @@ lent-work n length = record { number = 6; length = length; needed = n * n }
 abbrev pub lent-row : (n length : ℕ) → Lent
 lent-row n length = record { number = 7; length = length; needed = n }
 
--- those of a graph
+-- the two buffers of a graph
 abbrev pub lent-graph : Graph → List Lent
 lent-graph g = lent-adjacency (g .n) (length (g .adjacency)) ∷ lent-weights (g .n) (length (g .weights)) ∷ []
 
--- those that opening and every session call are lent, and those that opening is lent besides
+-- the buffers that opening and every session call are lent, and those that only opening is lent
 abbrev pub lent-always : (n adjacency weights inverse sequence : ℕ) → List Lent
 lent-always n adjacency weights inverse sequence =
     lent-adjacency n adjacency ∷ lent-weights n weights ∷ lent-inverse n inverse ∷ lent-sequence n sequence ∷ []
@@ -96,12 +96,12 @@ unfoldable pub ill-formed : Graph → ℕ → List ℕ → Cause
 unfolding well-formed?
 ill-formed g made sequence = record { number = 5; finding = when (not? (well-formed? g made sequence)) 0 }
 
--- 6: the inverse not as defined, or no inverse for the vertices left
+-- 6: the inverse not as defined, or no inverse for the unmatched vertices
 unfoldable pub not-inverse : ℕ → Graph → Subset → List ℕ → Cause
 unfolding inverse-table?
 not-inverse p g L inverse = record { number = 6; finding = when (not? (inverse-table? p g L inverse)) 0 }
 
--- what opening is lent, the graph's tables and the others by their lengths, and what it looks at: 1 to 4
+-- the buffers that opening is lent, the graph's tables and the others by their lengths, and the causes that it looks at: 1 to 4
 abbrev pub lent-to-opening : Graph → (inverse sequence witness work : ℕ) → List Lent
 lent-to-opening g inverse sequence witness work =
     lent-always (g .n) (length (g .adjacency)) (length (g .weights)) inverse sequence ++ lent-besides (g .n) witness work
@@ -113,8 +113,8 @@ unfoldable pub opening-ruling : ℕ → Graph → (inverse sequence witness work
 unfolding bad-cell bad-weight
 opening-ruling p g inverse sequence witness work = judge (opening-causes p g (lent-to-opening g inverse sequence witness work))
 
--- what a session call is lent, with the buffers `more` that it is lent besides, and what it looks at first: 1 to 6, whether the session is
--- sound
+-- the buffers that a session call is lent, `more` of them besides the four, and the causes that it looks at first: 1 to 6, whether the
+-- session is sound
 abbrev pub lent-to-session : State → List Lent → List Lent
 lent-to-session s more =
     lent-always (s .session .size) (length (s .adjacency)) (length (s .weights)) (length (s .inverse)) (length (s .sequence)) ++ more

@@ -67,7 +67,7 @@ pub data Claim : Type 0 where
   not-opening : Graph → Buffers → Refusal → Claim
   -- the plain model gives these answers, from no pairs on
   model : Graph → List Call → List Answer → Claim
-  -- the same on a graph that opens
+  -- the plain model gives these answers, from no pairs on, and the graph opens
   answers : Graph → List Call → List Answer → Claim
   -- a graph that opens, and the inverse after the calls
   afterwards : Graph → List Call → List ℕ → Claim
@@ -77,11 +77,11 @@ pub data Claim : Type 0 where
   spoiled : State → Call → Refusal → Claim
   -- the call on this session is accepted with this pair, and hands back this state
   handled : State → Call → Pair → State → Claim
-  -- the calls on this session, all of them sound, return these
+  -- the calls on this session, which stays sound, return these
   ran : State → List Call → List Returned → Claim
-  -- the open row of a vertex, and the row buffer before and after
+  -- the row of a vertex, and the row buffer before and after
   row : State → ℕ → List ℕ → List ℕ → Claim
-  -- an open row that is refused
+  -- a row that is refused
   no-row : State → ℕ → List ℕ → Refusal → Claim
   -- a replay of these numbers on this session, whose calls return these: the state and the answers afterwards
   replayed : State → (numbers answers : List ℕ) → List Returned → State → List ℕ → Claim
@@ -89,21 +89,21 @@ pub data Claim : Type 0 where
   no-replay : State → (numbers answers : List ℕ) → Refusal → Claim
   -- the part that is displayed
   displayed : ℕ → List ℕ → List ℕ → Part → Claim
-  -- these bytes are read so
+  -- the reading of these bytes
   reads : List ℕ → Reading → Claim
   -- reading these bytes into an adjacency table and weights gives this answer, and leaves these
   filling : List ℕ → List ℕ → List ℕ → Read → List ℕ → List ℕ → Claim
-  -- this input is listed so: as one that opens,
+  -- the listing of this input, whose graph opens
   lists : List ℕ → List ℕ → Claim
-  -- as one with this witness of this column,
+  -- the listing of this input, whose graph has this witness of this column
   lists-witness : List ℕ → ℕ → List ℕ → List ℕ → Claim
-  -- and as one that is refused
+  -- the listing of this input, which is refused
   lists-refusal : List ℕ → Refusal → List ℕ → Claim
-  -- the host's number of an opening, and of an answer or an open row with the session after it
+  -- the host's number of an opening, and of an answer or a row with the session after it
   host-opening : Opening → ℕ → Claim
   host-answer : Answer → Session → ℕ → Claim
   host-row : Ruling → Session → ℕ → Claim
-  -- the words of a byte slice, so many bytes each, and the bytes of words over a byte slice
+  -- the words of a byte slice, and the bytes of words over a byte slice; the number is the width of a word
   host-words : ℕ → List ℕ → List ℕ → Claim
   host-bytes : ℕ → List ℕ → List ℕ → List ℕ → Claim
   -- a call through the host on a state of bytes: the number, and the bytes afterwards; with the pair, and the words left
@@ -112,7 +112,7 @@ pub data Claim : Type 0 where
   host-replayed : State → (numbers answers : List ℕ) → List Returned → (left : State) → ℕ → State → List ℕ → Claim
   -- a sheet through the host into an adjacency table and the weights' bytes: the answer and the words left, the number, and the bytes afterwards
   host-reads : (bytes adjacency weights : List ℕ) → Read → (left : List ℕ) → ℕ → (adjacency′ weights′ : List ℕ) → Claim
-  -- the draws of a seed through the host, for so many vertices: the number, and the weights' bytes afterwards
+  -- the draws of a seed through the host, for n vertices: the number, and the weights' bytes afterwards
   host-draws : (n seed : ℕ) (weights : List ℕ) → ℕ → List ℕ → Claim
 
 -- buffers of just the length that is needed, full of something else
@@ -120,7 +120,7 @@ abbrev pub before : ℕ → Buffers
 before n =
     record { inverse = replicate (n * n) 9; sequence = replicate n 9; witness = replicate n 9; work = replicate (n * n) 9 }
 
--- the same after an opening
+-- buffers of this length after an opening
 abbrev pub full : ℕ → List ℕ → List ℕ → Buffers
 full n inverse words =
     record { inverse = inverse; sequence = replicate n 255; witness = words; work = replicate (n * n) 0 }

@@ -50,7 +50,7 @@ begins-width begins-share = omega arith
 begins-width begins-seed = omega arith
 begins-width begins-end = omega arith
 
--- how many bytes a record takes goes by its kind
+-- the number of bytes of a record, by its kind
 abbrev width-at : ℕ → ℕ
 width-at k = getD (0 ∷ 2 ∷ 3 ∷ 5 ∷ 1 ∷ []) k 0
 
@@ -66,7 +66,7 @@ same-width q r e = width-kind q ∙ ap width-at e ∙ sym (width-kind r)
 pub begins-with : {k : ℕ} {body rest : List ℕ} {r : Record} → k ≡ kind r → Begins r (kind r ∷ body) rest → Begins r (k ∷ body) rest
 begins-with e b = rw e b
 
--- where there are fewer bytes than a record of this kind takes, none begins
+-- if there are fewer bytes than a record of this kind takes, no record begins
 pub too-few : {k : ℕ} {body : List ℕ} (q : Record) → k ≡ kind q → length body + 1 < width q → (r : Record) (rest : List ℕ) → ¬ Begins r (k ∷ body) rest
 too-few q e l r rest b = omega (arith, same-width q r (sym e ∙ begins-kind b), begins-width b)
 
@@ -80,7 +80,7 @@ module _ (E : Edition) (len : ℕ) where
       → Reads E len q at (k ∷ body) (unread (because 13 len))
   cut-at {q} {at} {k} {body} r d e l = cut {q = q} {k = k} {body = body} (rw e d) (too-few r e l)
 
-  -- reading on, where fewer than so many bytes are left
+  -- reading on, if fewer than `more` bytes are left
   abbrev Further : ℕ → Type 0
   Further more = (q : Progress) (at : ℕ) (bytes : List ℕ) → length bytes < more → Result E len q at bytes
 
@@ -123,7 +123,7 @@ module _ (E : Edition) (len : ℕ) where
           let later = further (weighted n weights (pair-of a b ∷ edges)) (at + 3) rest (omega arith) in
           record { reading = later .reading; reads = goes-on (begins-with {r = share a b} e begins-share) (takes-share h z) (later .reads) }
 
-  -- a record takes a byte at least, so there are no more records than bytes
+  -- a record takes at least a byte, so there are no more records than bytes
   unfoldable pub read-on : (more : ℕ) → Further more
   unfolding among pair-of draws decLt ℕ-discrete
   read-on zero q at bytes l = absurd (omega arith)

@@ -14,7 +14,7 @@ use Rattle.matching.specs.Opening.{opened, Buffers, players, Opens, open
 use Rattle.matching.specs.Model.{Call, undo, done, denied, answered, pairs-after, OpenPartner, PicksToCome}
 use Rattle.matching.specs.Calls.{Returned, state-after, Runs}
 
--- v stands at one place of a sequence with so many pairs and at no other of its first n, in a pair of adjacent vertices
+-- v stands at one place among the pairs made, at no other of the first n places of the sequence, and in a pair of adjacent vertices
 pub record Once (g : Graph) (made : ℕ) (sequence : List ℕ) (v : ℕ) : Type 0 where
   pub place : ℕ
   pub within : place < made + made
@@ -24,8 +24,8 @@ pub record Once (g : Graph) (made : ℕ) (sequence : List ℕ) (v : ℕ) : Type 
 
 -- a graph g, and a set S of vertices in play
 module _ {p : ℕ} (P : OddPrime p) (g : Graph) (S : Subset) where
-  -- t is the state of these pairs: the session, the sequence, and the inverse for the vertices then left alone; the tables are the graph's,
-  -- and the excess of the buffers is that of s
+  -- t is the state of these pairs: the session, the sequence, and the inverse for the vertices then unmatched alone; the tables are the
+  -- graph's, and the excess of the buffers is that of s
   pub record StateOf (s : State) (pairs : Pairs) (t : State) : Type 0 where
     pub words : List ℕ
     pub words-length : length words ≡ g .n * g .n
@@ -41,7 +41,7 @@ module _ {p : ℕ} (P : OddPrime p) (g : Graph) (S : Subset) where
     abbrev pub pairs-left : Pairs
     pairs-left = pairs-at (length calls)
 
-    -- call i appends the pair e, which stands until call j is made, and is then the newest: so a take-back j undoes the pick i
+    -- call i appends the pair e, which stays until call j is made and is then the newest, so that an undo at j undoes the pick at i
     pub record Undoes (i j : ℕ) (e : Pair) : Type 0 where
       pub earlier : i < j
       pub appends : pairs-at (suc i) ≡ e ∷ pairs-at i
@@ -57,20 +57,20 @@ module _ {p : ℕ} (P : OddPrime p) (g : Graph) (S : Subset) where
       -- a refused call changes nothing
       pub refused-same : (k : ℕ) (r : Refusal) → At (map (λ (r : Returned). r .answer) returned) k (denied r)
           → state-after s returned (suc k) ≡ state-after s returned k
-      -- picks to come are half of the vertices left, and each of them is accepted: by the model, so in a longer list by the session too
+      -- picks to come are half of the unmatched vertices, and each is accepted: by the model, and so by the session in a longer list
       pub to-come : ℕ
       pub half : count (g .n) (unmatched S pairs-left) ≡ to-come + to-come
       pub come : PicksToCome P g S pairs-left to-come
-      -- every vertex left has an open partner
+      -- every unmatched vertex has an open partner
       pub partners : Every (g .n) (λ c. c ∈ unmatched S pairs-left → (r : ℕ) × (r < g .n) × OpenPartner P g S pairs-left c r)
-      -- an accepted take-back, but of a pair from before the list, restores the session and every word and byte from before the pick it undoes
+      -- an accepted undo, except of a pair from before the list, restores the session and every word and byte from before its pick
       pub restores : (j : ℕ) (e : Pair) → At calls j undo → At (map (λ (r : Returned). r .answer) returned) j (done e) → length start < length (pairs-at j)
           → (i : ℕ) × Undoes i j e × (state-after s returned (suc j) ≡ state-after s returned i)
-      -- when none is left, each vertex stands in the sequence exactly once, in a pair of adjacent ones
+      -- if no vertex is unmatched, each stands in the sequence exactly once, in a pair of adjacent vertices
       pub once : Every (g .n) (λ c. ¬ (c ∈ unmatched S pairs-left))
           → Every (g .n) (λ v. v ∈ S → Once g (length pairs-left) (state-after s returned (length calls) .sequence) v)
 
--- demand 3: so it is for every list of calls, the empty one included, on a session fresh from opening
+-- demand 3: every list of calls, the empty one included, follows the model on a session fresh from opening
 abbrev pub DemandThree : {p : ℕ} → OddPrime p → Graph → Type 0
 DemandThree {p} P g =
     (b after : Buffers) (s : Session) → Opens p g (players (g .n) b) b (opened s) after → (calls : List Call) (returned : List Returned)

@@ -1,5 +1,5 @@
--- An edition of the rules: its prime, the draw of a state of the draw roll, and how many bytes of the host's hold a word. A definition that
--- goes by one of them takes an edition; document 01 is the first. Assumes nothing.
+-- An edition of the rules: its prime, the draw of a state of the draw roll, and the number of the host's bytes that hold a word. A definition
+-- that depends on one of them takes an edition. Document 01 is the first edition. Assumes nothing.
 use Prim.Native.Nat.{ℕ, _^_, _≤_, _<_}
 use native.Mathlib.Omega.{arith}
 use Rattle.modular.specs.Prime.{OddPrime}
@@ -13,7 +13,7 @@ pub record Edition : Type 0 where
   -- the draw of a state: a residue, and not 0
   pub draw : ℕ → ℕ
   pub in-range : (s : ℕ) → (0 < draw s) × (draw s < modulus)
-  -- the bytes of a word, which hold any residue
+  -- the number of bytes of a word, which holds any residue
   pub width : ℕ
   pub fits : modulus ≤ 256 ^ width
 

@@ -22,12 +22,12 @@ use Rattle.matching.specs.Calls.{Handles, ShowsRow}
 use Rattle.matching.specs.Records.{Read, graph-read, not-read, Fills}
 use Rattle.matching.specs.Listing.{input-limit}
 
--- the word of w bytes from an index on, low byte first
+-- the word of the w bytes from an index on, low byte first
 unfoldable pub word : (w : ℕ) → List ℕ → ℕ → ℕ
 word zero bytes at = 0
 word (suc w) bytes at = getD bytes at 0 + 256 * word w bytes (at + 1)
 
--- the words of a byte slice, w bytes each; bytes after the last whole word are none
+-- the words of a byte slice, w bytes each; bytes after the last whole word belong to no word
 unfoldable pub words : (w : ℕ) → List ℕ → List ℕ
 unfolding word list-of
 words w bytes = list-of (length bytes / w) (λ i. word w bytes (w * i))
@@ -47,12 +47,12 @@ unfolding low-bytes
 bytes-of w [] = []
 bytes-of w (x ∷ rest) = low-bytes w x ++ bytes-of w rest
 
--- the one number of a call. Bits 0 to 7: the cause, 0 when none; 8 to 15: the kind of answer; 16 to 31: a value; 32 to 39: the pairs made, or
--- the size of a sheet that was read
+-- the one number of a call. Bits 0 to 7: the cause, 0 when none; 8 to 15: the answer-kind; 16 to 31: a value; 32 to 39: the pairs made, or
+-- the number of vertices of a sheet that was read
 abbrev pub number : (cause kind value made : ℕ) → ℕ
 number cause kind value made = cause + 2 ^ 8 * kind + 2 ^ 16 * value + 2 ^ 32 * made
 
--- what stands in a number: the cause, the kind, and the number of pairs
+-- what stands in a number: the cause, the answer-kind, and the number of pairs
 abbrev pub cause-in : ℕ → ℕ
 cause-in answer = answer % 2 ^ 8
 
@@ -62,23 +62,23 @@ kind-in answer = answer / 2 ^ 8 % 2 ^ 8
 abbrev pub made-in : ℕ → ℕ
 made-in answer = answer / 2 ^ 32 % 2 ^ 8
 
--- a refusal, with its place
+-- the number of a refusal, with its place
 abbrev pub refusal-number : Refusal → ℕ
 refusal-number r = number (r .cause) 0 (r .place) 0
 
--- kind 1: opened, with the session's pairs; kind 2: singular, with the first dependent column
+-- answer-kind 1: opened, with the session's pairs; answer-kind 2: singular, with the first dependent column
 abbrev pub opening-number : Opening → ℕ
 opening-number (opened s) = number 0 1 0 (s .made)
 opening-number (singular f) = number 0 2 f 0
 opening-number (not-opened r) = refusal-number r
 
--- kind 3: a pair appended or removed, the smaller vertex in the low byte of the value, with the pairs of the session handed back
+-- answer-kind 3: a pair appended or removed, the smaller vertex in the low byte of the value, with the pairs of the session handed back
 abbrev pub answer-number : Answer → Session → ℕ
 answer-number (done e) s = number 0 3 (e .smaller + 2 ^ 8 * e .larger) (s .made)
 answer-number (denied r) s = refusal-number r
 
--- the session that the number of a session call hands back (kinds 3, 4 and 5): the size is the one sent, and a refused call's session is the
--- one sent
+-- the session that the number of a session call hands back (answer-kinds 3, 4 and 5): its number of vertices is the one sent, and a refused
+-- call's session is the one sent
 abbrev pub session-back : ℕ → Session → Session
 session-back answer s = choose (ℕ-discrete (cause-in answer) 0) (record { size = s .size; made = made-in answer }) s
 
@@ -87,12 +87,12 @@ abbrev pub handed-back : State → (answer : ℕ) → (inverse sequence : List �
 handed-back s answer inverse sequence =
     record { session = session-back answer (s .session); adjacency = s .adjacency; weights = s .weights; inverse = inverse; sequence = sequence }
 
--- a call that is only accepted or refused: its kind, and the number of pairs of the session handed back
+-- a call that is only accepted or refused: its answer-kind, and the number of pairs of the session handed back
 abbrev pub ruled-number : ℕ → Ruling → Session → ℕ
 ruled-number kind accepted s = number 0 kind 0 (s .made)
 ruled-number kind (refused r) s = refusal-number r
 
--- kind 4: a row written
+-- answer-kind 4: a row written
 abbrev pub row-number : Ruling → Session → ℕ
 row-number v s = ruled-number 4 v s
 
@@ -161,8 +161,8 @@ state-stored E (done e) left s = stored-over E left s
 state-stored E (denied r) left s = s
 
 module _ (E : Edition) where
-  -- hand pick, automatic pick and take-back through the host: the number, and every byte afterwards. The session is that of the number
-  -- (laws, Numbers: `host-session`)
+  -- pick, automatic pick and undo through the host: the number, and every byte afterwards. The session is that of the number (laws,
+  -- Numbers: `host-session`)
   pub record HostHandles (s : State) (c : Call) (answer : ℕ) (after : State) : Type 0 where
     pub given : Answer
     pub left : State
@@ -176,14 +176,14 @@ module _ (E : Edition) where
       let t = unpacked-state E s in
       session-ruling (E .modulus) t ≡ accepted → ((cause-in answer ≡ 0) ↔ Allowed (E .prime) (graph-of t) (in-play t) (pairs-of t) a b)
 
-  -- open row through the host: the number, the state, which is as it came, and the row's bytes afterwards
+  -- the row of a through the host: the number, the state, which is as it came, and the row's bytes afterwards
   pub record HostShowsRow (s : State) (a : ℕ) (row : List ℕ) (answer : ℕ) (after : State) (row′ : List ℕ) : Type 0 where
     pub verdict : Ruling
     pub outcome : ShowsRow (E .prime) (unpacked-state E s) a row verdict (unpacked-state E s) row′
     pub numbered : answer ≡ row-number verdict (s .session)
     pub same : after ≡ s
 
--- kind 6: a sheet read, the number of its edges as the value and its size in place of the pairs
+-- answer-kind 6: a sheet read, the number of its edges as the value and its number of vertices in place of the pairs
 abbrev pub read-number : Read → ℕ
 read-number (graph-read n m) = number 0 6 m n
 read-number (not-read r) = refusal-number r
@@ -193,8 +193,8 @@ abbrev pub weights-stored : Edition → Read → (left weights : List ℕ) → L
 weights-stored E (graph-read n m) left weights = onto (bytes-of (E .width) left) weights
 weights-stored E (not-read r) left weights = weights
 
--- reading a sheet through the host: the number, and every byte of the adjacency table and the weights afterwards. As many bytes of the
--- sheet are read as the program reads, so a place has 16 bits
+-- reading a sheet through the host: the number, and every byte of the adjacency table and the weights afterwards. It reads at most
+-- `input-limit` bytes of the sheet, as the program does, so a place has 16 bits
 pub record HostReads (E : Edition) (sheet adjacency weights : List ℕ) (answer : ℕ) (adjacency′ weights′ : List ℕ) : Type 0 where
   pub given : Read
   pub left : List ℕ
@@ -206,7 +206,7 @@ pub record HostReads (E : Edition) (sheet adjacency weights : List ℕ) (answer 
 abbrev pub draws-ruling : Edition → ℕ → List ℕ → Ruling
 draws-ruling E n weights = judge (too-large n ∷ too-short (lent-weights n (length (words (E .width) weights)) ∷ []) ∷ [])
 
--- kind 7: weights drawn, with how many
+-- answer-kind 7: weights drawn, with their number
 abbrev pub draws-number : Ruling → ℕ → ℕ
 draws-number accepted n = number 0 7 (pair-count n) 0
 draws-number (refused r) n = refusal-number r

@@ -15,7 +15,7 @@ use Rattle.matching.specs.Demand.{Undoes, FollowsModel}
 use Rattle.matching.specs.Replay.{numbers-of}
 use Rattle.matching.specs.Host.{words, Bytes, cause-in, kind-in, made-in, session-back, unpacked-state, stored-over, HostOpens, HostHandles}
 
--- what a call through the host returns: its number, and the host's state then, whose weights and inverse are bytes
+-- what a call through the host returns: its number, and the host's state afterwards, whose weights and inverse are bytes
 pub record HostReturned : Type 0 where
   pub answer : ℕ
   pub state : State
@@ -37,18 +37,18 @@ host-opened-state n adjacency weights answer b = record {
 }
 
 module _ (E : Edition) where
-  -- single calls through the host; each is given the state that the last one left
+  -- single calls through the host; each is given the state that the one before left
   pub data HostRuns : State → List Call → List HostReturned → Type 0 where
     host-none : {s : State} → HostRuns s [] []
     host-more : {s : State} {c : Call} {calls : List Call} {r : HostReturned} {later : List HostReturned} → HostHandles E s c (r .answer) (r .state)
         → HostRuns (r .state) calls later → HostRuns s (c ∷ calls) (r ∷ later)
 
-  -- they are calls on the words of its bytes, which returned `on-words`
+  -- the calls through the host are calls on the words of its bytes, which returned `on-words`
   pub record HostOnWords (s : State) (calls : List Call) (returned : List HostReturned) (on-words : List Returned) : Type 0 where
     pub runs : Runs (E .prime) (unpacked-state E s) calls on-words
-    -- the numbers are theirs
+    -- the numbers are those of `on-words`
     pub answers-are : map (λ (r : HostReturned). r .answer) returned ≡ numbers-of on-words
-    -- and so is every byte after every call: the words, stored over the bytes of s
+    -- every byte after every call is that of the words, stored over the bytes of s
     pub states-are : (k : ℕ) → host-after s returned k ≡ stored-over E (state-after (unpacked-state E s) on-words k) s
     -- the session is the one that the number hands back
     pub sessions-are : (k answer : ℕ) → At (map (λ (r : HostReturned). r .answer) returned) k answer
@@ -57,13 +57,13 @@ module _ (E : Edition) where
     pub refused-same : (k answer : ℕ) → At (map (λ (r : HostReturned). r .answer) returned) k answer → cause-in answer ≢ 0
         → host-after s returned (suc k) ≡ host-after s returned k
 
-  -- an accepted take-back restores the session and every byte from before the pick it undoes
+  -- an accepted undo restores the session and every byte from before the pick that it undoes
   abbrev pub HostRestores : Graph → State → List Call → List HostReturned → Type 0
   HostRestores g s calls returned =
       (j answer : ℕ) → At calls j undo → At (map (λ (r : HostReturned). r .answer) returned) j answer → cause-in answer ≡ 0
       → (i : ℕ) × (e : Pair) × Undoes (E .prime) g (in-play s) [] calls i j e × (host-after s returned (suc j) ≡ host-after s returned i)
 
-  -- demand 3 through the host: after every opening whose number has kind 1, for every list of single calls
+  -- demand 3 through the host: after every opening of answer-kind 1, for every list of single calls
   abbrev pub HostDemandByCalls : ℕ → (adjacency weights : List ℕ) → Type 0
   HostDemandByCalls n adjacency weights =
       (b after : Buffers) (answer : ℕ) → Bytes (b .inverse) → HostOpens E n adjacency weights b answer after → kind-in answer ≡ 1

@@ -1,5 +1,5 @@
--- Demand 3, opening, open row and single calls through the host on two adjacent vertices: the definitions hold of a run that is written out,
--- and each sentence of demand 3 is read back from them for any run. Assumes nothing.
+-- Demand 3, opening, the row of a vertex and single calls through the host on two adjacent vertices: the definitions hold of a run that is
+-- written out, and each sentence of demand 3 is read back from them for any run. Assumes nothing.
 use mathlib.Core.Path.{_≡_, refl, ap}
 use mathlib.Core.Bool.{false≢true}
 use mathlib.Core.List.{List, [], _∷_, _++_, map}
@@ -178,7 +178,7 @@ module _ (returned : List Returned) (F : FollowsModel modulus-prime pair-graph e
   unfolding pairs-after step nonsingular? first? every? tutte unmatched count decLt modulus-prime
   says-half = omega (arith, F .half)
 
-  -- when none is left each vertex stands in the sequence exactly once, in a pair of adjacent ones
+  -- if no vertex is unmatched, each stands in the sequence exactly once, in a pair of adjacent vertices
   pub says-once : (O : Once pair-graph 1 (state-after empty returned 4 .sequence) 1) × (O .place ≡ 1)
   unfolding pairs-after step nonsingular? first? every? tutte unmatched sequence decLt modulus-prime
   says-once =
@@ -219,7 +219,7 @@ module _ (F : FollowsModel modulus-prime pair-graph everything [] [] empty []) w
       go (suc zero) l o = refl
       go (suc (suc r)) l o = absurd (omega arith)
 
--- the same two vertices as the host has them: words are two bytes, and behind those needed stand another word and an odd byte
+-- the same two vertices as the host has them: words are two bytes, and after those needed stand another word and an odd byte
 abbrev host-weights : List ℕ
 host-weights = 2 ∷ 0 ∷ 3 ∷ 4 ∷ 7 ∷ []
 
@@ -265,7 +265,7 @@ host-singular = record {
   stored = refl;
 }
 
--- the open row of vertex 0, with a byte behind it
+-- the row of vertex 0, with a byte after it
 pub host-row : HostShowsRow first-edition host-empty 0 (9 ∷ 9 ∷ 7 ∷ []) 1024 host-empty (0 ∷ 1 ∷ 7 ∷ [])
 unfolding words row-ruling open-row session-ruling inverse-table? nonsingular? first? every? tutte unmatched pairs-on decLt modulus-prime
 host-row = record { verdict = accepted; outcome = shows refl; numbered = refl; same = refl }
@@ -285,7 +285,8 @@ host-ran =
     })
     (host-more (record { given = denied (because 8 0); left = _; outcome = refuses (because 8 0) refl refl; numbered = refl; stored = refl }) host-none)
 
--- a pair whose first vertex, or both, are past the last, where the excess of the adjacency table has a 1 for them, is no pair of the session
+-- two numbers of which the first, or both, are past the last vertex are not a pair of the session, even if the excess of the adjacency
+-- table has a 1 for them
 abbrev table-longer : Graph
 table-longer = over 2 (0 ∷ 1 ∷ 1 ∷ 0 ∷ 1 ∷ 1 ∷ 1 ∷ 1 ∷ []) (1 ∷ [])
 

@@ -1,5 +1,5 @@
--- Document 01 in definitions, nearly in its own order: the edition, the graph and its matrix, pairs, the session, opening and its display, the plain
--- model, the session calls, records, causes, the listing, the host's number.
+-- Document 01 in definitions, nearly in its own order: the edition, the graph and its matrix, pairs, the session, opening and its display,
+-- the plain model, the session calls, records, causes, the listing, the host's number.
 pub mod Edition
 pub mod Graph
 pub mod Pairs
@@ -16,7 +16,7 @@ pub mod Causes
 pub mod Listing
 pub mod Host
 pub mod HostRuns
--- Decisions that the definitions go by.
+-- Decisions that the definitions use.
 pub mod Decision
 pub mod Decided
 pub mod Computed

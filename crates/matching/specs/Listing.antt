@@ -81,7 +81,7 @@ witness-lines i [] = []
 witness-lines i (w ∷ words) =
     choose (ℕ-discrete w 0) [] (text-witness ++ decimal i ++ space ++ decimal w ++ line-feed) ++ witness-lines (i + 1) words
 
--- verdict F: a full pairing
+-- verdict F: a perfect matching (document 01: full pairing)
 abbrev pub line-full : List ℕ
 line-full = text-verdict ++ 70 ∷ line-feed
 
@@ -105,11 +105,11 @@ pub data Lists (E : Edition) (input : List ℕ) : List ℕ → Type 0 where
       → length words ≡ n → Singular (E .modulus) (graph n weights edges) everything f words
       → Lists E input (first-line n (length edges) ++ witness-lines 0 words ++ line-none)
 
--- how long a buffer for the text is to be: no text of the first edition has more than 1,654 bytes
+-- the length that a buffer for the text needs: no text of the first edition has more than 1,654 bytes
 abbrev pub text-room : ℕ
 text-room = 2048
 
--- the text's length, or that the buffer is shorter than that
+-- the text's length, or that the buffer is shorter than `text-room`
 pub data Listed : Type 0 where
   text-of : ℕ → Listed
   no-room : Listed

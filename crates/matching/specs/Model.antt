@@ -13,7 +13,7 @@ use Rattle.matching.specs.Decision.{Refusal, because, both?, not?, First
 use Rattle.matching.specs.Graph.{Graph, cell, tutte, tutte-skew}
 use Rattle.matching.specs.Pairs.{Pair, pair-of, Pairs, unmatched, in?}
 
--- hand pick of a and b, automatic pick, take-back
+-- pick of a and b, automatic pick, undo (document 01: hand pick, automatic pick, take-back)
 pub data Call : Type 0 where
   pick : ℕ → ℕ → Call
   automatic : Call
@@ -29,7 +29,7 @@ pub record Step : Type 0 where
   pub answer : Answer
   pub pairs : Pairs
 
--- the pair is appended where no cause applies
+-- appends the pair if no cause applies
 abbrev pub append : Pairs → Pair → Ruling → Step
 append pairs e accepted = record { answer = done e; pairs = e ∷ pairs }
 append pairs e (refused r) = record { answer = denied r; pairs = pairs }
@@ -47,7 +47,7 @@ named? n a b = all (decLt a n) (decLt b n) (not? (ℕ-discrete a b))
     all (yes h) (no k) d = no (λ x. k (x .1))
     all (no h) k d = no (λ x. h (x .0))
 
--- cause k where the condition fails, at place 0
+-- cause k, at place 0, if the condition fails
 abbrev pub needs : {A : Type 0} → ℕ → Dec A → Cause
 needs k d = record { number = k; finding = when (not? d) 0 }
 
@@ -61,9 +61,9 @@ adjacent? g e = ℕ-discrete (cell g (e .smaller) (e .larger)) 1
 pub skew : {p : ℕ} → OddPrime p → (g : Graph) → Skew p (g .n) (tutte g p)
 skew P g = tutte-skew g (omega (arith, P .prime .above-one)) (g .n)
 
--- the vertices in play are a set S
+-- S is the set of vertices in play
 module _ {p : ℕ} (P : OddPrime p) (g : Graph) (S : Subset) where
-  -- the Tutte matrix has an inverse on the vertices that the pairs leave
+  -- the Tutte matrix has an inverse on the vertices that the pairs leave unmatched
   abbrev pub Nonsingular : Pairs → Type 0
   Nonsingular pairs = Invertible p (g .n) (tutte g p) (unmatched S pairs)
 
@@ -71,7 +71,7 @@ module _ {p : ℕ} (P : OddPrime p) (g : Graph) (S : Subset) where
   unfolding invertible? tutte unmatched
   nonsingular? pairs = invertible? P (g .n) (tutte g p) (skew P g) (unmatched S pairs)
 
-  -- causes 7 to 10 of a hand pick: not two vertices, one of them matched, not adjacent, no inverse for what is left
+  -- causes 7 to 10 of a pick: not two vertices, one of them matched, not adjacent, no inverse for the vertices then unmatched
   unfoldable pub pick-ruling : Pairs → ℕ → ℕ → Ruling
   unfolding nonsingular? pair-of unmatched decLt ℕ-discrete
   pick-ruling pairs a b =
@@ -82,8 +82,8 @@ module _ {p : ℕ} (P : OddPrime p) (g : Graph) (S : Subset) where
       ∷ needs 10 (nonsingular? (pair-of a b ∷ pairs))
       ∷ [])
 
-  -- demand 2, second half: a hand pick is accepted exactly where the two are different vertices, unmatched and adjacent, and
-  -- leave a matrix with an inverse (laws, ModelLaws)
+  -- demand 2, second half: a pick is accepted exactly when the two are different vertices, unmatched and adjacent, and leave a matrix with
+  -- an inverse (laws, ModelLaws)
   pub record Allowed (pairs : Pairs) (a b : ℕ) : Type 0 where
     pub named : Named (g .n) a b
     pub a-left : a ∈ unmatched S pairs
@@ -95,7 +95,7 @@ module _ {p : ℕ} (P : OddPrime p) (g : Graph) (S : Subset) where
   abbrev pub OpenPartner : Pairs → ℕ → ℕ → Type 0
   OpenPartner pairs a r = Accepted (pick-ruling pairs a r)
 
-  -- the rules, one for each case: with these pairs the call is answered so, and leaves those
+  -- the rules, one for each case: from these pairs, the call has this answer and leaves those pairs
   pub data Rule (pairs : Pairs) : Call → Answer → Pairs → Type 0 where
     picks : {a b : ℕ} → pick-ruling pairs a b ≡ accepted → Rule pairs (pick a b) (done (pair-of a b)) (pair-of a b ∷ pairs)
     pick-refused : {a b : ℕ} {r : Refusal} → pick-ruling pairs a b ≡ refused r → Rule pairs (pick a b) (denied r) pairs
@@ -106,20 +106,20 @@ module _ {p : ℕ} (P : OddPrime p) (g : Graph) (S : Subset) where
     undo-refused : {e : Pair} {earlier : Pairs} → pairs ≡ e ∷ earlier → ¬ Nonsingular earlier → Rule pairs undo (denied (because 10 0)) pairs
     undoes : {e : Pair} {earlier : Pairs} → pairs ≡ e ∷ earlier → Nonsingular earlier → Rule pairs undo (done e) earlier
 
-  -- The same computed, which all that follows goes by. Wherever the vertices left have an inverse it follows the rules, and whatever a
-  -- rule gives, it gives (laws, Rules).
-  -- c with the lowest r whose hand pick with c is accepted. There is one wherever the vertices left have an inverse, so the second case is
-  -- then not met
+  -- The rules computed, as `step`, which all that follows uses. If the unmatched vertices have an inverse, `step` follows the rules; and it
+  -- gives whatever a rule gives (laws, Rules).
+  -- c with the lowest r whose pick with c is accepted. There is one if the unmatched vertices have an inverse, so the second case then
+  -- never occurs
   abbrev pub with-lowest : (pairs : Pairs) (c : ℕ) → First (g .n) (λ r. Accepted (pick-ruling pairs c r)) → Step
   with-lowest pairs c (first-at r _ _ _) = record { answer = done (pair-of c r); pairs = pair-of c r ∷ pairs }
   with-lowest pairs c (nowhere _) = record { answer = denied (because 11 0); pairs = pairs }
 
-  -- c is the lowest vertex left; none: cause 11
+  -- c is the lowest unmatched vertex; cause 11 if there is none
   abbrev pub from-lowest : (pairs : Pairs) → First (g .n) (λ c. c ∈ unmatched S pairs) → Step
   from-lowest pairs (nowhere _) = record { answer = denied (because 11 0); pairs = pairs }
   from-lowest pairs (first-at c _ _ _) = with-lowest pairs c (first? _ (g .n) (λ r. accepted? (pick-ruling pairs c r)))
 
-  -- cause 10 where the vertices left afterwards would have no inverse
+  -- cause 10 if the vertices then unmatched would have no inverse
   abbrev pub remove-last : Pair → (earlier : Pairs) → Dec (Nonsingular earlier) → Step
   remove-last e earlier (yes _) = record { answer = done e; pairs = earlier }
   remove-last e earlier (no _) = record { answer = denied (because 10 0); pairs = e ∷ earlier }
@@ -144,7 +144,7 @@ module _ {p : ℕ} (P : OddPrime p) (g : Graph) (S : Subset) where
   answered pairs [] = []
   answered pairs (c ∷ calls) = step pairs c .answer ∷ answered (step pairs c .pairs) calls
 
-  -- so many automatic picks in a row are accepted before one is refused (picks to come)
+  -- this number of automatic picks in a row is accepted before one is refused (document 01: picks to come)
   pub data PicksToCome : Pairs → ℕ → Type 0 where
     stopped : {pairs : Pairs} {r : Refusal} → step pairs automatic .answer ≡ denied r → PicksToCome pairs 0
     picked : {pairs : Pairs} {m : ℕ} {e : Pair} → step pairs automatic .answer ≡ done e → PicksToCome (step pairs automatic .pairs) m → PicksToCome pairs (suc m)

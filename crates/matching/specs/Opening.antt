@@ -28,8 +28,8 @@ pub record Buffers : Type 0 where
   pub witness : List ℕ
   pub work : List ℕ
 
--- column f is the first that depends on those before it, and the first n words, each below p, are its kernel vector (document 01:
--- witness); the vertices in play are a set S
+-- column f is the first that depends on those before it, and the first n words, each below p, are its kernel vector (document 01: witness);
+-- S is the set of vertices in play
 pub record Singular (p : ℕ) (g : Graph) (S : Subset) (f : ℕ) (witness : List ℕ) : Type 0 where
   pub small : Every (g .n) (λ x. getD witness x 0 < p)
   pub first : FirstDependent p (g .n) (tutte g p) S f
@@ -55,11 +55,11 @@ with-witness n witness b = record {
 abbrev pub ruling : ℕ → Graph → Buffers → Ruling
 ruling p g b = opening-ruling p g (length (b .inverse)) (length (b .sequence)) (length (b .witness)) (length (b .work))
 
--- the vertices that opening starts from: all of them
+-- the vertices in play at opening: all of them
 abbrev pub players : ℕ → Buffers → Subset
 players n b = everything
 
--- the answer and the buffers that opening leaves; the tables are lent to be read only. The vertices in play are a set S, the `players`
+-- the answer and the buffers that opening leaves; it does not write the tables. S is the set of vertices in play, the `players`
 pub data Opens (p : ℕ) (g : Graph) (S : Subset) (b : Buffers) : Opening → Buffers → Type 0 where
   refuses-opening : (r : Refusal) → ruling p g b ≡ refused r → Opens p g S b (not-opened r) b
   opens : (inverse : List ℕ) → ruling p g b ≡ accepted → length inverse ≡ g .n * g .n → InverseTable p g S inverse

@@ -24,14 +24,14 @@ pub data Record : Type 0 where
   seed : ℕ → Record
   end : Record
 
--- the number of each kind
+-- the number of each record-kind
 abbrev pub kind : Record → ℕ
 kind (size _) = 1
 kind (share _ _) = 2
 kind (seed _) = 3
 kind end = 4
 
--- how many bytes it takes, its kind included
+-- the number of bytes of a record, its kind included
 abbrev pub width : Record → ℕ
 width (size _) = 2
 width (share _ _) = 3
@@ -57,7 +57,7 @@ pub data Progress : Type 0 where
   weighted : ℕ → (weights : List ℕ) (edges : List Pair) → Progress
   ended : ℕ → (weights : List ℕ) (edges : List Pair) → Progress
 
--- which kinds are due: size first, seed second, then any number of share records, then the end, then nothing
+-- which record-kinds are due: size first, seed second, then any number of share records, then the end, then nothing
 pub data Due : Progress → ℕ → Type 0 where
   size-due : Due start 1
   seed-due : {n : ℕ} → Due (sized n) 3
@@ -70,13 +70,13 @@ Same e f = (e .smaller ≡ f .smaller) × (e .larger ≡ f .larger)
 abbrev pub same? : (e f : Pair) → Dec (Same e f)
 same? e f = both? (ℕ-discrete (e .smaller) (f .smaller)) (ℕ-discrete (e .larger) (f .larger))
 
--- 1 where the pair is among the edges, else 0
+-- 1 if the pair is among the edges, else 0
 unfoldable pub among : Pair → List Pair → ℕ
 unfolding ℕ-discrete
 among e [] = 0
 among e (f ∷ edges) = choose (same? e f) 1 (among e edges)
 
--- what a record that is due and taken makes of it: the seed's draws are the weights
+-- the progress after a record that is due and taken: the seed's draws become the weights
 pub data Takes (E : Edition) : Progress → Record → Progress → Type 0 where
   takes-size : {n : ℕ} → n ≤ largest → Takes E start (size n) (sized n)
   takes-seed : {n s : ℕ} → Takes E (sized n) (seed s) (weighted n (draws (E .draw) s (pair-count n)) [])
@@ -84,7 +84,8 @@ pub data Takes (E : Edition) : Progress → Record → Progress → Type 0 where
       → Takes E (weighted n weights edges) (share a b) (weighted n weights (pair-of a b ∷ edges))
   takes-end : {n : ℕ} {weights : List ℕ} {edges : List Pair} → Takes E (weighted n weights edges) end (ended n weights edges)
 
--- the cause for which one that is due is refused: 1 for a size above 96, 14 for what is not two vertices, 15 for two that stood already
+-- the cause for which a record that is due is refused: 1 for a size above 96, 14 if it does not name two vertices, 15 if its edge is
+-- already there
 pub data Rejects : Progress → Record → ℕ → Type 0 where
   too-large-size : {n : ℕ} → largest < n → Rejects start (size n) 1
   not-two : {n a b : ℕ} {weights : List ℕ} {edges : List Pair} → ¬ Named n a b → Rejects (weighted n weights edges) (share a b) 14
@@ -96,8 +97,8 @@ pub data Reading : Type 0 where
   sheet : ℕ → List ℕ → List Pair → Reading
   unread : Refusal → Reading
 
--- from offset `at` of `len` bytes on, these are left and are read so: 12 at a byte that is no kind which is due; 13 where the data stops
--- before the end record or inside a body; a record's own cause at its offset; else on behind it
+-- how the bytes from offset `at` of `len` bytes on are read: 12 at a byte that is not a record-kind that is due; 13 if the data stops
+-- before the end record or inside a body; a record's own cause at its offset; else reading goes on after the record
 pub data Reads (E : Edition) (len : ℕ) : Progress → (at : ℕ) (bytes : List ℕ) → Reading → Type 0 where
   whole : {n at : ℕ} {weights : List ℕ} {edges : List Pair} → Reads E len (ended n weights edges) at [] (sheet n weights edges)
   not-due : {q : Progress} {at k : ℕ} {rest : List ℕ} → ¬ Due q k → Reads E len q at (k ∷ rest) (unread (because 12 at))
@@ -109,11 +110,11 @@ pub data Reads (E : Edition) (len : ℕ) : Progress → (at : ℕ) (bytes : List
   goes-on : {q next : Progress} {at : ℕ} {bytes rest : List ℕ} {r : Record} {result : Reading} → Begins r bytes rest → Takes E q r next
       → Reads E len next (at + width r) rest result → Reads E len q at bytes result
 
--- the bytes from an offset to their end are read as a sheet so, with offsets counted from the first of all bytes
+-- how the bytes from an offset to their end are read as a sheet; offsets count from the first of all bytes
 abbrev pub ReadsFrom : Edition → List ℕ → ℕ → Reading → Type 0
 ReadsFrom E bytes at r = Reads E (length bytes) start at (drop at bytes) r
 
--- all of them
+-- how all the bytes are read as a sheet
 abbrev pub ReadsAs : Edition → List ℕ → Reading → Type 0
 ReadsAs E bytes r = ReadsFrom E bytes 0 r
 
@@ -132,7 +133,7 @@ pub data Read : Type 0 where
   graph-read : ℕ → ℕ → Read
   not-read : Refusal → Read
 
--- cause 2 of the two buffers that are lent to it
+-- cause 2 of the two buffers that the reader is lent
 abbrev pub room : ℕ → List ℕ → List ℕ → Ruling
 room n adjacency weights =
     let g : Graph = over n adjacency weights in

@@ -16,7 +16,7 @@ use Rattle.matching.specs.Calls.{Returned, state-after, Runs}
 use Rattle.matching.specs.Host.{answer-number, ruled-number, unpacked-state, stored-over}
 use Rattle.matching.specs.Demand.{FollowsModel}
 
--- a call is three numbers: its kind, 1 hand pick, 2 automatic pick, 3 take-back, and two vertices, which a hand pick alone looks at
+-- a call is three numbers: its call-kind, 1 pick, 2 automatic pick, 3 undo, and two vertices, which only a pick uses
 abbrev pub CallKind : ℕ → Type 0
 CallKind k = (0 < k) × (k < 4)
 
@@ -27,7 +27,7 @@ unfoldable pub call-of : (kind a b : ℕ) → Call
 unfolding ℕ-discrete
 call-of kind a b = choose (ℕ-discrete kind 1) (pick a b) (choose (ℕ-discrete kind 2) automatic undo)
 
--- how many whole calls a list of numbers has, the first k of them, and all
+-- the number of whole calls in a list of numbers, the first k of them, and all
 abbrev pub call-count : List ℕ → ℕ
 call-count numbers = length numbers / 3
 
@@ -52,7 +52,7 @@ as-place (at i) = at (place-of i)
 abbrev pub lent-answers : (count length : ℕ) → Lent
 lent-answers count length = record { number = 10; length = length; needed = count }
 
--- 12: a whole call of another kind, at the index of the first
+-- 12: a whole call of an unknown call-kind, at the index of the first
 unfoldable pub first-unknown : (numbers : List ℕ) → First (call-count numbers) (λ i. ¬ CallKind (getD numbers (3 * i) 0))
 unfolding first? decLt
 first-unknown numbers = first? _ (call-count numbers) (λ i. not? (kind? (getD numbers (3 * i) 0)))
@@ -65,11 +65,11 @@ unknown-kind numbers = record { number = 12; finding = as-place (found (first-un
 abbrev pub cut-call : List ℕ → Cause
 cut-call numbers = record { number = 13; finding = when (not? (ℕ-discrete (length numbers % 3) 0)) (place-of (call-count numbers)) }
 
--- what is looked at in the list: 12 and then 13
+-- the causes of the list: 12 and then 13
 abbrev pub list-causes : List ℕ → List Cause
 list-causes numbers = unknown-kind numbers ∷ cut-call numbers ∷ []
 
--- the host's numbers of what calls returned
+-- the host's numbers of the calls that returned these
 abbrev pub numbers-of : List Returned → List ℕ
 numbers-of returned = map (λ (r : Returned). answer-number (r .answer) (r .state .session)) returned
 
@@ -87,8 +87,8 @@ module _ {p : ℕ} (P : OddPrime p) where
     replays : (returned : List Returned) → replay-ruling s numbers answers ≡ accepted → Runs P s (calls-of numbers) returned
         → Replays s numbers answers accepted (state-after s returned (length returned)) (onto (numbers-of returned) answers)
 
-  -- demand 3 of a replay on a session with no pairs, so on one fresh from opening: unless it is refused, the calls of the list go as the
-  -- plain model goes
+  -- demand 3 of a replay on a session with no pairs, and so on one fresh from opening: unless it is refused, the calls of the list go as
+  -- the plain model goes
   pub record FollowsReplay (s : State) (numbers answers : List ℕ) (t : State) (answers′ : List ℕ) : Type 0 where
     pub returned : List Returned
     pub runs : Runs P s (calls-of numbers) returned
@@ -100,7 +100,7 @@ module _ {p : ℕ} (P : OddPrime p) where
   DemandThreeOf s numbers answers t answers′ =
       replay-ruling s numbers answers ≡ accepted → s .session .made ≡ 0 → FollowsReplay s numbers answers t answers′
 
--- kind 5: a list of calls made, with the pairs of the session handed back
+-- answer-kind 5: a list of calls made, with the pairs of the session handed back
 abbrev pub replay-number : Ruling → Session → ℕ
 replay-number v s = ruled-number 5 v s
 

@@ -12,12 +12,12 @@ use Rattle.matching.specs.Decision.{Every}
 use Rattle.matching.specs.Graph.{Graph, over, cell, tutte}
 use Rattle.matching.specs.Pairs.{Pairs, everything, unused, pairs-on, sequence}
 
--- the size and the number of pairs made
+-- the number of vertices (document 01: size) and the number of pairs made
 pub record Session : Type 0 where
   pub size : ℕ
   pub made : ℕ
 
--- that of a graph of n vertices with these pairs made
+-- the session of a graph of n vertices with these pairs made
 abbrev pub session : ℕ → Pairs → Session
 session n pairs = record { size = n; made = length pairs }
 
@@ -30,7 +30,7 @@ pub record State : Type 0 where
   pub inverse : List ℕ
   pub sequence : List ℕ
 
--- the state of a session of this size with so many pairs, over these tables and buffers
+-- the state of a session with these numbers, over these tables and buffers
 abbrev pub state : (size made : ℕ) (adjacency weights inverse sequence : List ℕ) → State
 state size made adjacency weights inverse sequence = record {
   session = record { size = size; made = made };
@@ -40,11 +40,11 @@ state size made adjacency weights inverse sequence = record {
   sequence = sequence;
 }
 
--- the vertices that a session plays on: all of them
+-- the vertices in play in a session: all of them
 abbrev pub in-play : State → Subset
 in-play s = everything
 
--- the graph as the session's size reads the two tables
+-- the graph over the two tables, with the session's number of vertices
 abbrev pub graph-of : State → Graph
 graph-of s = over (s .session .size) (s .adjacency) (s .weights)
 

@@ -1,5 +1,5 @@
--- Worked examples of the causes with their places and order, of open rows, the displayed part, records, the listing and the host's
--- numbers, one list with one claim over it; and of replays. Assumes nothing.
+-- Worked examples of the causes with their places and order, of rows, the displayed part, records, the listing and the host's numbers, one
+-- list with one claim over it; and of replays. Assumes nothing.
 use mathlib.Core.Path.{refl}
 use mathlib.Core.List.{List, [], _∷_, _++_}
 use Prim.Native.Nat.{ℕ}
@@ -117,7 +117,7 @@ worked =
     (stays 11 no-pairs ∷ gives (edge 0 1) one-pair ∷ stays 8 one-pair ∷ gives (edge 2 3) two-pairs ∷ stays 11 two-pairs ∷ gives (edge 2 3) one-pair ∷ gives (edge 0 1) no-pairs ∷ [])
     ∷ ran (on ring 1 last-two first-pair) (automatic ∷ undo ∷ undo ∷ [])
     (gives (edge 2 3) (on ring 2 zeros (0 ∷ 1 ∷ 2 ∷ 3 ∷ [])) ∷ gives (edge 2 3) (on ring 1 last-two first-pair) ∷ stays 10 (on ring 1 last-two first-pair) ∷ [])
-    -- open rows: of the path from the start, where only 0 with 2 and 1 with 3 leave an inverse; and with an excess byte
+    -- rows: of the path from the start, where only 0 with 2 and 1 with 3 leave an inverse; and with an excess byte
     ∷ row (on path 0 (0 ∷ 0 ∷ 65520 ∷ 0 ∷ 0 ∷ 0 ∷ 0 ∷ 65520 ∷ 1 ∷ 0 ∷ 0 ∷ 1 ∷ 0 ∷ 1 ∷ 65520 ∷ 0 ∷ []) (255 ∷ 255 ∷ 255 ∷ 255 ∷ [])) 0 (9 ∷ 9 ∷ 9 ∷ 9 ∷ 9 ∷ []) (0 ∷ 0 ∷ 1 ∷ 0 ∷ 9 ∷ [])
     ∷ row (on complete 1 last-two first-pair) 3 (9 ∷ 9 ∷ 9 ∷ 9 ∷ []) (0 ∷ 0 ∷ 1 ∷ 0 ∷ [])
     ∷ no-row (on complete 1 last-two first-pair) 4 (9 ∷ 9 ∷ 9 ∷ 9 ∷ []) (because 7 0)
@@ -181,7 +181,8 @@ worked =
     (on (over 2 in-order (2 ∷ [])) 1 (0 ∷ 0 ∷ 0 ∷ 0 ∷ []) (0 ∷ 1 ∷ []))
     4311745280
     (on (over 2 in-order (2 ∷ 0 ∷ [])) 1 (0 ∷ 0 ∷ 0 ∷ 0 ∷ 0 ∷ 0 ∷ 0 ∷ 0 ∷ 9 ∷ []) (0 ∷ 1 ∷ []))
-    -- a sheet through the host, with an excess and an odd byte, and with weights that are half a word; draws of seed 0, and their refusals
+    -- a sheet through the host, with an excess and an odd byte, and with room for half a word of weights; draws of seed 0, and their
+    -- refusals
     ∷ host-reads (1 ∷ 2 ∷ 3 ∷ 1 ∷ 2 ∷ 0 ∷ 0 ∷ 2 ∷ 1 ∷ 0 ∷ 4 ∷ []) (9 ∷ 9 ∷ 9 ∷ 9 ∷ 9 ∷ []) (9 ∷ 9 ∷ 9 ∷ []) (graph-read 2 1) (28501 ∷ []) 8590001664 (0 ∷ 1 ∷ 1 ∷ 0 ∷ 9 ∷ []) (85 ∷ 111 ∷ 9 ∷ [])
     ∷ host-reads (1 ∷ 2 ∷ 3 ∷ 1 ∷ 2 ∷ 0 ∷ 0 ∷ 2 ∷ 1 ∷ 0 ∷ 4 ∷ []) (9 ∷ 9 ∷ 9 ∷ 9 ∷ 9 ∷ []) (9 ∷ []) (not-read (because 2 2)) [] 131074 (9 ∷ 9 ∷ 9 ∷ 9 ∷ 9 ∷ []) (9 ∷ [])
     ∷ host-draws 3 0 (replicate 7 9) 198400 (111 ∷ 60 ∷ 81 ∷ 71 ∷ 205 ∷ 209 ∷ 9 ∷ [])
@@ -204,10 +205,10 @@ worked-replays =
     ∷ no-replay (on (over 4 (complete .adjacency) (1 ∷ 1 ∷ 1 ∷ 1 ∷ 1 ∷ 65521 ∷ [])) 3 last-two first-pair) (0 ∷ 0 ∷ 0 ∷ []) (9 ∷ []) (because 4 5)
     ∷ no-replay (on complete 3 last-two first-pair) (2 ∷ 0 ∷ []) [] (because 5 0)
     ∷ no-replay (on complete 1 zeros first-pair) (2 ∷ 0 ∷ 0 ∷ 2 ∷ []) (9 ∷ []) (because 6 0)
-    -- 12 before 13, each at its call; a call that is cut has no kind
+    -- 12 before 13, each at its call; the kind of a call that is cut does not count
     ∷ no-replay one-pair (2 ∷ 0 ∷ 0 ∷ 4 ∷ 0 ∷ 0 ∷ 1 ∷ []) (9 ∷ 9 ∷ []) (because 12 1)
     ∷ no-replay one-pair (2 ∷ 0 ∷ 0 ∷ 4 ∷ 0 ∷ []) (9 ∷ []) (because 13 1)
-    -- calls made, one of them refused, with an answer to spare; none
+    -- calls made, one of them refused, with room for one more answer; no calls
     ∷ replayed no-pairs (1 ∷ 1 ∷ 0 ∷ 2 ∷ 7 ∷ 9 ∷ 1 ∷ 0 ∷ 2 ∷ 3 ∷ 7 ∷ 9 ∷ []) (9 ∷ 9 ∷ 9 ∷ 9 ∷ 9 ∷ [])
     (gives (edge 0 1) one-pair ∷ gives (edge 2 3) two-pairs ∷ stays 8 two-pairs ∷ gives (edge 2 3) one-pair ∷ [])
     one-pair (4311745280 ∷ 8640398080 ∷ 8 ∷ 4345430784 ∷ 9 ∷ [])

@@ -1,1 +1,1 @@
-// What document 01 means: the definitions are in specs/, in the paper's order. This crate has no functions.
+// What document 01 means: the definitions are in specs/, nearly in the paper's order. This crate has no functions.

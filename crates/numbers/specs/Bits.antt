@@ -4,12 +4,12 @@ use Rattle.matching.specs.Decision.{Ruling, accepted, refused}
 use Rattle.matching.specs.Session.{Session}
 use Rattle.laws.specs.Numbers.{SmallRuling}
 
--- the pairs made, or the place of a refusal
+-- the pairs made, or the place of a refusal, fit their bits
 abbrev pub RulingFits : Ruling → ℕ → Type 0
 RulingFits accepted made = made < 2 ^ 8
 RulingFits (refused r) made = r .place < 2 ^ 16
 
--- those of a small ruling do
+-- a small ruling fits
 pub ruling-fits : (v : Ruling) (s : Session) → SmallRuling v s → RulingFits v (s .made)
 ruling-fits accepted s h = h
 ruling-fits (refused r) s h = h .place-below

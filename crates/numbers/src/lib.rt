@@ -1,4 +1,4 @@
-// The one number that the host is answered, by its bits (docs/HOST.md).
+// The number that answers the host, by its bits (docs/HOST.md).
 use refusals::Refusal;
 use refusals::Ruling;
 ghost use mathlib.Core.Path.{_≡_};
@@ -8,7 +8,7 @@ ghost use Rattle.matching.specs.Host.{number, refusal-number, ruled-number};
 ghost use Rattle.refusals.specs.Meaning.{ruling-of};
 ghost use Rattle.numbers.specs.Bits.{RulingFits};
 
-// The number of a call that was carried out: the kind of answer, its value, and the pairs made. For proved callers.
+// Returns the number of a call that was carried out: its answer-kind, its value, and the pairs made.
 pub fn carried(kind: u64, value: u64, made: u64) -> u64
     requires { ⌜ (kind < 2 ^ 8) × (value < 2 ^ 16) × (made < 2 ^ 8) ⌝ }
     ensures { λ r. ⌜ r ≡ number 0 kind value made ⌝ }
@@ -16,7 +16,7 @@ pub fn carried(kind: u64, value: u64, made: u64) -> u64
     256 * kind + 65536 * value + 4294967296 * made
 }
 
-// The number of a refusal. For proved callers.
+// Returns the number of a refusal.
 pub fn refused(refusal: Refusal) -> u64
     requires { ⌜ refusal .place < 2 ^ 16 ⌝ }
     ensures { λ r. ⌜ r ≡ refusal-number (because (refusal .cause) (refusal .place)) ⌝ }
@@ -24,7 +24,7 @@ pub fn refused(refusal: Refusal) -> u64
     refusal.cause as u64 + 65536 * (refusal.place as u64)
 }
 
-// The number of a call of a kind that has no value, with the pairs made, or of its refusal. For proved callers.
+// Returns the number of a call whose answer has no value: the answer-kind and the pairs made, or the refusal.
 pub fn ruled(kind: u64, ruling: Ruling, made: usize) -> u64
     requires { ⌜ (kind < 2 ^ 8) × RulingFits (ruling-of ruling) made ⌝ }
     ensures { λ r. ⌜ ((n : ℕ) → r ≡ ruled-number kind (ruling-of ruling) (record { size = n; made = made })) ⌝ }

@@ -14,7 +14,7 @@ opening-of (Opened s) = definition.opened (record { size = s .size; made = s .ma
 opening-of (Singular f) = definition.singular f
 opening-of (Refused r) = definition.not-opened (because (r .cause) (r .place))
 
--- for n vertices and how exchange ends
+-- the answer for n vertices, by how exchange ends
 abbrev pub found : ℕ → Outcome → definition.Opening
 found n Inverse = definition.opened (record { size = n; made = 0 })
 found n (Column f) = definition.singular f

@@ -18,7 +18,7 @@ use Rattle.exchange.specs.declared.Outcome.the-variants.{Inverse, Column}
 use Rattle.solve.specs.Solved.{Solved}
 use Rattle.opening.specs.Meaning.{found, buffers}
 
--- what opening works on; an accepted graph makes it ready
+-- what opening works on; it is ready if the graph is accepted
 pub record OpeningReady (n : ℕ) (adjacency weights inverse sequence witness : List ℕ) : Type 0 where
   pub lent : Complete n adjacency weights
   pub inverse-fits : n * n ≤ length inverse
@@ -39,7 +39,7 @@ ready n adjacency weights inverse sequence witness work e =
       k .0 .work-fits,
     )
 
--- what opening leaves of a graph that is not refused, but for the work buffer: the one that is found is written, and the other is as it was
+-- what opening leaves of an accepted graph, except for the work buffer: the inverse or the witness is written, and the other is as it was
 pub data Begun (g : Graph) (inverse sequence witness : List ℕ) : Outcome → (inverse′ sequence′ witness′ : List ℕ) → Type 0 where
   leaves-inverse : (new : List ℕ) → length new ≡ g .n * g .n → InverseTable modulus g everything new
       → Begun g inverse sequence witness Inverse (onto new inverse) (onto (replicate (g .n) unused) sequence) witness
@@ -50,7 +50,7 @@ pub data Begun (g : Graph) (inverse sequence witness : List ℕ) : Outcome → (
 filled : (k v : ℕ) (l : List ℕ) → replicate k v ++ drop k l ≡ onto (replicate k v) l
 filled k v l = rw (length-replicate {A = ℕ} k v)
 
--- as it is solved, in the first parts of the buffers
+-- begun from what is solved in the first parts of the buffers
 pub begun : {n : ℕ} {adjacency weights inverse sequence witness sequence′ : List ℕ} (inverse′ witness′ : List ℕ) → length inverse′ ≡ n * n
     → sequence′ ≡ replicate n unused ++ drop n sequence → length witness′ ≡ n → (o : Outcome)
     → Solved (over n adjacency weights) everything o (take (n * n) inverse) (take n witness) inverse′ witness′
@@ -62,12 +62,12 @@ begun {n} {adjacency} {weights} {inverse} {sequence} {witness} inverse′ witnes
     let B : Begun (over n adjacency weights) inverse sequence witness (Column f) _ _ _ = leaves-witness f witness′ lw S in
     rw (es ∙ filled n unused sequence, ei, take-append-drop (n * n) inverse) (rw lw at B)
 
--- the one that is not found is made 0
+-- the inverse or the witness, whichever does not exist, becomes 0
 abbrev pub Cleared : ℕ → Outcome → (inverse witness inverse′ witness′ : List ℕ) → Type 0
 Cleared n Inverse inverse witness inverse′ witness′ = (inverse′ ≡ inverse) × (witness′ ≡ replicate n 0 ++ drop n witness)
 Cleared n (Column f) inverse witness inverse′ witness′ = (inverse′ ≡ replicate (n * n) 0 ++ drop (n * n) inverse) × (witness′ ≡ witness)
 
--- with this, and the work buffer's first words made 0, opening is whole
+-- with this, and the work buffer's first words set to 0, opening is complete
 pub begun-whole : {g : Graph} {o : Outcome} {inverse sequence witness work inverse′ sequence′ witness′ inverse″ witness″ work″ : List ℕ}
     → Begun g inverse sequence witness o inverse′ sequence′ witness′ → Cleared (g .n) o inverse′ witness′ inverse″ witness″
     → work″ ≡ replicate (g .n * g .n) 0 ++ drop (g .n * g .n) work → ruling modulus g (buffers inverse sequence witness work) ≡ accepted

@@ -16,7 +16,7 @@ pub enum Opening {
     Refused(Refusal),
 }
 
-// Opens on a graph that is accepted. Of the inverse and the witness only the one that is found is written.
+// Opens a session on a graph that has been checked. Writes the inverse or the witness, whichever exists; the caller zeroes the other.
 fn begin_accepted(
     n: usize,
     adjacency: &[u8],
@@ -31,7 +31,7 @@ fn begin_accepted(
         ⌜ Begun g (now (inverse .entry)) (now (sequence .entry)) (now (witness .entry)) o
         (now (inverse .exit)) (now (sequence .exit)) (now (witness .exit)) ⌝ }
 {
-    // Every vertex is in play.
+    // All vertices are in the set.
     let mut all = [1u8; 96];
     let cells = n * n;
     buffers::fill_bytes(sequence, n, 255);
@@ -45,7 +45,7 @@ fn begin_accepted(
     )
 }
 
-// Opens a session on a graph. Of the inverse and the witness the one that is not found is made 0.
+// Opens a session on a graph. Writes the inverse or the witness, whichever exists, and zeroes the other.
 pub fn begin(
     n: usize,
     adjacency: &[u8],

@@ -1,4 +1,4 @@
--- Opening through the host: over words that it unpacks from bytes and packs again, as many as the graph needs. Assumes nothing.
+-- Opening through the host: over the words that the graph needs, unpacked from bytes and packed again. Assumes nothing.
 use mathlib.Core.Path.{_≡_, refl, sym, ap, _∙_}
 use mathlib.Core.List.{List, [], _∷_, _++_}
 use Prim.Native.Nat.{ℕ, _*_, _/_, _^_, _≤_, _<_}
@@ -25,7 +25,7 @@ use Rattle.opening.specs.Meaning.{buffers}
 use Rattle.crossing.specs.Same.{cells-same, weights-same, table-same, singular-same}
 use Rattle.crossing.specs.Needed.{needed-weights, needed-agree, needed-counted, needed-fits}
 
--- the size and the lengths of the host's bytes are in order
+-- the number of vertices and the lengths of the host's bytes are in order
 pub record HostOpeningFits (n : ℕ) (adjacency weights : List ℕ) (b : Buffers) : Type 0 where
   pub size : n ≤ largest
   pub fits : OpeningFits (over n adjacency (words 2 weights)) (length (words 2 (b .inverse))) (length (b .sequence)) (length (words 2 (b .witness))) (length (words 2 (b .work)))
@@ -41,7 +41,7 @@ pub record Lends (n : ℕ) (values table vector spare : List ℕ) : Type 0 where
 abbrev pub first-stored : ℕ → (new bytes : List ℕ) → List ℕ
 first-stored k new bytes = onto (bytes-of 2 (take k new)) bytes
 
--- the host's bytes afterwards, where opening leaves words for n vertices; the sequence is bytes already
+-- the host's bytes after an opening that leaves words for n vertices; the sequence is bytes already
 abbrev stored : ℕ → (left b : Buffers) → Buffers
 stored n left b =
     buffers (first-stored (n * n) (left .inverse) (b .inverse)) (left .sequence) (first-stored n (left .witness) (b .witness)) (first-stored (n * n) (left .work) (b .work))
@@ -62,7 +62,7 @@ opening-number-fits {b = b} (refuses-opening r e) = numbers.opens-small {S = eve
 opening-number-fits (opens new ok l I) = omega arith
 opening-number-fits {b = b} (finds-singular f new ok l s) = numbers.opens-small {S = everything} {b = b} (finds-singular f new ok l s)
 
--- the size and the lengths are judged
+-- the number of vertices and the lengths are judged
 module _ (n : ℕ) (adjacency weights : List ℕ) (b : Buffers) where
   abbrev pub room : Ruling
   room =
@@ -89,7 +89,7 @@ module _ (n : ℕ) (adjacency weights : List ℕ) (b : Buffers) where
       let k = lengths-accepted n words-long [] [] (in-words ∙ sym e) in
       record { size = k .0; fits = opening-fits graph (length (words 2 (b .inverse))) (length (b .sequence)) (length (words 2 (b .witness))) (length (words 2 (b .work))) .0 (k .1) }
 
-  -- a refusal is the host's
+  -- a refusal on words is one through the host
   module _ {r : Refusal} (e : ruling modulus graph (unpacked first-edition b) ≡ refused r) where
     pub host-refuses : HostOpens first-edition n adjacency weights b (opening-number (not-opened r)) b
     host-refuses = record { opening = not-opened r; buffers = unpacked first-edition b; outcome = refuses-opening r e; numbered = refl; stored = refl }
@@ -97,7 +97,7 @@ module _ (n : ℕ) (adjacency weights : List ℕ) (b : Buffers) where
     pub refusal-small : r .place < 2 ^ 16
     refusal-small = numbers.opens-small {S = everything} {b = unpacked first-edition b} (refuses-opening r e) .place-below
 
--- where the size and the lengths are in order, the cells and the weights are left to judge
+-- if the number of vertices and the lengths are in order, only the cells and the weights remain to be judged
 long-ruling : (g : Graph) (b : Buffers) → g .n ≤ largest
     → OpeningFits g (length (b .inverse)) (length (b .sequence)) (length (b .witness)) (length (b .work))
     → ruling modulus g b ≡ judge (graph-causes modulus g)
@@ -135,12 +135,12 @@ module _ (n : ℕ) (adjacency weights : List ℕ) (b : Buffers) (F : HostOpening
   pub work-fits : 2 * (n * n) ≤ length (b .work)
   work-fits = omega (arith, F .fits .work-fits, words-length 2 (b .work))
 
-  -- opening over words that are lent
+  -- opening over lent words
   module _ {values table vector spare : List ℕ} (L : Lends n values table vector spare) where
     abbrev pub lent : Buffers
     lent = buffers table (b .sequence) vector spare
 
-    -- is refused for the same cause
+    -- it is refused for the same cause
     same-ruling : ruling modulus (graph n adjacency weights b) (unpacked first-edition b) ≡ ruling modulus words-needed lent
     same-ruling =
         let counted = needed-counted n weights (F .size) (F .fits .graph .weights) in
@@ -157,7 +157,7 @@ module _ (n : ℕ) (adjacency weights : List ℕ) (b : Buffers) (F : HostOpening
         ) in
         long-ruling (graph n adjacency weights b) (unpacked first-edition b) (F .size) (F .fits) ∙ sym causes-same ∙ sym part
 
-    -- and what it leaves, stored as bytes, is left by the host
+    -- and what it leaves, stored as bytes, is what opening through the host leaves
     pub host-opens : {o : Opening} {left : Buffers} → Bytes (b .inverse) → Bytes (b .witness) → Bytes (b .work) → Opens modulus words-needed everything lent o left
         → HostOpens first-edition n adjacency weights b (opening-number o) (after n o left b)
     host-opens inverse-bytes witness-bytes work-bytes (refuses-opening r e) = host-refuses n adjacency weights b (same-ruling ∙ e)

@@ -31,7 +31,7 @@ fn store(
     packing::store(spare, n * n, work);
 }
 
-// Packs what opening answered and left: its number, and unless it is a refusal the bytes of the words.
+// Returns the number of opened, and stores the words as bytes unless it is a refusal.
 fn pack(
     n: usize,
     opened: Opening,
@@ -66,7 +66,7 @@ fn pack(
     }
 }
 
-// Opens over lent words: the weights that the graph needs are unpacked, the session is opened on words, and what it leaves is packed.
+// Opens over lent words: unpacks the weights that the graph needs, opens the session on words, and packs what that leaves.
 fn open_over(
     n: usize,
     adjacency: &[u8],
@@ -92,7 +92,7 @@ fn open_over(
     pack(n, opened, table, vector, spare, inverse, witness, work)
 }
 
-// The same, with words of its own. A small graph has fewer, which take less time to clear.
+// Calls open_over with words of its own. A small graph has fewer, which take less time to clear.
 fn open_words(
     n: usize,
     adjacency: &[u8],
@@ -131,7 +131,7 @@ fn open_words(
         );
     }
     if n <= 64 {
-        // 64 * 63 / 2, 64 * 64 and 64.
+        // 64 * 63 / 2, 64 * 64 and 64 words.
         let mut values = [0u16; 2016];
         let mut table = [0u16; 4096];
         let mut vector = [0u16; 64];
@@ -170,7 +170,7 @@ fn open_words(
     )
 }
 
-// Opening through the host. Words are taken only where the size and the lengths are in order.
+// Opens a session through the host. Unpacks words only if n and the lengths are in order.
 pub fn begin(
     n: usize,
     adjacency: &[u8],

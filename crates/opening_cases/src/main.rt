@@ -1,5 +1,5 @@
-// Opens the graphs of document 01's last sheet to try, and some more, and writes each answer with a digest of every
-// buffer, its excess included: with 0 to start from, three times the digest so far and the next element, modulo 2^64.
+// Opens the graphs of document 01's last sheet to try, and some more, and writes each answer with a digest of every buffer, its excess
+// included. A digest starts at 0, and each element x turns digest d into 3 d + x, modulo 2^64.
 use libc::STDOUT_FILENO;
 use opening::Opening;
 ghost use Prim.Native.Nat.{_<_};
@@ -36,7 +36,7 @@ fn show(opening: Opening) {
     end_line();
 }
 
-// A digest d becomes 3 d and the next value, modulo 2^64.
+// Returns 3 times digest plus x, modulo 2^64.
 fn take_in(digest: u64, x: u64) -> u64 {
     let double = std::num::wrapping_add_u64(digest, digest);
     std::num::wrapping_add_u64(std::num::wrapping_add_u64(double, digest), x)
@@ -93,7 +93,7 @@ fn run(n: usize, adjacency: &[u8], weights: &[u16]) {
     end_line();
 }
 
-// Every cell n + 1 after another, from the first on, becomes 0.
+// Zeroes the diagonal.
 fn clear_diagonal(adjacency: &mut [u8], n: usize)
     requires { ⌜ n < 1000 ⌝ }
 {
@@ -104,7 +104,7 @@ fn clear_diagonal(adjacency: &mut [u8], n: usize)
     }
 }
 
-// All linked: 96 vertices, one too many, and the same table read as that of 95, whose second diagonal cell is then 1.
+// Opens 96 vertices that are all adjacent, 97, and the same table read as that of 95, whose second diagonal cell is then 1.
 fn all_linked() {
     let mut adjacency = [1u8; 9409];
     let weights = [1u16; 4656];
@@ -114,7 +114,7 @@ fn all_linked() {
     run(95, &adjacency, &weights);
 }
 
-// Two linked vertices with a weight.
+// Opens two adjacent vertices with weight.
 fn two(weight: u16) {
     let adjacency = [0u8, 1, 1, 0];
     let weights = [weight];

@@ -5,14 +5,14 @@ ghost use lib.ListN.{length, take};
 ghost use Rattle.lists.specs.Onto.{onto};
 ghost use Rattle.matching.specs.Host.{words, bytes-of};
 
-// The word of two bytes.
+// Returns the word of two bytes.
 fn word(low: u8, high: u8) -> u16
     ensures { λ r. ⌜ r ≡ low + 256 * high ⌝ }
 {
     low as u16 + 256 * (high as u16)
 }
 
-// The words of bytes, as many as there is room for. For proved callers.
+// Unpacks words from bytes until target is full.
 pub fn unpack(bytes: &[u8], target: &mut [u16])
     requires { ⌜ 2 * length (now target) ≤ length (now bytes) ⌝ }
     ensures { λ _. ⌜ now (target .exit) ≡ take (length (now (target .entry))) (words 2 (now (bytes .entry))) ⌝ }
@@ -24,7 +24,7 @@ pub fn unpack(bytes: &[u8], target: &mut [u16])
     }
 }
 
-// The bytes of words. The bytes after them stay as they are.
+// Packs words into bytes; the bytes after them stay as they are.
 fn pack(words: &[u16], bytes: &mut [u8])
     requires { ⌜ 2 * length (now words) ≤ length (now bytes) ⌝ }
     ensures { λ _. ⌜ now (bytes .exit) ≡ onto (bytes-of 2 (now (words .entry))) (now (bytes .entry)) ⌝ }
@@ -37,7 +37,7 @@ fn pack(words: &[u16], bytes: &mut [u8])
     }
 }
 
-// The bytes of the first words, so many of them. For proved callers.
+// Packs the first count words into bytes.
 pub fn store(words: &[u16], count: usize, bytes: &mut [u8])
     requires { ⌜ (count ≤ length (now words)) × (2 * count ≤ length (now bytes)) ⌝ }
     ensures { λ _. ⌜ now (bytes .exit) ≡ onto (bytes-of 2 (take count (now (words .entry)))) (now (bytes .entry)) ⌝ }

@@ -28,7 +28,7 @@ use Rattle.pairing.specs.declared.Pair as declared
 abbrev pub pair-is : declared.Pair → Pair
 pair-is e = record { smaller = e .smaller; larger = e .larger }
 
--- that of a and b where a is not the smaller
+-- the pair of a and b if a is not the smaller
 pub pair-unordered : (a b : ℕ) → b ≤ a → pair-of a b ≡ record { smaller = b; larger = a }
 unfolding pair-of
 pair-unordered a b l =
@@ -50,7 +50,7 @@ pub record Shrunk (p n a b : ℕ) (t t′ : List ℕ) : Type 0 where
   pub small : (i j : ℕ) → i < n → j < n → table n t′ i j < p
   pub update : Update p n (table n t) (column (table n t) a) (column (table n t) b) factor (table n t′)
 
--- that of its parts: columns copied, and the update of the copies
+-- the update by columns that are copied first
 pub shrunk : {p n a b factor : ℕ} {t t′ x y : List ℕ} → a < n → x ≡ list-of n (λ k. table n t k a) → y ≡ list-of n (λ k. table n t k b)
     → Reciprocal p (vector y a % p) factor → Updated p n x y factor t t′ → Shrunk p n a b t t′
 shrunk {n = n} {a = a} {b = b} {factor = factor} {t = t} {x = x} {y = y} ha ex ey R U = record {
@@ -67,7 +67,7 @@ shrunk {n = n} {a = a} {b = b} {factor = factor} {t = t} {x = x} {y = y} ha ex e
     in-y : (k : ℕ) → k < n → vector y k ≡ table n t k b
     in-y k h = ap (λ l. getD l k 0) ey ∙ getD-list-of n (λ k. table n t k b) k h
 
--- the reciprocal of a remainder is one of the number itself, where that is not 0
+-- the reciprocal of a remainder is a reciprocal of the number itself, if that is not 0
 pub unit : {p x h : ℕ} → 1 < p → Reciprocal p (x % p) h → ¬ Congruent p x 0 → Congruent p (h * x) 1
 unit {x = x} {h = h} above R d =
     linear (reciprocal-unit above R (λ z. d (flip (remainder x) ⨾ z)) ⊖ h ⊛ remainder x) (omega arith)
@@ -90,7 +90,7 @@ shrunk-inverse {p} P g {t′ = t′} s ha hb I d S = record {
 pub onto-part : (new old : List ℕ) {k : ℕ} → length new ≡ k → new ++ drop k old ≡ onto new old
 onto-part new old e = ap (λ k. new ++ drop k old) (sym e)
 
--- what appending is lent
+-- what appending a pair is lent
 pub record AppendRoom (n made : ℕ) (inverse sequence marks : List ℕ) (a b : ℕ) : Type 0 where
   pub size : n ≤ 96
   pub entries : n * n ≤ length inverse
@@ -100,7 +100,7 @@ pub record AppendRoom (n made : ℕ) (inverse sequence marks : List ℕ) (a b : 
   pub a-below : a < n
   pub b-below : b < n
 
--- and what it leaves
+-- what appending a pair leaves
 pub record Appended (p n made a b : ℕ) (inverse sequence marks : List ℕ) (e : Pair) (inverse′ sequence′ marks′ : List ℕ) : Type 0 where
   pub pair : e ≡ pair-of a b
   pub words : List ℕ

@@ -25,18 +25,18 @@ use Rattle.border.specs.Column.{Bordered, border-of}
 use Rattle.update.specs.Rows.{Updated}
 use Rattle.pairing.specs.Appended.{unit, small-words}
 
--- whether a set has an inverse, and the words then: the inverse for it, or those from before
+-- whether a set has an inverse, and the words afterwards: the inverse for the set, or the words from before
 pub record GrownTo (p : ℕ) (g : Graph) (L : Subset) (t : List ℕ) (r : Bool) (t′ : List ℕ) : Type 0 where
   pub held : r ≡ true → InverseTable p g L t′
   pub none : r ≡ false → ¬ Invertible p (g .n) (tutte g p) L
 
--- from the inverse for a set to that for the set with a and b
+-- from the inverse for a set to the inverse for the set with a and b
 pub record Grows (p : ℕ) (g : Graph) (a b : ℕ) (t : List ℕ) (r : Bool) (t′ : List ℕ) : Type 0 where
   pub size : length t′ ≡ length t
   pub same : r ≡ false → t′ ≡ t
   pub grown : (L M : Subset) → Without L a b M → InverseTable p g M t → GrownTo p g L t r t′
 
--- in a skew matrix column b against a vector is minus row b against it
+-- in a skew matrix, column b against a vector is minus row b against it
 turned : {p : ℕ} (n : ℕ) (A : Matrix) → Skew p n A → (x : Vector) (b : ℕ) → b < n → Congruent p (apply n A x b + sum n (λ k. A k b * x k)) 0
 unfolding apply
 turned {p} n A K x b hb =
@@ -109,7 +109,7 @@ module _ {p : ℕ} (P : OddPrime p) (g : Graph) {a b d : ℕ} {t column₁ colum
           (apply (g .n) A (vector x) b ⊛ negative-plus positive h ⊖ h ⊛ entry ⊕ one)
           (omega arith)
 
--- what removing a pair leaves; made is the number of pairs after it
+-- what removing a pair leaves; made is the number of pairs afterwards
 pub record Removed (p : ℕ) (g : Graph) (made a b : ℕ) (inverse sequence marks : List ℕ) (r : Bool) (inverse′ sequence′ marks′ : List ℕ) : Type 0 where
   pub words : List ℕ
   pub grows : Grows p g a b (take (g .n * g .n) inverse) r words

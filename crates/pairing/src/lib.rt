@@ -1,5 +1,5 @@
-// A pair appended to the pairs made, and the newest removed: in the inverse, by the update of rank two, in the sequence of pairs, and in the
-// marks of the vertices left.
+// Appends a pair to the pairs made, or removes the newest: in the inverse, by the update of rank two, in the sequence of pairs, and in the
+// marks of the unmatched vertices.
 use residue::Residue;
 use sequence::UNUSED;
 ghost use mathlib.Core.Path.{_≡_};
@@ -20,7 +20,7 @@ pub struct Pair {
     pub larger: usize,
 }
 
-// The pair of a and b, which are named in either order.
+// Returns the pair of a and b, which are named in either order.
 fn ordered(a: usize, b: usize) -> Pair
     ensures { λ e. ⌜ pair-is e ≡ pair-of a b ⌝ }
 {
@@ -37,7 +37,7 @@ fn ordered(a: usize, b: usize) -> Pair
     }
 }
 
-// Column c of a table.
+// Copies column c of t to x.
 fn column(t: &[u16], n: usize, c: usize, x: &mut [u16])
     requires { ⌜ Square n (now t) × (c < n) × (length (now x) ≡ n) ⌝ }
     ensures { λ _. ⌜ now (x .exit) ≡ list-of (length (now (x .entry))) (λ k. table n (now (t .entry)) k c) ⌝ }
@@ -49,7 +49,7 @@ fn column(t: &[u16], n: usize, c: usize, x: &mut [u16])
     }
 }
 
-// The update by columns a and b, with room for both.
+// Updates t by its columns a and b; x and y are room for them.
 fn shrink_over(t: &mut [u16], n: usize, a: usize, b: usize, x: &mut [u16], y: &mut [u16])
     requires { ⌜ Square n (now t) × (a < n) × (b < n) × (length (now x) ≡ n) × (length (now y) ≡ n) ⌝ }
     ensures { λ _. ⌜ Shrunk modulus n a b (now (t .entry)) (now (t .exit)) ⌝ }
@@ -60,7 +60,7 @@ fn shrink_over(t: &mut [u16], n: usize, a: usize, b: usize, x: &mut [u16], y: &m
     update::update(t, n, x, y, g.value);
 }
 
-// The inverse for a set of vertices becomes that for the set without a and b.
+// Turns t, the inverse for a set of vertices, into the inverse for the set without a and b.
 fn shrink(t: &mut [u16], n: usize, a: usize, b: usize)
     requires { ⌜ Square n (now t) × (a < n) × (b < n) ⌝ }
     ensures { λ _. ⌜ Shrunk modulus n a b (now (t .entry)) (now (t .exit)) ⌝ }
@@ -70,7 +70,7 @@ fn shrink(t: &mut [u16], n: usize, a: usize, b: usize)
     shrink_over(t, n, a, b, &mut x[..n], &mut y[..n]);
 }
 
-// Appends a pair that may be matched, and returns it. For proved callers.
+// Appends the pair of a and b, which may be matched, and returns it.
 pub fn append(
     n: usize,
     made: usize,
@@ -98,8 +98,8 @@ pub fn append(
     e
 }
 
-// The update by the columns that border the inverse, with room for both and for a column of the matrix. Where the set with a and b has no
-// inverse, nothing is written.
+// Updates t by the columns that border it, with room for both and for a column of the matrix. Tells whether the set with a and b has an
+// inverse; if it has none, t stays as it is.
 fn grow_over(
     n: usize,
     adjacency: &[u8],
@@ -119,7 +119,7 @@ fn grow_over(
     border::border(t, n, column, a, x);
     tutte::column(n, adjacency, weights, b, column);
     border::border(t, n, column, b, y);
-    // Column b against x is minus row b against it.
+    // The matrix is skew, so column b against x is minus row b against x.
     let d = border::dot(column, x);
     if d == 0 {
         return false;
@@ -129,7 +129,7 @@ fn grow_over(
     true
 }
 
-// The inverse for a set of vertices becomes that for the set with a and b; whether it has one.
+// Turns t, the inverse for a set of vertices, into the inverse for the set with a and b. Tells whether there is one.
 fn grow(n: usize, adjacency: &[u8], weights: &[u16], t: &mut [u16], a: usize, b: usize) -> bool
     requires { ⌜ Complete n (now adjacency) (now weights) × Square n (now t) × (a < n) × (b < n) ⌝ }
     ensures { λ r. ⌜ Grows modulus (over n (now (adjacency .entry)) (now (weights .entry))) a b (now (t .entry)) r (now (t .exit)) ⌝ }
@@ -150,8 +150,8 @@ fn grow(n: usize, adjacency: &[u8], weights: &[u16], t: &mut [u16], a: usize, b:
     )
 }
 
-// Removes the newest pair a, b, after which so many pairs are made; whether the vertices then left have an inverse. Where they have none,
-// nothing is written. For proved callers.
+// Removes the newest pair a, b, which leaves made pairs. Tells whether the vertices then unmatched have an inverse; if they have none,
+// writes nothing.
 pub fn remove(
     n: usize,
     made: usize,

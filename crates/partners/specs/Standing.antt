@@ -1,4 +1,4 @@
--- The vertices that pairs leave, marked, with the inverse for them, and what these say of a pick. Assumes nothing.
+-- The vertices that pairs leave unmatched, marked, with the inverse for them, and what these say of a pick. Assumes nothing.
 use mathlib.Core.Path.{_≡_, refl, sym, ap₂, _∙_}
 use mathlib.Core.Logic.{_≢_, _↔_}
 use mathlib.Core.List.{List, [], _∷_}
@@ -34,7 +34,7 @@ pub record Tables (n : ℕ) (adjacency inverse marks : List ℕ) : Type 0 where
   pub entries : n * n ≤ length inverse
   pub marks-length : length marks ≡ n
 
--- the graph is in order, the marks are the vertices of a set S that the pairs leave, and the first words are the inverse for them
+-- the graph is in order, the marks are the vertices of a set S that the pairs leave unmatched, and the first words are the inverse for them
 pub record Standing (g : Graph) (S : Subset) (pairs : Pairs) (inverse marks : List ℕ) : Type 0 where
   pub in-order : InOrder modulus g
   pub left : (v : ℕ) → v < g .n → marked marks v ≡ unmatched S pairs v
@@ -65,7 +65,7 @@ ShowsPartners n adjacency inverse marks a row =
 abbrev pub vertex-causes : ℕ → Subset → Pairs → ℕ → List Cause
 vertex-causes n S pairs a = needs 7 (decLt a n) ∷ needs 8 (in? (unmatched S pairs) a) ∷ []
 
--- the row of a where neither applies; else the row as it was
+-- the row of a if neither applies, else the row as it was
 abbrev pub written-row : decision.Ruling → (new old : List ℕ) → List ℕ
 written-row accepted new old = new
 written-row (refused r) new old = old
@@ -78,7 +78,7 @@ abbrev pub RowOf : (n : ℕ) (adjacency inverse marks : List ℕ) (a : ℕ) (row
 RowOf n adjacency inverse marks a row v row′ =
     (weights : List ℕ) (S : Subset) (pairs : Pairs) → Standing (over n adjacency weights) S pairs inverse marks → Row (over n adjacency weights) S pairs a row v row′
 
--- in a graph in order a cell is its mirror
+-- in a graph in order a cell equals its mirror
 module _ {g : Graph} (order : InOrder modulus g) where
   faultless : (i j : ℕ) → i < g .n → j < g .n → cell-fault (cell g i j) (cell g j i) i j ≡ 0
   faultless i j hi hj =
@@ -102,7 +102,7 @@ module _ {g : Graph} (order : InOrder modulus g) where
       go (no _) (yes l) = rw (pair-of-larger a b l) (mirror b a (h .1) (h .0) (λ e. h .2 (sym e)))
       go (no d) (no e) = absurd (h .2 (omega arith))
 
--- the vertices left by their marks
+-- the unmatched vertices by their marks
 module _ {g : Graph} {S : Subset} {pairs : Pairs} {inverse marks : List ℕ} (K : Standing g S pairs inverse marks) (v : ℕ) (l : v < g .n) where
   pub left-at : getD marks v 0 ≢ 0 → v ∈ unmatched S pairs
   left-at d = sym (K .left v l) ∙ marked-in marks v d

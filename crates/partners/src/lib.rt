@@ -1,5 +1,5 @@
-// Which vertices may be matched, by the inverse for the vertices left: causes 7 to 10 of document 01's table, the lowest partner of a vertex,
-// and the row of all its partners. The vertices left are marked: a byte for each vertex, not 0 for those left.
+// Which vertices may be matched, by the inverse for the unmatched vertices: causes 7 to 10 of document 01's table, the lowest partner of a
+// vertex, and the row of all its partners. The unmatched vertices are marked: a byte for each vertex, not 0 if it is unmatched.
 use refusals::Finding;
 use refusals::Refusal;
 use refusals::Ruling;
@@ -10,7 +10,7 @@ ghost use Rattle.matching.specs.Calls.{bit-of};
 ghost use Rattle.refusals.specs.Meaning.{ruling-of, Finds};
 ghost use Rattle.partners.specs.Standing.{Tables, Judges, Marked, FindsPartner, ShowsPartners, RowOf};
 
-// Whether a pick of a and b is accepted: causes 7 to 10. For proved callers.
+// Judges a pick of a and b: causes 7 to 10.
 pub fn judge(
     n: usize,
     adjacency: &[u8],
@@ -47,7 +47,7 @@ pub fn judge(
     Ruling::Accepted
 }
 
-// The lowest vertex that is marked. For proved callers.
+// Finds the lowest marked vertex.
 pub fn lowest(marks: &[u8]) -> Finding
     ensures { λ r. ⌜ Finds (length (now (marks .entry))) (Marked (now (marks .entry))) r ⌝ }
 {
@@ -61,7 +61,7 @@ pub fn lowest(marks: &[u8]) -> Finding
     Finding::Absent
 }
 
-// The lowest vertex whose pick with c is accepted. For proved callers.
+// Finds the lowest vertex whose pick with c is accepted.
 pub fn partner(n: usize, adjacency: &[u8], inverse: &[u16], marks: &[u8], c: usize) -> Finding
     requires { ⌜ Tables n (now adjacency) (now inverse) (now marks) ⌝ }
     ensures { λ r. ⌜ FindsPartner n (now (adjacency .entry)) (now (inverse .entry)) (now (marks .entry)) c r ⌝ }
@@ -76,7 +76,7 @@ pub fn partner(n: usize, adjacency: &[u8], inverse: &[u16], marks: &[u8], c: usi
     Finding::Absent
 }
 
-// 1 where no cause applies, else 0.
+// Returns 1 if no cause applies, else 0.
 fn bit(ruling: Ruling) -> u8
     ensures { λ r. ⌜ r ≡ bit-of (ruling-of ruling) ⌝ }
 {
@@ -86,7 +86,7 @@ fn bit(ruling: Ruling) -> u8
     }
 }
 
-// For each vertex b, 1 where a pick of a and b is accepted, else 0.
+// Sets row[b], for each vertex b, to 1 if a pick of a and b is accepted, else to 0.
 fn show(n: usize, adjacency: &[u8], inverse: &[u16], marks: &[u8], a: usize, row: &mut [u8])
     requires { ⌜ Tables n (now adjacency) (now inverse) (now marks) × (length (now row) ≡ n) ⌝ }
     ensures { λ _. ⌜ ShowsPartners n (now (adjacency .entry)) (now (inverse .entry)) (now (marks .entry)) a (now (row .exit)) ⌝ }
@@ -99,7 +99,7 @@ fn show(n: usize, adjacency: &[u8], inverse: &[u16], marks: &[u8], a: usize, row
     }
 }
 
-// The same, unless a is no vertex or matched: causes 7 and 8. For proved callers.
+// Calls show, unless a is out of range or already matched: causes 7 and 8.
 pub fn row(
     n: usize,
     adjacency: &[u8],

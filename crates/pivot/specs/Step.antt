@@ -76,7 +76,7 @@ pub taken-start : (n c : ℕ) (t : List ℕ) → Taken n 0 c t t
 taken-start n c t = record { size = refl; gone = λ k l. absurd (omega arith); rest = λ x _. refl }
 
 module _ {n m c : ℕ} {t s : List ℕ} (T : Taken n m c t s) (hc : c < n) where
-  -- an entry that is not yet taken
+  -- an entry that has not been taken yet
   pub taken-ahead : (k : ℕ) → m ≤ k → k < n → getD s (place n k c) 0 ≡ getD t (place n k c) 0
   taken-ahead k l hk = T .rest (place n k c) (λ k' l'. place-other n k k' c hk (omega arith) hc (λ e. omega arith))
 
@@ -99,7 +99,7 @@ module _ {n c : ℕ} {t s : List ℕ} (T : Taken n n c t s) (hc : c < n) where
   taken-column : (i : ℕ) → i < c → table n s i c ≡ 0
   taken-column i l = ap (vector s) (sym (place-above n i c l)) ∙ T .gone i (omega arith)
 
-  -- an entry that is not in row c from the diagonal on, nor in column c above it
+  -- an entry outside row c from the diagonal on and outside column c above it
   taken-apart : (i j : ℕ) → j < n → (i ≡ c → j < c) → (j ≡ c → c ≤ i) → table n s i j ≡ table n t i j
   taken-apart i j hj d e = T .rest (i * n + j) (λ k l q. go k l q (decLt k c))
     where
@@ -120,7 +120,7 @@ module _ {n c : ℕ} {t s : List ℕ} (T : Taken n n c t s) (hc : c < n) where
       go (no d) (yes q) (no l) _ = omega (arith, taken-apart i j hj (λ e. absurd (d e)) (λ _. omega arith))
       go (no d) (no e) _ _ = omega (arith, taken-rest i j hj d e)
 
--- both columns taken
+-- both columns are taken
 module _ {n c r : ℕ} {t s t' : List ℕ} (order : c < r) (hr : r < n) (T : Taken n n c t s) (U : Taken n n r s t') where
   hc : c < n
   hc = omega arith
@@ -146,7 +146,7 @@ module _ {n c r : ℕ} {t s t' : List ℕ} (order : c < r) (hr : r < n) (T : Tak
   pub taken-both : (i j : ℕ) → i < n → j < n → table n t' i j ≤ table n t i j
   taken-both i j hi hj = omega (arith, taken-less U hr i j hi hj, taken-less T hc i j hi hj)
 
-  -- an entry of column r, where c is taken
+  -- an entry of column r after column c is taken
   second-entry : (i : ℕ) → i < n → i ≢ c → getD s (place n i r) 0 ≡ getD t (place n i r) 0
   second-entry i hi d = go (decLt i r)
     where

@@ -18,7 +18,7 @@ use Rattle.residue.specs.Modulus.{modulus, modulus-prime}
 use Rattle.skew.specs.Inverse.{Matrix, Vector}
 use Rattle.skew.specs.Triangle.{mirror, mirror-above, mirror-below}
 
--- 2^40: every word is below this where it is added to
+-- 2^40: every word is below this when something is added to it
 abbrev pub limit : ℕ
 limit = 1099511627776
 
@@ -43,7 +43,7 @@ pub record Small (b n : ℕ) (t : List ℕ) : Type 0 where
 abbrev pub matrix : ℕ → List ℕ → Matrix
 matrix n t = mirror (modulus-prime .odd) (table n t)
 
--- where entry (k, c) stands above the diagonal
+-- the index above the diagonal of entry (k, c) or its mirror
 unfoldable pub place : ℕ → ℕ → ℕ → ℕ
 unfolding decLt
 place n k c = choose (decLt k c) (k * n + c) (c * n + k)
@@ -94,7 +94,7 @@ residue-small k c w = go (decLt k c)
     go (yes l) = rw (residue-above k c w l) (mod-lt _ (lit< tt))
     go (no d) = rw (residue-below k c w (omega arith)) (mod-lt _ (lit< tt))
 
--- it is that of the skew matrix
+-- it is the residue of the skew matrix's entry
 pub residue-matrix : (n : ℕ) (t : List ℕ) (k c : ℕ) → k ≢ c → Congruent modulus (residue k c (getD t (place n k c) 0)) (matrix n t k c)
 residue-matrix n t k c d = go (decLt k c)
   where
@@ -112,6 +112,6 @@ residue-matrix n t k c d = go (decLt k c)
 abbrev pub scaled : ℕ → Vector → Vector
 scaled h x m = (x m * h) % modulus
 
--- a row from column lo on, with a times x and b times y
+-- a row from column lo on, plus a times x and b times y
 abbrev pub plus-two : Vector → ℕ → Vector → Vector → ℕ → ℕ → Vector
 plus-two row lo x y a b m = row m + (a * x (lo + m) + b * y (lo + m))

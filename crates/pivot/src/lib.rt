@@ -1,5 +1,5 @@
 // One exchange of two indices of a skew matrix of residues, in a square table of which only the words above the diagonal count. Words are
-// exact up to multiples of the modulus: one is reduced where it is read, and sums are not reduced.
+// exact up to multiples of the modulus: a word is reduced when it is read, and sums are not reduced.
 ghost use mathlib.Core.Path.{_≡_};
 ghost use Prim.Native.Nat.{_+_, _*_, _-_, _%_, _≤_, _<_};
 ghost use lib.ListN.{length, getD, set};
@@ -10,7 +10,7 @@ ghost use Rattle.pivot.specs.Words.{limit, Words, Below, place, residue,
 ghost use Rattle.pivot.specs.Step.{Taken, Updating, UpdatedTo, Stepping, Columns, Stepped};
 use residue::Residue;
 
-// The residue of entry (k, c), which becomes 0.
+// Returns the residue of entry (k, c), and sets the entry to 0.
 fn take(t: &mut [u64], n: usize, k: usize, c: usize) -> u64
     requires { ⌜ Square n (now t) × (k < n) × (c < n) ⌝ }
     ensures { λ x. ⌜ (x ≡ residue k c (getD (now (t .entry)) (place n k c) 0)) × (now (t .exit) ≡ set (now (t .entry)) (place n k c) 0) ⌝ }
@@ -27,7 +27,7 @@ fn take(t: &mut [u64], n: usize, k: usize, c: usize) -> u64
     residue::negative(below.value as u32) as u64
 }
 
-// Column c, whose entries become 0, with those of row c.
+// Moves column c to x: its entries, and those of row c, become 0.
 fn take_column(t: &mut [u64], n: usize, c: usize, x: &mut [u64])
     requires { ⌜ Square n (now t) × (c < n) × (length (now x) ≡ n) ⌝ }
     ensures { λ _.
@@ -41,8 +41,8 @@ fn take_column(t: &mut [u64], n: usize, c: usize, x: &mut [u64])
     }
 }
 
-// Every word of x times h, reduced. The remainder is of a number below 2^16, and so changes nothing; it lets the compiler divide by a
-// shorter multiplication.
+// Multiplies every word of x by h, and reduces it. The words are below 2^16, so the remainder changes nothing; it lets the compiler divide
+// by a shorter multiplication.
 fn scale(x: &mut [u64], h: u16)
     requires { ⌜ Below modulus (now x) × (h < modulus) ⌝ }
     ensures { λ _. ⌜ Words (scaled h (vector (now (x .entry)))) (now (x .exit)) ⌝ }
@@ -54,8 +54,8 @@ fn scale(x: &mut [u64], h: u16)
     }
 }
 
-// Adds a times x and b times y to a row that starts in column lo. The remainders are of numbers below 2^32, and so change nothing; they
-// let the compiler multiply halves.
+// Adds a times x and b times y to row, which starts in column lo. The words of x and y are below 2^32, so the remainders change nothing;
+// they let the compiler multiply halves.
 fn add(row: &mut [u64], lo: usize, x: &[u64], y: &[u64], a: u32, b: u32)
     requires { ⌜ (lo + length (now row) ≤ length (now x)) × (lo + length (now row) ≤ length (now y)) × Below limit (now row)
         × Below modulus (now x) × Below modulus (now y) × (a < modulus) × (b < modulus) ⌝ }
@@ -73,8 +73,8 @@ fn add(row: &mut [u64], lo: usize, x: &[u64], y: &[u64], a: u32, b: u32)
     }
 }
 
-// Adds to entry (i, j) above the diagonal x(i) y(j) - y(i) x(j). A row starts at an even column, at its diagonal or after it; the word on the
-// diagonal does not count. A factor is cut to 32 bits before it is negated, so that the compiler knows its width.
+// Adds x(i) y(j) - y(i) x(j) to every entry (i, j) above the diagonal. A row starts at an even column, on the diagonal or right after it;
+// the word on the diagonal does not count. A factor is cut to 32 bits before it is negated, so that the compiler knows its width.
 fn update(t: &mut [u64], n: usize, x: &[u64], y: &[u64])
     requires { ⌜ Updating n (now t) (now x) (now y) ⌝ }
     ensures { λ _. ⌜ UpdatedTo n n (now (x .entry)) (now (y .entry)) (now (t .entry)) (now (t .exit)) ⌝ }
@@ -91,7 +91,7 @@ fn update(t: &mut [u64], n: usize, x: &[u64], y: &[u64])
     }
 }
 
-// The reciprocal of a residue, and 0 for 0.
+// Returns the reciprocal of the residue k, and 0 for 0.
 fn reciprocal(k: u64) -> u16
     requires { ⌜ k < modulus ⌝ }
     ensures { λ h. ⌜ (h < modulus) × Reciprocal modulus k h ⌝ }
@@ -100,7 +100,7 @@ fn reciprocal(k: u64) -> u16
     h.value
 }
 
-// Columns c and r with -1 at their own index and 0 at the other, and the reciprocal of entry (r, c). The table loses both.
+// Moves columns c and r to x and y, each with -1 at its own index and 0 at the other, and returns the reciprocal of entry (r, c).
 fn columns(t: &mut [u64], n: usize, c: usize, r: usize, x: &mut [u64], y: &mut [u64]) -> u16
     requires { ⌜ Stepping n c r (now t) × (length (now x) ≡ n) × (length (now y) ≡ n) ⌝ }
     ensures { λ h. ⌜ Columns n c r (now (t .entry)) (now (t .exit)) (now (x .exit)) (now (y .exit)) h ⌝ }
@@ -114,7 +114,7 @@ fn columns(t: &mut [u64], n: usize, c: usize, r: usize, x: &mut [u64], y: &mut [
     h
 }
 
-// Exchanges c and r, where c < r, with room for two columns, of which the first is multiplied by the reciprocal. For proved callers.
+// Exchanges c and r, where c < r; x and y are room for two columns, of which x is multiplied by the reciprocal.
 pub fn exchange(t: &mut [u64], n: usize, c: usize, r: usize, x: &mut [u64], y: &mut [u64])
     requires { ⌜ Stepping n c r (now t) × (length (now x) ≡ n) × (length (now y) ≡ n) ⌝ }
     ensures { λ _. ⌜ Stepped n c r (now (t .entry)) (now (t .exit)) ⌝ }

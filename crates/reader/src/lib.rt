@@ -48,7 +48,7 @@ impl<'a> Reader<'a> {
     }
 }
 
-// Reads a sheet that is all of bytes into adjacency and weights.
+// Reads bytes, a whole sheet, into adjacency and weights.
 pub fn read(bytes: &[u8], adjacency: &mut [u8], weights: &mut [u16]) -> Read
     ensures { λ r.
         ⌜ Fills first-edition (now (bytes .entry)) (now (adjacency .entry)) (now (weights .entry)) (read-of r)

@@ -1,8 +1,8 @@
-// Runs the residues modulo 65521: the reciprocal of each but 0, and each operation at its edges.
+// Runs the residues modulo 65521: the reciprocal of each but 0, and each operation at its limits.
 use libc::STDOUT_FILENO;
 use residue::Residue;
 
-// Whether the reciprocal of word is below the modulus and its product with word is 1 modulo that.
+// Tells whether the reciprocal of word is below the modulus and its product with word is 1 modulo the modulus.
 fn holds(word: u16) -> bool {
     let reciprocal = (Residue { value: word }).invert().value as u64;
     if Residue::MODULUS <= reciprocal {
@@ -11,7 +11,7 @@ fn holds(word: u16) -> bool {
     word as u64 * reciprocal % Residue::MODULUS == 1
 }
 
-// How many of the words from 1 to 65520 that is so of.
+// Counts the words from 1 to 65520 for which holds is true.
 fn count() -> u64 {
     let mut confirmed: u64 = 0;
     let mut n: u64 = 1;
@@ -30,7 +30,7 @@ fn item(number: u64) {
     io::print_decimal(STDOUT_FILENO, number);
 }
 
-// Writes what was done, to which number, and the answer, on a line.
+// Writes a line of the operation done, its number and the answer.
 fn line(done: &[u8], number: u64, answer: u64) {
     io::write_all(STDOUT_FILENO, done);
     item(number);
@@ -38,7 +38,7 @@ fn line(done: &[u8], number: u64, answer: u64) {
     io::write_all(STDOUT_FILENO, b"\n");
 }
 
-// The same of an operation on two words.
+// Writes a line of an operation on two words and the answer.
 fn line_of_two(done: &[u8], first: u16, second: u16, answer: u64) {
     io::write_all(STDOUT_FILENO, done);
     item(first as u64);
@@ -49,7 +49,7 @@ fn make(number: u64) {
     line(b"make", number, Residue::make(number).value as u64);
 }
 
-// The operations on one word.
+// Runs the operations on one word.
 fn one(word: u16) {
     let a = Residue { value: word };
     let zero = if a.is_zero() { 1 } else { 0 };
@@ -58,7 +58,7 @@ fn one(word: u16) {
     line(b"invert", word as u64, a.invert().value as u64);
 }
 
-// The operations on two words.
+// Runs the operations on two words.
 fn two(first: u16, second: u16) {
     let a = Residue { value: first };
     let b = Residue { value: second };

@@ -15,7 +15,7 @@ use Rattle.records.specs.declared.Record.the-variants.{Size, Share, Seed
 use Rattle.records.specs.declared.Next.the-variants.{Whole, Cut, Unknown, Nothing}
 use Rattle.records.specs.Stands.{Stands, stands-whole, stands-cut, stands-unknown, stands-nothing}
 
--- the bytes from an offset on, one after the other
+-- the bytes from an offset on, one after another
 next-byte : (bytes : List ℕ) (at next : ℕ) → at < length bytes → next ≡ at + 1 → drop at bytes ≡ getD bytes at 0 ∷ drop next bytes
 next-byte bytes at next l e = rw (e, add-one) (drop-cons bytes at 0 l)
 

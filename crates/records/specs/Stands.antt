@@ -17,12 +17,12 @@ record-of (Share e) = paper.share (e .a) (e .b)
 record-of (Seed s) = paper.seed s
 record-of End = paper.end
 
--- how many bytes a record takes
+-- the number of bytes of a record
 abbrev pub width-of : Record → ℕ
 width-of r = paper.width (record-of r)
 
--- what stands at an offset: a record that the bytes from there on begin with; a kind with too few bytes for any record of it; another
--- byte; nothing
+-- what stands at an offset: a record with which the bytes from there on begin; a record-kind with too few bytes for a record; another byte;
+-- nothing
 pub data Stands (bytes : List ℕ) (at : ℕ) : Next → Type 0 where
   stands-whole : {r : Record} → paper.Begins (record-of r) (drop at bytes) (drop (at + width-of r) bytes) → Stands bytes at (Whole r)
   stands-cut : (r : paper.Record) {body : List ℕ} → drop at bytes ≡ paper.kind r ∷ body

@@ -21,9 +21,9 @@ pub enum Record {
 pub enum Next {
     // A whole record.
     Whole(Record),
-    // A kind whose body is cut.
+    // A record-kind whose body is cut.
     Cut(u8),
-    // A byte that is no kind.
+    // A byte that is not a record-kind.
     Unknown,
     // No byte.
     Nothing,

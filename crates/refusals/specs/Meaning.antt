@@ -19,7 +19,7 @@ abbrev pub finding-of : Finding → decision.Finding
 finding-of Absent = absent
 finding-of (At x) = at x
 
--- the lowest number below n with a property, or that there is none
+-- the lowest number below n with a property, or none
 abbrev pub Finds : ℕ → (ℕ → Type 0) → Finding → Type 0
 Finds n P Absent = Every n (λ k. ¬ P k)
 Finds n P (At x) = Lowest n P x

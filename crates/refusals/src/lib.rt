@@ -1,4 +1,4 @@
-// A refusal, a ruling and a finding: what every check of the library answers. A refusal is made here alone.
+// A refusal, a ruling and a finding: what every check of the library answers. The functions make a refusal of a cause and a place.
 ghost use mathlib.Core.Path.{_≡_};
 ghost use Rattle.matching.specs.Decision.{because, refused};
 ghost use Rattle.refusals.specs.Meaning.{refusal-of, ruling-of};
@@ -9,13 +9,13 @@ pub struct Refusal {
     pub place: usize,
 }
 
-// A call is refused, or no cause applies.
+// A ruling on a call: no cause applies, or the call is refused.
 pub enum Ruling {
     Accepted,
     Refused(Refusal),
 }
 
-// Whether a cause applies, and its place.
+// Whether a cause applies, and if so its place.
 pub enum Finding {
     Absent,
     At(usize),

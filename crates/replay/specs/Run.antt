@@ -28,12 +28,12 @@ abbrev pub changed-by : Bool → Answer → Bool
 changed-by changed (done e) = true
 changed-by changed (denied r) = changed
 
--- whether one of the calls that returned these was
+-- whether one of the calls that returned these was accepted
 abbrev pub some-accepted : List Returned → Bool
 some-accepted [] = false
 some-accepted (r ∷ later) = changed-by (some-accepted later) (r .answer)
 
--- none is where a replay is refused
+-- no call is accepted if the replay is refused
 abbrev pub changes : Ruling → List Returned → Bool
 changes accepted returned = some-accepted returned
 changes (refused r) returned = false
@@ -72,7 +72,7 @@ pub ran-none : (s : State) (numbers old : List ℕ) → Ran s numbers old 0 s ol
 unfolding first-calls state-after
 ran-none s numbers old = record { returned = []; counted = refl; runs = none; reached = refl; written = refl; marked = refl }
 
--- the state after one more
+-- the state after one more call
 state-last : (s : State) (returned : List Returned) (r : Returned) → state-after s (returned ++ r ∷ []) (length (returned ++ r ∷ [])) ≡ r .state
 unfolding state-after
 state-last s [] r = refl
@@ -86,7 +86,7 @@ numbers-length : (returned : List Returned) → length (numbers-of returned) ≡
 numbers-length [] = refl
 numbers-length (x ∷ returned) = ap suc (numbers-length returned)
 
--- one call more
+-- one more call
 pub ran-more : {s t u : State} {numbers old answers : List ℕ} {k x : ℕ} {a : Answer} {b b′ : Bool} → Ran s numbers old k t answers b → k < length old
     → Handles modulus-prime t (call-of (getD numbers (3 * k) 0) (getD numbers (3 * k + 1) 0) (getD numbers (3 * k + 2) 0)) a u
     → x ≡ answer-number a (u .session) → b′ ≡ changed-by b a → Ran s numbers old (k + 1) u (set answers k x) b′
@@ -107,7 +107,7 @@ ran-more {s} {t} {u} {numbers} {old} {answers} {k} {x} {a} R l h e m = rw add-on
     last : Returned
     last = record { answer = a; state = u }
 
--- what the parts of a replay make of it
+-- what the parts of a replay come to
 module _ (s : State) (numbers answers : List ℕ) where
   -- 1 to 6, and then 12 and 13 of the list
   abbrev first : List Cause
@@ -117,7 +117,7 @@ module _ (s : State) (numbers answers : List ℕ) where
   unfolding replay-ruling
   whole = refl
 
-  -- demand 3 of it
+  -- demand 3 of a replay
   pub replays-follow : {t : State} {v : Ruling} {answers′ : List ℕ} → Replays modulus-prime s numbers answers v t answers′
       → DemandThreeOf modulus-prime s numbers answers t answers′
   unfolding pairs-on

@@ -1,5 +1,5 @@
-// Replay: a list of calls as numbers, three a call, made one after another on a session that is confirmed once, since every call keeps it
-// sound. The answers are written as the host's numbers.
+// Makes a list of calls, three numbers for each, one after another. The session is confirmed once, since every call keeps it sound. The
+// answers are written as the host's numbers.
 use calls::Answer;
 use refusals::Ruling;
 use session::Session;
@@ -29,7 +29,7 @@ struct Reached {
     changed: bool,
 }
 
-// Returns whether a call was accepted, after one more answer.
+// Returns true if answer accepts its call, else changed.
 fn accepts(changed: bool, answer: Answer) -> bool
     ensures { λ r. ⌜ r ≡ changed-by changed (answer-of answer) ⌝ }
 {

@@ -22,12 +22,12 @@ use Rattle.crossing.specs.HostFits.{HostFits, needed-inverse, needed-state, roo
 use Rattle.replay.specs.Run.{replays-follow}
 use Rattle.replay_bytes.specs.Wide.{Wide, wide, WideRun, wide-runs}
 
--- none of the words are stored where nothing has changed
+-- no word is stored if nothing has changed
 abbrev pub extent : Bool → ℕ → ℕ
 extent true size = size
 extent false size = 0
 
--- a replay over lent words, where the inverse's bytes are `bytes`
+-- a replay over lent words; `bytes` are the bytes of the inverse
 pub record ReplaysOver (s : State) (numbers answers bytes : List ℕ) (answer : ℕ) (bytes′ sequence′ answers′ : List ℕ) : Type 0 where
   pub verdict : Ruling
   pub left : State
@@ -46,12 +46,12 @@ pub replays-fit : {s t : State} {numbers answers answers′ : List ℕ} {v : Rul
     → RulingFits v (t .session .made)
 replays-fit {t = t} {v = v} R = ruling-fits v (t .session) (replays-small modulus-prime R)
 
--- a replay over the words that the graph needs is one over all of the host's
+-- a replay over the words that the graph needs is a replay over all words of the host
 module _ (n made : ℕ) (adjacency weights inverse sequence : List ℕ) (numbers answers : List ℕ) where
   abbrev host : State
   host = state n made adjacency weights inverse sequence
 
-  -- what the host has after it: the session is that of the number
+  -- the host's state afterwards: the session is that of the number
   abbrev after-state : Session → (inverse sequence : List ℕ) → State
   after-state x i q = record { session = x; adjacency = adjacency; weights = weights; inverse = i; sequence = q }
 
@@ -64,7 +64,7 @@ module _ (n made : ℕ) (adjacency weights inverse sequence : List ℕ) (numbers
   refused-through {r} e =
       record { verdict = refused r; left = unpacked-state first-edition host; outcome = refuses-replay r e; numbered = refl; stored = refl }
 
-  -- a refusal for the size or the lengths is the host's
+  -- a refusal for the number of vertices or the lengths is the host's
   module _ {r : Refusal} (e : refused r ≡ room n made adjacency weights inverse sequence) where
     refuses : replay-ruling modulus-prime (unpacked-state first-edition host) numbers answers ≡ refused r
     unfolding replay-ruling
@@ -96,7 +96,7 @@ module _ (n made : ℕ) (adjacency weights inverse sequence : List ℕ) (numbers
     abbrev stored-bytes : State → List ℕ
     stored-bytes left = onto (bytes-of 2 (take (n * n) (left .inverse))) inverse
 
-    -- those that were there are the bytes that were there, and so need not be stored
+    -- if the words are those from before, so are the bytes, and they need not be stored
     same-bytes : {left : State} → left ≡ needed-state host → stored-bytes left ≡ inverse
     same-bytes q =
         ap stored-bytes q
@@ -109,7 +109,7 @@ module _ (n made : ℕ) (adjacency weights inverse sequence : List ℕ) (numbers
     as-stored true left kept = refl
     as-stored false left kept = sym (same-bytes (kept refl))
 
-    -- the last state of both, stored
+    -- the last state of both runs, stored
     record Last (small large : State) : Type 0 where
       sessions : large .session ≡ small .session
       stored : after-state (small .session) (stored-bytes small) (small .sequence) ≡ replay-stored first-edition accepted large host

@@ -1,4 +1,4 @@
--- A run over the words that a graph needs is a run over all that are lent. Assumes nothing.
+-- A run over the words that a graph needs is a run over all words that are lent. Assumes nothing.
 use mathlib.Core.Path.{_≡_, refl, sym, ap, ap₂, _∙_}
 use mathlib.Core.List.{List, [], _∷_}
 use Prim.Native.Nat.{ℕ, _*_, _≤_}
@@ -19,8 +19,8 @@ use Rattle.laws.specs.Sound.{session-accepted}
 use Rattle.crossing.specs.Same.{table-same}
 use Rattle.crossing.specs.Steps.{Agree, step-same, session-same}
 
--- a state over the words needed, and the same over all: u are the weights that n vertices need and v all of them; old are all words that the
--- inverse had
+-- a state over the words needed, and the same state over all words: u are the weights that n vertices need, and v all weights; old are all
+-- words of the inverse before
 pub data Wide (n : ℕ) (adjacency u v old : List ℕ) : State → State → Type 0 where
   wide : (made : ℕ) (words order : List ℕ) → length words ≡ n * n → n ≤ length order
       → Wide n adjacency u v old (state n made adjacency u words order) (state n made adjacency v (onto words old) order)
@@ -48,7 +48,7 @@ module _ (n : ℕ) (adjacency u v old : List ℕ) (agree : Agree (pair-count n) 
         let I = session-accepted modulus small-state .0 e .1 .as-defined .is-inverse in
         sym (step-same modulus-prime (in-play small-state) n adjacency u v agree (pairs-on order made) c (_, I))
 
-    -- what a call leaves in both
+    -- what a call leaves in both states
     pub record WideCall (c : Call) (a : Answer) (s′ : State) : Type 0 where
       pub left : State
       pub handled : Handles modulus-prime wide-state c a left
@@ -72,7 +72,7 @@ module _ (n : ℕ) (adjacency u v old : List ℕ) (agree : Agree (pair-count n) 
       session-same = refl;
     }
 
-  -- and what a list of calls does
+  -- what a list of calls leaves in both states
   pub record WideRun (t : State) (calls : List Call) (s : State) (returned : List Returned) : Type 0 where
     pub returned′ : List Returned
     pub runs : Runs modulus-prime t calls returned′

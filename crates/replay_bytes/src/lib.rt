@@ -11,7 +11,7 @@ ghost use Rattle.matching.specs.Session.{state};
 ghost use Rattle.crossing.specs.HostFits.{HostFits};
 ghost use Rattle.replay_bytes.specs.HostReplay.{extent, ReplaysOver};
 
-// Returns how many words are to be stored: none where nothing has changed.
+// Returns how many words to store: cells if any has changed, else 0.
 fn extent(changed: bool, cells: usize) -> usize
     ensures { λ r. ⌜ r ≡ extent changed cells ⌝ }
 {
@@ -21,7 +21,7 @@ fn extent(changed: bool, cells: usize) -> usize
     0
 }
 
-// Replays over lent words, and answers one number. Where a call was accepted, the words of the table are stored as the inverse's bytes.
+// Replays over lent words, and returns the host's number. If a call was accepted, stores the words of table as the bytes of inverse.
 fn replay_over(
     n: usize,
     made: usize,
@@ -50,7 +50,7 @@ fn replay_over(
     numbers::ruled(5, ruling, after.made)
 }
 
-// Replays over bytes, of which as many words are read as the graph needs.
+// replay_over, on words unpacked from the host's bytes: only those n vertices need.
 fn replay_words(
     n: usize,
     made: usize,
@@ -85,7 +85,7 @@ fn replay_words(
     )
 }
 
-// Replays through the host. Words are taken only where the size and the lengths are in order.
+// Replays through the host. Unpacks words only if n and the lengths are in order.
 pub fn replay(
     n: usize,
     made: usize,

@@ -1,4 +1,4 @@
--- Open row over lent words, and through the host. Assumes nothing.
+-- The row of a vertex over lent words, and through the host. Assumes nothing.
 use mathlib.Core.Path.{_≡_, refl, sym, ap, _∙_}
 use mathlib.Core.List.{List, [], _∷_}
 use Prim.Native.Nat.{ℕ}
@@ -19,7 +19,7 @@ use Rattle.crossing.specs.Needed.{needed-weights, needed-agree}
 use Rattle.crossing.specs.Steps.{pick-same}
 use Rattle.crossing.specs.HostFits.{HostFits, needed-state, room, room-first, more-same}
 
--- open row over lent words
+-- the row of a over lent words
 pub record ShowsOver (s : State) (a : ℕ) (row : List ℕ) (answer : ℕ) (row′ : List ℕ) : Type 0 where
   pub verdict : Ruling
   pub outcome : ShowsRow modulus-prime s a row verdict s row′
@@ -35,7 +35,7 @@ state-same (row-refused r e) = row-refused r e
 pub shown-fits : {s t : State} {a : ℕ} {row row′ : List ℕ} {v : Ruling} → ShowsRow modulus-prime s a row v t row′ → RulingFits v (s .session .made)
 shown-fits {s} {v = v} R = ruling-fits v (s .session) (row-small modulus-prime R)
 
--- over the words that the graph needs it is as over all of the host's
+-- the row over the words that the graph needs is the row over all words of the host
 module _ (n made : ℕ) (adjacency weights inverse sequence : List ℕ) (a : ℕ) (row : List ℕ) (F : HostFits (unpacked-state first-edition (state n made adjacency weights inverse sequence))) where
   abbrev host : State
   host = state n made adjacency weights inverse sequence
@@ -59,7 +59,7 @@ module _ (n made : ℕ) (adjacency weights inverse sequence : List ℕ) (a : ℕ
   pub host-shows : {k : ℕ} {row′ : List ℕ} → ShowsOver (needed-state host) a row k row′ → HostShowsRow first-edition host a row k host row′
   host-shows O = record { verdict = O .verdict; outcome = through (O .outcome); numbered = O .numbered; same = refl }
 
--- a refusal for the size or the lengths is the host's
+-- a refusal for the number of vertices or the lengths is the host's
 pub host-refuses : (n made : ℕ) (adjacency weights inverse sequence : List ℕ) (a : ℕ) (row : List ℕ) {r : Refusal} → refused r ≡ room n made adjacency weights inverse sequence
     → HostShowsRow first-edition (state n made adjacency weights inverse sequence) a row (row-number (refused r) (record { size = n; made = made })) (state n made adjacency weights inverse sequence) row
 unfolding row-ruling

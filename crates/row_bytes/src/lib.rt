@@ -1,4 +1,5 @@
-// Open row with numbers and byte slices: what the host's entry calls. Words cross as two bytes, low first (docs/HOST.md).
+// The row of a vertex's partners with numbers and byte slices: what the host's entry calls. Words cross as two bytes, low first
+// (docs/HOST.md).
 use refusals::Ruling;
 use session::Session;
 ghost use Rattle.matching.specs.Edition.{first-edition};
@@ -7,7 +8,7 @@ ghost use Rattle.matching.specs.Session.{state};
 ghost use Rattle.crossing.specs.HostFits.{HostFits};
 ghost use Rattle.row_bytes.specs.HostRow.{ShowsOver};
 
-// Open row over lent words, answered by one number.
+// Writes the row of a over lent words, and returns the host's number.
 fn row_over(
     n: usize,
     made: usize,
@@ -28,7 +29,7 @@ fn row_over(
     numbers::ruled(4, ruling, made)
 }
 
-// The same over bytes, of which as many words are read as the graph needs.
+// row_over, on words unpacked from the host's bytes: only those n vertices need.
 fn row_words(
     n: usize,
     made: usize,
@@ -61,7 +62,7 @@ fn row_words(
     )
 }
 
-// Open row through the host. Words are taken only where the size and the lengths are in order.
+// Writes the row of a through the host. Unpacks words only if n and the lengths are in order.
 pub fn row(
     n: usize,
     made: usize,

@@ -8,7 +8,7 @@ ghost use Rattle.matching.specs.Session.{state};
 ghost use Rattle.opening.specs.Meaning.{buffers};
 ghost use Rattle.saszvigom.specs.Version.{version};
 
-// The version of the library: 0.5.0.
+// Returns the version of the library: 0.5.0.
 #[no_mangle]
 pub extern "C" fn saszvigom_version() -> u64
     ensures { λ r. ⌜ r ≡ version ⌝ }
@@ -46,7 +46,7 @@ pub extern "C" fn saszvigom_open(
     )
 }
 
-// Hand pick of a and b: document 01, "Session calls", through the host.
+// Picks a and b: document 01, "Session calls", through the host.
 #[no_mangle]
 pub extern "C" fn saszvigom_pick(
     n: u64,
@@ -77,7 +77,7 @@ pub extern "C" fn saszvigom_pick(
     )
 }
 
-// Automatic pick: the lowest vertex left, with its lowest partner.
+// Picks the lowest unmatched vertex and its lowest partner.
 #[no_mangle]
 pub extern "C" fn saszvigom_automatic(
     n: u64,
@@ -101,7 +101,7 @@ pub extern "C" fn saszvigom_automatic(
     )
 }
 
-// Take-back: the newest pair is removed.
+// Removes the newest pair.
 #[no_mangle]
 pub extern "C" fn saszvigom_undo(
     n: u64,
@@ -125,7 +125,7 @@ pub extern "C" fn saszvigom_undo(
     )
 }
 
-// Open row: for each vertex, whether a pick of it with a would be accepted.
+// Sets row[b], for each vertex b, to 1 if a pick of a and b would be accepted, else to 0.
 #[no_mangle]
 pub extern "C" fn saszvigom_row(
     n: u64,
@@ -153,7 +153,7 @@ pub extern "C" fn saszvigom_row(
     )
 }
 
-// Makes a list of calls, three numbers a call, and answers each with a number. Demand 3 is the second clause.
+// Makes a list of calls, three numbers for each, and answers each with a number. Demand 3 is the second clause.
 #[no_mangle]
 pub extern "C" fn saszvigom_replay(
     n: u64,

@@ -1,4 +1,4 @@
--- A sequence of pairs that is in order, pair by pair, and the vertices that its pairs leave. Assumes nothing.
+-- A sequence of pairs that is in order, pair by pair, and the vertices that its pairs leave unmatched. Assumes nothing.
 use mathlib.Core.Path.{_≡_, refl, sym, ap, _∙_}
 use mathlib.Core.Logic.{_≢_}
 use mathlib.Core.Bool.{Bool, true, false, true≢false, not}
@@ -29,7 +29,7 @@ pub record Tells (A : Type 0) (r : Bool) : Type 0 where
 pub tells-true : {A : Type 0} → A → Tells A true
 tells-true a = record { when-true = λ _. a; when-false = λ e. absurd (true≢false e) }
 
--- what a test of the negative says
+-- what a test of a negation says
 pub not-true : (r : Bool) → not r ≡ true → r ≡ false
 not-true true e = sym e
 not-true false e = refl
@@ -41,7 +41,7 @@ not-false false e = sym e
 pub tells-false : {A : Type 0} → ¬ A → Tells A false
 tells-false n = record { when-true = λ e. absurd (true≢false (sym e)); when-false = λ _. n }
 
--- the smaller first, both below n, adjacent, and both in the set
+-- the smaller first, both below n, adjacent, and both marked
 pub record PairFits (n : ℕ) (adjacency marks : List ℕ) (a b : ℕ) : Type 0 where
   pub ordered : a < b
   pub below : b < n
@@ -56,12 +56,12 @@ pub record UpTo (n : ℕ) (adjacency s : List ℕ) (k : ℕ) : Type 0 where
   pub adjacent : Every k (λ j. getD adjacency (getD s (j + j) 0 * n + getD s (j + j + 1) 0) 0 ≡ 1)
   pub different : Every (k + k) (λ y. Every y (λ x. getD s x 0 ≢ getD s y 0))
 
--- the marks are the vertices that the first k pairs leave
+-- the marks are the vertices that the first k pairs leave unmatched
 pub record Left (n : ℕ) (s : List ℕ) (k : ℕ) (marks : List ℕ) : Type 0 where
   pub size : length marks ≡ n
   pub same : (v : ℕ) → v < n → marked marks v ≡ unmatched everything (pairs-on s k) v
 
--- whether the first k pairs are in order, and the marks that are then left
+-- whether the first k pairs are in order, and if so the marks that they leave
 pub record Taken (n : ℕ) (adjacency s : List ℕ) (k : ℕ) (marks : List ℕ) (r : Bool) : Type 0 where
   pub in-order : Tells (UpTo n adjacency s k) r
   pub left : r ≡ true → Left n s k marks
@@ -89,7 +89,7 @@ upto-start n adjacency s = record {
   different = λ y l. absurd (omega arith);
 }
 
--- the marks of two vertices taken away, and put back
+-- the marks of two vertices removed, and put back
 module _ {n a b : ℕ} (marks : List ℕ) (U : Subset) (size : length marks ≡ n) (ha : a < n) (hb : b < n) where
   set-a : (x : ℕ) → getD (set marks a x) a 0 ≡ x
   set-a x = getD-set-same marks a x 0 (omega arith)
@@ -125,7 +125,7 @@ module _ {n a b : ℕ} (marks : List ℕ) (U : Subset) (size : length marks ≡ 
           ∙ remove-other U a v c
 
 module _ {n : ℕ} {adjacency s marks : List ℕ} {k : ℕ} (L : Left n s k marks) where
-  -- a pair more
+  -- one pair more
   pub upto-more : UpTo n adjacency s k → PairFits n adjacency marks (getD s (k + k) 0) (getD s (k + k + 1) 0) → UpTo n adjacency s (k + 1)
   upto-more U F = record {
     ordered = λ j l. last j l (λ i. getD s (i + i) 0 < getD s (i + i + 1) 0) (U .ordered) (F .ordered) (ℕ-discrete j k);
@@ -174,7 +174,7 @@ module _ {n : ℕ} {adjacency s marks : List ℕ} {k : ℕ} (L : Left n s k mark
       in-marks : (v : ℕ) → v < n → Every (k + k) (λ x. getD s x 0 ≢ v) → getD marks v 0 ≢ 0
       in-marks v b d = marked-nonzero marks v (L .same v b ∙ left-on everything s v k refl d)
 
--- the parts of well formed
+-- the parts of a well-formed sequence
 pub formed-all : {n made : ℕ} {adjacency s : List ℕ} → made + made ≤ n → UpTo n adjacency s made → UnusedFrom s (made + made) n
     → (weights : List ℕ) → WellFormed (over n adjacency weights) made s
 formed-all f U r weights = record {

@@ -1,14 +1,14 @@
-// The check of a session's sequence of pairs, cause 5 of document 01's table, and the vertices that its pairs leave: a mark for each vertex,
-// not 0 for those left.
+// Checks a session's sequence of pairs, cause 5 of document 01's table, and marks the vertices that its pairs leave unmatched: a byte for
+// each vertex, not 0 if it is unmatched.
 ghost use mathlib.Core.Path.{_≡_};
 ghost use Prim.Native.Nat.{_+_, _≤_, _<_};
 ghost use lib.ListN.{length, set};
 ghost use Rattle.sequence.specs.Formed.{AdjacencyFits, Tells, PairFits, Left, Taken, UnusedFrom, Formed};
 
-// The byte of a place that no pair has.
+// The byte of an unused place.
 pub const UNUSED: u8 = 255;
 
-// Whether a and b are a pair in order: the smaller first, both below n, adjacent, and both marked.
+// Tells whether a and b are a pair in order: a < b < n, adjacent, and both marked.
 fn fits(n: usize, adjacency: &[u8], marks: &[u8], a: usize, b: usize) -> bool
     requires { ⌜ AdjacencyFits n (now adjacency) × (length (now marks) ≡ n) ⌝ }
     ensures { λ r. ⌜ Tells (PairFits n (now (adjacency .entry)) (now (marks .entry)) a b) r ⌝ }
@@ -31,7 +31,7 @@ fn fits(n: usize, adjacency: &[u8], marks: &[u8], a: usize, b: usize) -> bool
     true
 }
 
-// Takes the marks of a and b away.
+// Removes the marks of a and b.
 fn unmark(marks: &mut [u8], a: usize, b: usize)
     requires { ⌜ (a < length (now marks)) × (b < length (now marks)) ⌝ }
     ensures { λ _. ⌜ now (marks .exit) ≡ set (set (now (marks .entry)) a 0) b 0 ⌝ }
@@ -40,12 +40,13 @@ fn unmark(marks: &mut [u8], a: usize, b: usize)
     marks[b] = 0;
 }
 
-// Takes the marks of the first pairs away, as long as the pairs are in order; whether all of them are.
+// Removes the marks of the first made pairs, as long as the pairs are in order, and tells whether all of them are.
 fn take_pairs(n: usize, adjacency: &[u8], sequence: &[u8], made: usize, marks: &mut [u8]) -> bool
     requires { ⌜ AdjacencyFits n (now adjacency) × (made + made ≤ n) × (n ≤ length (now sequence)) × Left n (now sequence) 0 (now marks) ⌝ }
     ensures { λ r. ⌜ Taken n (now (adjacency .entry)) (now (sequence .entry)) made (now (marks .exit)) r ⌝ }
 {
     let mut k = 0;
+    // The first k pairs are in order, and the marks are those of the vertices that they leave unmatched.
     while k < made {
         let at = k + k;
         let a = sequence[at] as usize;
@@ -60,7 +61,7 @@ fn take_pairs(n: usize, adjacency: &[u8], sequence: &[u8], made: usize, marks: &
     true
 }
 
-// Whether the bytes from start up to n are unused.
+// Tells whether the bytes from start up to n are unused.
 fn unused_from(sequence: &[u8], start: usize, n: usize) -> bool
     requires { ⌜ n ≤ length (now sequence) ⌝ }
     ensures { λ r. ⌜ Tells (UnusedFrom (now (sequence .entry)) start n) r ⌝ }
@@ -75,7 +76,7 @@ fn unused_from(sequence: &[u8], start: usize, n: usize) -> bool
     true
 }
 
-// Whether a sequence with so many pairs is well formed; then the marks are those of the vertices left. For proved callers.
+// Tells whether a sequence with made pairs is well formed; if it is, the marks are those of the unmatched vertices.
 pub fn formed(n: usize, adjacency: &[u8], sequence: &[u8], made: usize, marks: &mut [u8]) -> bool
     requires { ⌜ AdjacencyFits n (now adjacency) × (n ≤ length (now sequence)) × (length (now marks) ≡ n) ⌝ }
     ensures { λ r. ⌜ Formed n (now (adjacency .entry)) (now (sequence .entry)) made (now (marks .exit)) r ⌝ }

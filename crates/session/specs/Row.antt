@@ -1,4 +1,4 @@
--- The causes of an open row, in their order. Assumes nothing.
+-- The causes of the row of a vertex, in their order. Assumes nothing.
 use mathlib.Core.Path.{_≡_, refl, sym, ap, subst, _∙_}
 use mathlib.Core.List.{List, [], _∷_, _++_}
 use Prim.Native.Nat.{ℕ}
@@ -17,7 +17,7 @@ module _ (s : State) (a : ℕ) (row : List ℕ) where
   abbrev n : ℕ
   n = s .session .size
 
-  -- 1 to 6, and then 7 and 8 of the vertex
+  -- causes 1 to 6, and then 7 and 8 of the vertex
   abbrev first : List Cause
   first = session-causes modulus s (lent-row n (length row) ∷ [])
 
@@ -32,7 +32,7 @@ module _ (s : State) (a : ℕ) (row : List ℕ) where
     from-vertex : row-ruling modulus-prime s a row ≡ judge (vertex-causes n (in-play s) (pairs-of s) a)
     from-vertex = whole ∙ judge-second first (vertex-causes n (in-play s) (pairs-of s) a) (sym ok)
 
-    -- the first n bytes of the row are those of the call
+    -- the first n bytes of the row buffer are the row
     pub row-shows : (v : Ruling) {part part′ : List ℕ} → part ++ drop n row ≡ row → Row (graph-of s) (in-play s) (pairs-of s) a part v part′
         → ShowsRow modulus-prime s a row v s (part′ ++ drop n row)
     unfolding open-row

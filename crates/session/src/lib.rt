@@ -1,5 +1,5 @@
-// The session: its size and the number of pairs made, passed in and handed back by every call. Each call first confirms that the session is
-// sound; the graph's tables are lent to be read, the inverse and the sequence of pairs to be read and written.
+// The session: the number of vertices and the number of pairs made, passed in and handed back by every call. Each call first confirms that
+// the session is sound. It reads the graph's tables, the inverse and the sequence of pairs; all but row also write the last two.
 use calls::Answer;
 use calls::Call;
 use refusals::Ruling;
@@ -10,7 +10,7 @@ ghost use Rattle.matching.specs.Session.{state};
 ghost use Rattle.refusals.specs.Meaning.{ruling-of};
 ghost use Rattle.calls.specs.Meaning.{call-is, answer-of};
 
-// The size and the number of pairs made.
+// The number of vertices, and the number of pairs made.
 pub struct Session {
     pub size: usize,
     pub made: usize,
@@ -22,7 +22,7 @@ pub struct Returned {
     pub answer: Answer,
 }
 
-// The session handed back, which is the one passed in, and whether a row was written.
+// The session handed back, which is the one passed in, and whether the row was written.
 pub struct Shown {
     pub session: Session,
     pub ruling: Ruling,
@@ -73,7 +73,7 @@ impl Session {
         Returned { session, answer }
     }
 
-    // Hand pick of a and b.
+    // Picks a and b.
     pub fn pick(
         self,
         adjacency: &[u8],
@@ -97,7 +97,7 @@ impl Session {
         self.call(Call::Pick(a, b), adjacency, weights, inverse, sequence)
     }
 
-    // Automatic pick: the lowest vertex left, with its lowest partner.
+    // Picks the lowest unmatched vertex and its lowest partner.
     pub fn automatic(
         self,
         adjacency: &[u8],
@@ -115,7 +115,7 @@ impl Session {
         self.call(Call::Automatic, adjacency, weights, inverse, sequence)
     }
 
-    // Take-back: the newest pair is removed.
+    // Removes the newest pair.
     pub fn undo(
         self,
         adjacency: &[u8],
@@ -133,7 +133,7 @@ impl Session {
         self.call(Call::Undo, adjacency, weights, inverse, sequence)
     }
 
-    // Open row: for each vertex, whether a pick of it with a would be accepted.
+    // Sets row[b], for each vertex b, to 1 if a pick of a and b would be accepted, else to 0.
     pub fn row(
         self,
         adjacency: &[u8],

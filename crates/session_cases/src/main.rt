@@ -1,6 +1,6 @@
 // Runs a session on four vertices that are all adjacent, with every weight 1: a pick of 0 and 0, which document 01's last sheet to try
-// names, other refused calls, two pairs made and undone. It writes the answers as the host's numbers, and then the session, the inverse
-// and the sequence of pairs, before and after.
+// names, other refused calls, two pairs made and undone. After each of two lists of calls it writes the answers as the host's numbers, and
+// then the session, the inverse and the sequence of pairs.
 use libc::STDOUT_FILENO;
 use session::Session;
 
@@ -48,7 +48,7 @@ fn show_state(session: Session, inverse: &[u16], sequence: &[u8; 4]) {
     io::write_all(STDOUT_FILENO, b"\n");
 }
 
-// Makes the calls of a list on the session, and writes what they leave.
+// Makes the calls of list on the session, and writes the answers and what they leave.
 fn run(session: Session, inverse: &mut [u16; 16], sequence: &mut [u8; 4], list: &[u64]) {
     let adjacency = [0u8, 1, 1, 1, 1, 0, 1, 1, 1, 1, 0, 1, 1, 1, 1, 0];
     let weights = [1u16; 6];
@@ -95,7 +95,7 @@ fn main() {
         &mut sequence,
         &[1u64, 0, 0, 1, 4, 0, 1, 1, 0, 1, 0, 2, 2, 0, 0, 2, 0, 0],
     );
-    // A pick of 300 and 300, which all are matched already, and four take-backs, of which two have a pair; an automatic pick.
+    // A pick of 300 and 300, which are not vertices, four undos, of which two have a pair, and an automatic pick.
     run(
         Session { size: 4, made: 2 },
         &mut inverse,

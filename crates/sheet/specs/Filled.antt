@@ -1,4 +1,4 @@
--- What reading comes to after the first two records. Assumes nothing.
+-- What reading comes to after the first two records of a sheet. Assumes nothing.
 use mathlib.Core.Path.{_≡_, sym, ap, _∙_}
 use mathlib.Core.List.{List, _++_}
 use Prim.Native.Nat.{ℕ, _*_, _≤_, _<_}
@@ -28,13 +28,13 @@ module _ (n : ℕ) (adjacency weights : List ℕ) where
   pub room-enough : n * n ≤ length adjacency → pair-count n ≤ length weights → room n adjacency weights ≡ accepted
   room-enough g h = ap short-ruling (is-long (length adjacency) (n * n) 1 _ g ∙ is-long (length weights) (pair-count n) 2 _ h)
 
--- for whatever bytes were read as a sheet with the edges of the table
+-- for any bytes that are read as a sheet with the edges of the table
 abbrev pub Finishes : Edition → (n seed count : ℕ) → List ℕ → (adjacency weights : List ℕ) → Read → (adjacency′ weights′ : List ℕ) → Type 0
 Finishes E n seed count table adjacency weights r adjacency′ weights′ =
     (bytes : List ℕ) (at : ℕ) (edges : List Pair) → ReadsFrom E bytes at (sheet n (draws (E .draw) seed (pair-count n)) edges) → count ≡ length edges → table ≡ cells n edges
     → FillsFrom E bytes at adjacency weights r adjacency′ weights′
 
--- for whatever offset the bytes are read from, where reading has come behind the first two records
+-- for any offset from which reading has come past the first two records
 abbrev pub Continues : Edition → List ℕ → (next n seed : ℕ) → (adjacency weights : List ℕ) → Read → (adjacency′ weights′ : List ℕ) → Type 0
 Continues E bytes next n seed adjacency weights r adjacency′ weights′ =
     (at : ℕ) → Behind E bytes start at n seed next → FillsFrom E bytes at adjacency weights r adjacency′ weights′
@@ -55,6 +55,6 @@ module _ (E : Edition) (n seed : ℕ) {count : ℕ} {table adjacency weights : L
       let w : onto (draws (E .draw) seed (pair-count n)) weights ≡ drawn ++ drop pairs weights = rw (ed, ep, draws-length (E .draw) seed (pair-count n)) in
       rw (k, ← a, ← w) (fills R (room-enough n adjacency weights g h))
 
--- a sheet that is read has as many weights as its graph needs
+-- the weights of a sheet that was read are exactly those that its graph needs
 pub drawn-needed : {E : Edition} {n : ℕ} {drawn : List ℕ} {edges : List Pair} → Fit E n drawn edges → length drawn ≡ needed n
 drawn-needed {E} {n} F = rw (F .drawn) (draws-length (E .draw) (F .seeded-by) (pair-count n)) ∙ sym (needed-all n (F .small))

@@ -17,7 +17,7 @@ use Rattle.due.specs.Others.{Left, other-kind}
 use Rattle.sheet.specs.declared.Start.{Start}
 use Rattle.sheet.specs.declared.Start.the-variants as variants
 
--- reading has come behind them: no edges yet
+-- reading has come past the first two records: there are no edges yet
 abbrev pub Behind : Edition → List ℕ → Progress → (at n seed next : ℕ) → Type 0
 Behind E bytes q at n seed next = Follows E bytes q at (weighted n (draws (E .draw) seed (pair-count n)) []) next
 
@@ -26,7 +26,7 @@ Heads E bytes q at (variants.Headed h) = (h .size ≤ largest) × Behind E bytes
 Heads E bytes q at (variants.Refused why) = ReadsOn E bytes q at (unread (refusal-of why))
 
 module _ {E : Edition} {bytes : List ℕ} {at : ℕ} where
-  -- another kind than the one due
+  -- a record-kind other than the one due
   pub not-size : {r : Record} → Stands bytes at (Whole r) → Left (1 ∷ []) r → ReadsOn E bytes start at (unread (because 12 at))
   not-size {r} S left = undue-here S (only-size (other-kind (1 ∷ []) r 1 left tt))
 

@@ -27,7 +27,7 @@ pub enum Read {
     Refused(Refusal),
 }
 
-// What the first two records say, and the offset behind them.
+// What the first two records say, and the offset after them.
 pub struct Head {
     pub size: usize,
     pub seed: u32,
@@ -40,7 +40,7 @@ pub enum Start {
     Refused(Refusal),
 }
 
-// Reads the seed record at offset at of bytes, where the seed is due after a size of n.
+// Reads the seed record at offset at of bytes, after a size record of n.
 fn read_seed(bytes: &[u8], at: usize, n: usize) -> Start
     requires { ⌜ n ≤ largest ⌝ }
     ensures { λ r. ⌜ Heads first-edition (now (bytes .entry)) (sized n) at r ⌝ }
@@ -59,7 +59,7 @@ fn read_seed(bytes: &[u8], at: usize, n: usize) -> Start
     }
 }
 
-// Reads the size record at offset at of bytes, where the size is due, and the seed record behind it.
+// Reads the size record at offset at of bytes, and the seed record after it.
 fn read_head(bytes: &[u8], at: usize) -> Start
     ensures { λ r. ⌜ Heads first-edition (now (bytes .entry)) start at r ⌝ }
 {
@@ -108,7 +108,7 @@ fn write_graph(
     })
 }
 
-// Reads the records from offset next of bytes on, which follow the size n and the seed, into table, where every cell is 0 before, and
+// Reads the records of bytes from offset next on, which follow the size n and the seed, into table, where every cell is 0 before, and
 // writes the graph.
 fn read_over(
     bytes: &[u8],

@@ -41,7 +41,7 @@ module _ (n seed : ℕ) (weights : List ℕ) where
       go (no _) (yes d) = absurd (omega arith)
       go (no _) (no _) = refl
 
-  -- the outcome where n is above 96, where the weights are short, and else
+  -- the outcome if n is above 96, if the weights are too short, and otherwise
   pub draws-too-many : {answer : ℕ} → largest < n → answer ≡ refusal-number (because 1 0) → HostDraws first-edition n seed weights answer weights
   draws-too-many h e = let q = too-many h in record { numbered = rw q e; stored = rw q refl }
 

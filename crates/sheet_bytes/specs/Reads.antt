@@ -1,4 +1,4 @@
--- Reading a sheet over words of which no more are lent than the largest graph needs, and through the host. Assumes nothing.
+-- Reading a sheet over words, at most those that the largest graph needs, and through the host. Assumes nothing.
 use mathlib.Core.Path.{_≡_, refl, sym, _∙_}
 use mathlib.Core.List.{List}
 use Prim.Native.Nat.{ℕ, _*_, _≤_, _<_}
@@ -19,12 +19,13 @@ use Rattle.checks.specs.Weights.{needed, needed-all, needed-small}
 use Rattle.sheet.specs.Filled.{drawn-needed}
 use Rattle.laws.specs.Words.{words-length, stored-front}
 
--- how many weights are stored: none if the sheet is refused
+-- the number of weights that are stored: 0 if the sheet is refused
 abbrev pub stored-of : Read → ℕ
 stored-of (graph-read n m) = needed n
 stored-of (not-read why) = 0
 
--- values has as many words as weights has room for, or as the largest graph needs; the sheet is not longer than what is read of one
+-- values has the words for which weights has room, but at most those that the largest graph needs; the sheet has at most `input-limit`
+-- bytes
 pub record ReadRoom (sheet values weights : List ℕ) : Type 0 where
   pub few : length sheet ≤ input-limit
   pub within : length values ≤ length (words 2 weights)
@@ -48,7 +49,7 @@ room-same n adjacency values ws f g = go (decLt (length values) (pair-count n)) 
     go (yes c) (no d) = absurd (omega (arith, g (omega arith)))
     go (no c) (yes d) = absurd (omega (arith, f (omega arith)))
 
--- if nothing is too short, the weights are not
+-- if no buffer is too short, the weights are not
 room-weights : (n : ℕ) (adjacency ws : List ℕ) → room n adjacency ws ≡ accepted → pair-count n ≤ length ws
 room-weights n adjacency ws = go (decLt (length adjacency) (n * n)) (decLt (length ws) (pair-count n))
   where
@@ -64,7 +65,7 @@ module _ {sheet values weights : List ℕ} (R : ReadRoom sheet values weights) w
   same n adjacency h =
       room-same n adjacency values (words 2 weights) (λ l. omega (arith, R .within)) (λ l. R .enough (pair-count n) (omega (arith, needed-small n, needed-all n h)) l)
 
-  -- what is stored of what was read has room
+  -- there is room for what is stored
   pub stores : {adjacency adjacency′ left : List ℕ} {given : Read} → Fills first-edition sheet adjacency values given adjacency′ left → (stored-of given ≤ length left) × (2 * stored-of given ≤ length weights)
   stores (refuses-records _) = (omega arith, omega arith)
   stores (lacks-room _ _) = (omega arith, omega arith)

@@ -46,7 +46,7 @@ fn read_over(sheet: &[u8], adjacency: &mut [u8], values: &mut [u16], weights: &m
     number(read)
 }
 
-// Calls read_over with words of its own: as many as weights has room for, but at most those that the largest graph needs.
+// Calls read_over with words of its own: what weights has room for, but at most what the largest graph needs.
 fn read_words(sheet: &[u8], adjacency: &mut [u8], weights: &mut [u8]) -> u64
     requires { ⌜ length (now sheet) ≤ input-limit ⌝ }
     ensures { λ r.

@@ -30,7 +30,7 @@ use Rattle.exchange.specs.declared.Outcome.the-variants.{Column}
 use Rattle.pivot.specs.Words.{Small, matrix, place-above, place-below, residue, residue-above, residue-below}
 use Rattle.exchange.specs.Run.{Holds, word, word-diagonal, word-other, word-small, word-matrix, witness-word, witness-small}
 
--- the one that is found is written, and the other is as it was
+-- the inverse or the witness is written, whichever exists, and the other is as it was
 abbrev pub Solved : Graph → Subset → Outcome → (inverse witness inverse′ witness′ : List ℕ) → Type 0
 Solved g S ended.Inverse inverse witness inverse′ witness′ = InverseTable modulus g S inverse′ × (witness′ ≡ witness)
 Solved g S (Column f) inverse witness inverse′ witness′ = Singular modulus g S f witness′ × (inverse′ ≡ inverse)
@@ -46,7 +46,7 @@ blank-part n m h l = record {
   zero = λ x k. getD-take (n * n) (replicate m 0) x 0 k ∙ getD-replicate {A = ℕ} m x 0 0 (omega arith);
 }
 
--- all of k vertices, of at most 96
+-- all of k vertices are marked, if k is at most 96
 pub all-in : (k : ℕ) → k ≤ 96 → (i : ℕ) → i < k → i ∈ marked (take k (replicate 96 1))
 all-in k h i l =
     marked-in (take k (replicate 96 1)) i (λ e. omega (arith, e, getD-take {A = ℕ} k (replicate 96 1) i 0 l, getD-replicate {A = ℕ} 96 i 1 0 (omega arith)))
@@ -68,7 +68,7 @@ module _ {n : ℕ} {E : Matrix} {t t' : List ℕ} (F : Filled n E n t t') where
       go i j hi hj (yes l) = rw (F .above i j hi l hj) (small i j l hj)
       go i j hi hj (no l) = rw (F .on-below i j hi (omega arith), B .zero (i * n + j) (index-below n i j hi hj)) (omega arith)
 
--- filled with the matrix on a set
+-- a table filled with the matrix on a set
 module _ (g : Graph) (S : Subset) {t t' : List ℕ} (B : Blank (g .n) t) (F : Filled (g .n) (restricted g S) (g .n) t t') where
   abbrev n : ℕ
   n = g .n
@@ -99,7 +99,7 @@ module _ (g : Graph) (S : Subset) {t t' : List ℕ} (B : Blank (g .n) t) (F : Fi
     outer = λ i j hi hj o. same i j hi hj ⨾ equals (rw o refl);
   }
 
-  -- its words are those of 16 bits
+  -- its words have 16 bits
   pub filled-small : ((i j : ℕ) → i < j → j < n → upper g i j < 65536) → Small 65536 n t'
   filled-small small = filled-below F B (omega arith) (λ i j l hj. below i j l hj (member? S i) (member? S j))
     where
@@ -136,7 +136,7 @@ pub record Copied (n m : ℕ) (t words : List ℕ) : Type 0 where
   pub row : (i j : ℕ) → i < m → j < n → table n words i j ≡ word n t i j
   pub column : (i j : ℕ) → i < n → j < m → table n words i j ≡ word n t i j
 
--- and row and column m from the diagonal up to k
+-- and row and column m are copied from the diagonal up to k
 pub record Crossed (n m k : ℕ) (t words : List ℕ) : Type 0 where
   pub before : Copied n m t words
   pub right : (j : ℕ) → m ≤ j → j < k → table n words m j ≡ word n t m j
@@ -214,7 +214,7 @@ module _ {n m : ℕ} {t : List ℕ} (hm : m < n) where
       column i j hi l (yes a) (no _) = C .before .row i j a (omega arith)
       column i j hi l (no a) (no b) = let e : j ≡ m = omega arith in rw e (C .down i (omega arith) hi)
 
--- how it ends, for any set with the same elements below n
+-- how solving ends, for any set with the same elements below n
 module _ (g : Graph) {S L : Subset} (agree : (i : ℕ) → i < g .n → L i ≡ S i) (t : List ℕ) where
   pub inverse-solved : {words : List ℕ} → Copied (g .n) (g .n) t words → Inverse modulus (g .n) (tutte g modulus) S (matrix (g .n) t)
       → InverseTable modulus g L words

@@ -1,5 +1,5 @@
-// The inverse of the Tutte matrix of a graph in order, on a set of vertices, or the witness of its first dependent column. The set is a byte
-// for each vertex, not 0 for those in it; these bytes are used up.
+// The inverse of the Tutte matrix of a graph in order, on a set of vertices, or the witness of its first dependent column. The set is a
+// byte for each vertex, not 0 if it is in the set; solving uses these bytes up.
 use exchange::Outcome;
 use residue::Residue;
 ghost use mathlib.Core.Path.{_≡_};
@@ -13,7 +13,7 @@ ghost use Rattle.tutte.specs.Table.{Complete};
 ghost use Rattle.exchange.specs.Run.{word, witness-word};
 ghost use Rattle.solve.specs.Solved.{Copied, Blank, Solved};
 
-// Entry (i, j) of the skew matrix that a table holds above its diagonal, where it stands there. For proved callers.
+// Returns entry (i, j), where i < j, of the skew matrix that t holds above its diagonal.
 pub fn above(t: &[u64], n: usize, i: usize, j: usize) -> u16
     requires { ⌜ Square n (now t) × (i < j) × (j < n) ⌝ }
     ensures { λ r. ⌜ r ≡ word n (now (t .entry)) i j ⌝ }
@@ -22,7 +22,7 @@ pub fn above(t: &[u64], n: usize, i: usize, j: usize) -> u16
     Residue::make(t[at]).value
 }
 
-// Any entry.
+// Returns entry (i, j), on either side of the diagonal.
 fn entry(t: &[u64], n: usize, i: usize, j: usize) -> u16
     requires { ⌜ Square n (now t) × (i < n) × (j < n) ⌝ }
     ensures { λ r. ⌜ r ≡ word n (now (t .entry)) i j ⌝ }
@@ -36,7 +36,7 @@ fn entry(t: &[u64], n: usize, i: usize, j: usize) -> u16
     0
 }
 
-// Row and column m from the diagonal on, where those before are written.
+// Writes row and column m of inverse from the diagonal on; those before m are already written.
 fn write_cross(t: &[u64], n: usize, m: usize, inverse: &mut [u16])
     requires { ⌜ Square n (now t) × (m < n) × Copied n m (now t) (now inverse) ⌝ }
     ensures { λ _. ⌜ Copied n (m + 1) (now (t .entry)) (now (inverse .exit)) ⌝ }
@@ -52,7 +52,7 @@ fn write_cross(t: &[u64], n: usize, m: usize, inverse: &mut [u16])
     }
 }
 
-// The whole matrix, in 16 bits.
+// Writes the whole matrix to inverse, in 16 bits.
 fn write_inverse(t: &[u64], n: usize, inverse: &mut [u16])
     requires { ⌜ Square n (now t) × (length (now inverse) ≡ n * n) ⌝ }
     ensures { λ _. ⌜ Copied n n (now (t .entry)) (now (inverse .exit)) ⌝ }
@@ -64,7 +64,7 @@ fn write_inverse(t: &[u64], n: usize, inverse: &mut [u16])
     }
 }
 
-// The witness at vertex k: row f where k does not wait, and else 1 at f and 0 elsewhere.
+// Returns the witness at vertex k: entry (f, k) if k does not wait, else 1 at f and 0 elsewhere.
 fn witness_word(t: &[u64], n: usize, f: usize, k: usize, waiting: &[u8]) -> u16
     requires { ⌜ Square n (now t) × (f < n) × (k < n) × (length (now waiting) ≡ n) ⌝ }
     ensures { λ r. ⌜ r ≡ witness-word n (now (t .entry)) (now (waiting .entry)) f k ⌝ }
@@ -89,7 +89,7 @@ fn write_witness(t: &[u64], n: usize, f: usize, waiting: &[u8], witness: &mut [u
     }
 }
 
-// Solves in a table of zeros.
+// Solves in t, a table of zeros.
 fn solve_over(
     n: usize,
     adjacency: &[u8],
@@ -120,8 +120,8 @@ fn solve_over(
     }
 }
 
-// Solves for at most 32 vertices in a small table, which takes less time to clear. It and the next are functions of their own, so that the
-// compiler can put both tables in the same place.
+// Solves for at most 32 vertices in a small table, which takes less time to clear. It and solve_large are functions of their own, so that
+// the compiler can put both tables in the same place.
 fn solve_small(
     n: usize,
     adjacency: &[u8],
@@ -151,7 +151,7 @@ fn solve_small(
     )
 }
 
-// Solves for any graph.
+// Solves for any number of vertices, in a table for 96.
 fn solve_large(
     n: usize,
     adjacency: &[u8],
@@ -181,8 +181,8 @@ fn solve_large(
     )
 }
 
-// The inverse for a set of vertices, 0 in the other rows and columns; or the witness. What is not found is left as it was. For proved callers,
-// who have accepted the graph.
+// Writes the inverse for a set of vertices, with 0 in the other rows and columns, or the witness, whichever exists; leaves the other as it
+// was. The graph must already have been checked.
 pub fn solve(
     n: usize,
     adjacency: &[u8],

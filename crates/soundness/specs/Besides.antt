@@ -1,4 +1,4 @@
--- A session call that is lent buffers besides 1 to 4, and looks at causes after 1 to 6. Assumes nothing.
+-- A session call that is lent more buffers than 1 to 4, and looks at more causes after 1 to 6. Assumes nothing.
 use mathlib.Core.Path.{_≡_, refl, sym, ap, _∙_}
 use mathlib.Core.List.{List, [], _∷_, _++_}
 use Prim.Native.Nat.{ℕ, _≤_, _<_}
@@ -30,7 +30,7 @@ then-nothing accepted = refl
 then-nothing (refused r) = refl
 
 module _ (p : ℕ) (s : State) (more : List Lent) (later : List Cause) where
-  -- the size, and the lengths of buffers 1 to 4
+  -- the ruling on the number of vertices and the lengths of buffers 1 to 4
   abbrev pub lengths : Ruling
   lengths = judge (too-large (s .session .size) ∷ too-short (lent-to-session s []) ∷ [])
 
@@ -43,7 +43,7 @@ module _ (p : ℕ) (s : State) (more : List Lent) (later : List Cause) where
       ∷ not-inverse p (graph-of s) (unmatched (in-play s) (pairs-of s)) (s .inverse)
       ∷ []
 
-  -- these are looked at first,
+  -- the lengths are looked at first,
   pub lengths-first : {r : Refusal} → refused r ≡ lengths → judge (session-causes p s more ++ later) ≡ refused r
   lengths-first {r} e = lengths-refused (s .session .size) (lent-to-session s []) more (rest ++ later) r (sym e)
 
@@ -57,12 +57,12 @@ module _ (p : ℕ) (s : State) (more : List Lent) (later : List Cause) where
       ∙ ap (then (judge (too-short more ∷ [])))
       (judge-then rest later ∙ ap (λ v. then v (judge later)) (sym (lengths-accepted (s .session .size) (lent-to-session s []) [] rest (sym e) .2)))
 
--- the ruling of causes 1 to 6 with one more buffer among the lent, and where none applies the session is confirmed
+-- the ruling of causes 1 to 6 with one more buffer among the lent; if none applies, the session is confirmed
 pub record ConfirmedLent (b : Lent) (n made : ℕ) (adjacency weights inverse sequence marks : List ℕ) (r : declared.Ruling) : Type 0 where
   pub ruled : ruling-of r ≡ judge (session-causes modulus (state n made adjacency weights inverse sequence) (b ∷ []))
   pub confirmed : ruling-of r ≡ accepted → Confirmed n made adjacency weights inverse sequence marks r
 
--- then there is as much of the buffer as the call needs
+-- then the buffer has the length that the call needs
 pub lent-room : {b : Lent} {n made : ℕ} {adjacency weights inverse sequence marks : List ℕ} {v : declared.Ruling} → ConfirmedLent b n made adjacency weights inverse sequence marks v
     → v ≡ Accepted → b .needed ≤ b .length
 lent-room {b} {n} {made} {adjacency} {weights} {inverse} {sequence} C e =

@@ -18,12 +18,12 @@ use Rattle.refusals.specs.Meaning.{ruling-of}
 use Rattle.sequence.specs.Formed.{AdjacencyFits, Left}
 use Rattle.tutte.specs.Table.{Complete}
 
--- the ruling of causes 1 to 6, and the marks of the vertices left where none applies
+-- the ruling of causes 1 to 6, and the marks of the unmatched vertices if none applies
 pub record Confirmed (n made : ℕ) (adjacency weights inverse sequence marks : List ℕ) (r : Ruling) : Type 0 where
   pub ruled : ruling-of r ≡ session-ruling modulus (state n made adjacency weights inverse sequence)
   pub left : ruling-of r ≡ accepted → Left n sequence made marks
 
--- none of the causes 1 to 4 applies
+-- none of causes 1 to 4 applies
 pub record Judged (n : ℕ) (adjacency weights inverse sequence : List ℕ) : Type 0 where
   pub four : judge (opening-causes modulus (over n adjacency weights) (lent-always n (length adjacency) (length weights) (length inverse) (length sequence))) ≡ accepted
 
@@ -32,7 +32,7 @@ pub judged : (n : ℕ) (adjacency weights inverse sequence : List ℕ)
     → Judged n adjacency weights inverse sequence
 judged n adjacency weights inverse sequence e = record { four = sym e }
 
--- what this makes ready
+-- what follows from this for the next checks
 pub record SessionReady (n : ℕ) (adjacency weights inverse sequence : List ℕ) : Type 0 where
   pub lent : AdjacencyFits n adjacency
   pub complete : Complete n adjacency weights

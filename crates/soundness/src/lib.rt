@@ -1,4 +1,5 @@
-// Whether a session is sound: causes 1 to 6 of document 01's table. For cause 6 the inverse for the vertices left is solved again and compared.
+// Tells whether a session is sound: causes 1 to 6 of document 01's table. For cause 6 the inverse for the unmatched vertices is computed
+// again and compared.
 use refusals::Refusal;
 use refusals::Ruling;
 ghost use mathlib.Core.Path.{_≡_};
@@ -7,7 +8,7 @@ ghost use lib.ListN.{length, take};
 ghost use Rattle.soundness.specs.Sound.{Judged, Confirmed};
 ghost use Rattle.soundness.specs.Besides.{ConfirmedLent};
 
-// Causes 5 and 6, where none of 1 to 4 applies; where these do not either, the marks are those of the vertices left.
+// Judges causes 5 and 6, if none of 1 to 4 applies. If neither applies, the marks are those of the unmatched vertices.
 fn confirm_rest(
     n: usize,
     made: usize,
@@ -33,8 +34,7 @@ fn confirm_rest(
     Ruling::Accepted
 }
 
-// Whether a session is sound; then the first marks, one for each vertex, are those of the vertices left. There must be room for 96. For
-// proved callers.
+// Judges whether a session is sound; if it is, the first n marks are those of the unmatched vertices. There must be room for 96 marks.
 pub fn confirm(
     n: usize,
     made: usize,
@@ -64,8 +64,8 @@ pub fn confirm(
     )
 }
 
-// Confirms a session whose call is lent one more buffer: its number among the lent, its length, and how much of it the call needs. It is judged
-// after buffers 1 to 4, before anything else is looked at.
+// Confirms a session whose call is lent one more buffer, with its number, its length room, and the length needed. It is judged after
+// buffers 1 to 4 and before anything else.
 pub fn confirm_lent(
     n: usize,
     made: usize,

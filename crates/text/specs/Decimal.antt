@@ -9,7 +9,7 @@ use lib.ListN.{length}
 use Rattle.lists.specs.Choose.{choose-yes, choose-no}
 use Rattle.matching.specs.Listing.{digits, decimal}
 
--- no room left, a number of one digit, and one of more
+-- the digits with no room left, of a number of one digit, and of one of more
 none : (x : ℕ) (later : List ℕ) → digits zero x later ≡ later
 unfolding digits
 none x later = refl
@@ -22,11 +22,11 @@ more : (f x : ℕ) (later : List ℕ) → 10 ≤ x → digits (suc f) x later �
 unfolding digits
 more f x later h = choose-no (decLt x 10) _ _ (λ l. omega arith)
 
--- a tenth has one digit less
+-- a tenth has one digit fewer
 tenth : (k x : ℕ) → x < 10 ^ suc k → x / 10 < 10 ^ k
 tenth k x h = div-lt-iff-lt-mul {k = 10} {x = x} {y = 10 ^ k} (omega arith) .1 (rw pow-suc at h)
 
--- what stands later stays behind
+-- the digits `later` stay after the others
 digits-later : (f x : ℕ) (later : List ℕ) → digits f x later ≡ digits f x [] ++ later
 digits-later zero x later = rw (none x later, none x [])
 digits-later (suc f) x later = go (λ l. digits-later f (x / 10) l) (decLt x 10)
@@ -51,7 +51,7 @@ digits-enough (suc f) x later h = go (digits-enough f (x / 10) ((48 + x % 10) �
         let h : 10 ≤ x = omega arith in
         more (suc (suc f)) x later h ∙ hyp ∙ sym (more (suc f) x later h)
 
--- at most so many digits
+-- a number below 10 ^ (k + 1) has at most k + 1 digits, before `later`
 digits-length : (f k x : ℕ) (later : List ℕ) → x < 10 ^ suc k → length (digits f x later) ≤ suc k + length later
 digits-length zero k x later h = rw (none x later) (omega arith)
 digits-length (suc f) zero x later h = rw (one f x later h) (omega arith)
@@ -76,7 +76,7 @@ decimal-more x h l =
 pub decimal-length : (k x : ℕ) → x < 10 ^ suc k → length (decimal x) ≤ suc k
 decimal-length k x h = omega (arith, digits-length 20 k x [] h)
 
--- no number has more than twenty
+-- no number has more than twenty digits
 most : (f x : ℕ) (later : List ℕ) → length (digits f x later) ≤ f + length later
 most zero x later = rw (none x later) (omega arith)
 most (suc f) x later = go (most f (x / 10) ((48 + x % 10) ∷ later)) (decLt x 10)

@@ -1,4 +1,4 @@
--- A text in a buffer, the digits of a number, and how long the lines of the listing are.
+-- A text in a buffer, the digits of a number, and the lengths of the listing's lines.
 pub mod Puts
 pub mod Decimal
 pub mod Lines

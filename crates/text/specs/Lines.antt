@@ -1,4 +1,4 @@
--- The lines of the listing: how long they are, and one more of them. Assumes nothing.
+-- The lines of the listing: their lengths, and one line more. Assumes nothing.
 use mathlib.Core.Path.{_≡_, refl, sym}
 use mathlib.Core.Logic.{_≢_}
 use mathlib.Core.List.{List, [], _∷_, _++_, append-nil, append-assoc}
@@ -15,7 +15,7 @@ use Rattle.matching.specs.Pairs.{Pair, pairs-on}
 use Rattle.matching.specs.Listing.{decimal, text-sleeves, text-links, text-pair, text-witness, text-refused, text-at, space, line-feed, first-line, pair-line, pair-lines, witness-lines, refused-line}
 use Rattle.text.specs.Decimal.{decimal-length, decimal-most}
 
--- a line of two numbers, each behind a word
+-- a line of two numbers, each after a word
 abbrev pub line-of : List ℕ → ℕ → List ℕ → ℕ → List ℕ
 line-of first x second y = first ++ decimal x ++ second ++ decimal y ++ line-feed
 
@@ -23,21 +23,21 @@ pub line-length : (first : List ℕ) (x : ℕ) (second : List ℕ) (y : ℕ)
     → length (line-of first x second y) ≡ length first + length (decimal x) + length second + length (decimal y) + 1
 line-length first x second y = simp length-append
 
--- the first line of a graph
+-- the length of the first line of a graph
 pub first-length : (n m : ℕ) → n < 100 → m < 100000 → length (first-line n m) ≤ 23
 first-length n m h l = omega (arith, line-length text-sleeves n text-links m, decimal-length 1 n h, decimal-length 4 m l)
 
--- a pair of bytes
+-- the length of the line of a pair of bytes
 pub pair-length : (e : Pair) → e .smaller < 256 → e .larger < 256 → length (pair-line e) ≤ 13
 pair-length e h l =
     omega (arith, line-length text-pair (e .smaller) space (e .larger), decimal-length 2 (e .smaller) (omega arith), decimal-length 2 (e .larger) (omega arith))
 
--- a refusal
+-- the length of the line of a refusal
 pub refused-length : (r : Refusal) → r .cause < 1000 → length (refused-line r) ≤ 36
 refused-length r h =
     omega (arith, line-length text-refused (r .cause) text-at (r .place), decimal-length 2 (r .cause) h, decimal-most (r .place))
 
--- the word of a witness at an index: nothing for 0, and else a line
+-- the word of a witness at an index: nothing for 0, else a line
 pub witness-none : (i w : ℕ) → w ≡ 0 → witness-lines i (w ∷ []) ≡ []
 unfolding witness-lines
 witness-none i w h = rw (choose-yes (ℕ-discrete w 0) [] (line-of text-witness i space w) h)
@@ -55,7 +55,7 @@ witness-length i w h l = go (ℕ-discrete w 0)
         rw (witness-one i w d)
         (omega (arith, line-length text-witness i space w, decimal-length 1 i h, decimal-length 4 w (omega arith)))
 
--- the lines of no word, of some words and those behind them, and of one word more
+-- the lines of no words, of some words and those after them, and of one word more
 pub witness-start : (i : ℕ) → witness-lines i [] ≡ []
 unfolding witness-lines
 witness-start i = refl
@@ -78,7 +78,7 @@ witness-more words i h =
 abbrev pub pair-at : List ℕ → ℕ → Pair
 pair-at s k = record { smaller = getD s (k + k) 0; larger = getD s (k + k + 1) 0 }
 
--- the lines of no pair, and of one pair more
+-- the lines of no pairs, and of one pair more
 pub pairs-none : (s : List ℕ) → pair-lines (pairs-on s 0) ≡ []
 unfolding pairs-on pair-lines
 pairs-none s = refl

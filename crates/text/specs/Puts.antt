@@ -13,7 +13,7 @@ use Rattle.lists.specs.Onto.{onto}
 unfoldable pub written : ℕ → List ℕ → List ℕ → List ℕ
 written at new old = take at old ++ new ++ drop (at + length new) old
 
--- the text that is written at a position, the buffer before and after, and the position behind the text
+-- the text written at a position, the buffer before and after, and the position after the text
 pub record Puts (at : ℕ) (new before after : List ℕ) (next : ℕ) : Type 0 where
   pub buffer : after ≡ written at new before
   pub behind : next ≡ at + length new
@@ -27,7 +27,7 @@ unfolding written
 length-written at new old h =
     omega (arith, length-append (take at old ++ new) (drop (at + length new) old), length-drop (at + length new) old, head-length at new old (omega arith))
 
--- what stands behind a text and the next
+-- what stands after a text and the next
 rest-of : (at : ℕ) (a b old : List ℕ) → at ≤ length old
     → drop (at + length a + length b) (take at old ++ a ++ drop (at + length a) old) ≡ drop (at + length (a ++ b)) old
 rest-of at a b old h =
@@ -55,7 +55,7 @@ written-byte : (at b : ℕ) (old : List ℕ) → at < length old → set old at 
 unfolding written
 written-byte at b old h = set-split old at b h ∙ sym (append-snoc (take at old) b (drop (at + 1) old) ∙ rw add-one)
 
--- nothing, a byte, and two texts, one behind the other; the buffer stays as long as it was
+-- nothing, a byte, and two texts, one after the other; the buffer keeps its length
 pub puts-nothing : (at : ℕ) (old : List ℕ) → at ≤ length old → Puts at [] old old at
 puts-nothing at old h = record { buffer = sym (written-nothing at old); behind = omega arith; within = h }
 

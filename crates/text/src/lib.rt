@@ -1,4 +1,4 @@
-// The lines of the listing, written into a lent buffer at a position. Each function returns the position behind what it wrote.
+// The lines of the listing, written into a lent buffer at a position. Each function returns the position after what it wrote.
 ghost use mathlib.Core.List.{[], _∷_};
 ghost use Prim.Native.Nat.{_+_, _*_, _≤_, _<_};
 ghost use lib.ListN.{length};
@@ -7,7 +7,7 @@ ghost use Rattle.matching.specs.Listing.{decimal, first-line, pair-line, pair-l
 ghost use Rattle.text.specs.Puts.{Puts};
 ghost use Rattle.text.specs.Lines.{line-of};
 
-// The bytes. For proved callers.
+// Writes bytes at position at, and returns the position after them.
 pub fn put(text: &mut [u8], at: usize, bytes: &[u8]) -> usize
     requires { ⌜ at + length (now bytes) ≤ length (now text) ⌝ }
     ensures { λ r. ⌜ Puts at (now (bytes .entry)) (now (text .entry)) (now (text .exit)) r ⌝ }
@@ -20,7 +20,7 @@ pub fn put(text: &mut [u8], at: usize, bytes: &[u8]) -> usize
     at + i
 }
 
-// A digit.
+// Writes the digit x.
 fn put_digit(text: &mut [u8], at: usize, x: usize) -> usize
     requires { ⌜ (x < 10) × (at < length (now text)) ⌝ }
     ensures { λ r. ⌜ Puts at ((48 + x) ∷ []) (now (text .entry)) (now (text .exit)) r ⌝ }
@@ -29,7 +29,7 @@ fn put_digit(text: &mut [u8], at: usize, x: usize) -> usize
     at + 1
 }
 
-// The digits of a number. For proved callers.
+// Writes the decimal digits of x.
 pub fn put_decimal(text: &mut [u8], at: usize, x: usize) -> usize
     requires { ⌜ at + length (decimal x) ≤ length (now text) ⌝ }
     ensures { λ r. ⌜ Puts at (decimal x) (now (text .entry)) (now (text .exit)) r ⌝ }
@@ -41,7 +41,7 @@ pub fn put_decimal(text: &mut [u8], at: usize, x: usize) -> usize
     put_digit(text, next, x % 10)
 }
 
-// A line of two numbers, each behind a word.
+// Writes a line of x and y, each after its word.
 fn line(text: &mut [u8], at: usize, first: &[u8], x: usize, second: &[u8], y: usize) -> usize
     requires { ⌜ at + length (line-of (now first) x (now second) y) ≤ length (now text) ⌝ }
     ensures { λ r. ⌜ Puts at (line-of (now (first .entry)) x (now (second .entry)) y) (now (text .entry)) (now (text .exit)) r ⌝ }
@@ -53,7 +53,7 @@ fn line(text: &mut [u8], at: usize, first: &[u8], x: usize, second: &[u8], y: us
     put(text, d, b"\n")
 }
 
-// The line of the size and the number of edges. For proved callers.
+// Writes the line of size, the number of vertices, and the number of edges.
 pub fn first_line(text: &mut [u8], at: usize, size: usize, edges: usize) -> usize
     requires { ⌜ at + length (first-line size edges) ≤ length (now text) ⌝ }
     ensures { λ r. ⌜ Puts at (first-line size edges) (now (text .entry)) (now (text .exit)) r ⌝ }
@@ -61,7 +61,7 @@ pub fn first_line(text: &mut [u8], at: usize, size: usize, edges: usize) -> usiz
     line(text, at, b"sleeves ", size, b" links ", edges)
 }
 
-// The line of a pair. For proved callers.
+// Writes the line of a pair.
 pub fn pair_line(text: &mut [u8], at: usize, smaller: usize, larger: usize) -> usize
     requires { ⌜ at + length (pair-line (record { smaller = smaller; larger = larger })) ≤ length (now text) ⌝ }
     ensures { λ r. ⌜ Puts at (pair-line (record { smaller = smaller; larger = larger })) (now (text .entry)) (now (text .exit)) r ⌝ }
@@ -69,7 +69,7 @@ pub fn pair_line(text: &mut [u8], at: usize, smaller: usize, larger: usize) -> u
     line(text, at, b"pair ", smaller, b" ", larger)
 }
 
-// The line of a refusal. For proved callers.
+// Writes the line of a refusal.
 pub fn refused_line(text: &mut [u8], at: usize, cause: usize, place: usize) -> usize
     requires { ⌜ at + length (refused-line (record { cause = cause; place = place })) ≤ length (now text) ⌝ }
     ensures { λ r. ⌜ Puts at (refused-line (record { cause = cause; place = place })) (now (text .entry)) (now (text .exit)) r ⌝ }
@@ -77,7 +77,7 @@ pub fn refused_line(text: &mut [u8], at: usize, cause: usize, place: usize) -> u
     line(text, at, b"refused ", cause, b" at ", place)
 }
 
-// The verdict that all vertices are matched. For proved callers.
+// Writes the verdict that all vertices are matched.
 pub fn full_line(text: &mut [u8], at: usize) -> usize
     requires { ⌜ at + length line-full ≤ length (now text) ⌝ }
     ensures { λ r. ⌜ Puts at line-full (now (text .entry)) (now (text .exit)) r ⌝ }
@@ -85,7 +85,7 @@ pub fn full_line(text: &mut [u8], at: usize) -> usize
     put(text, at, b"verdict F\n")
 }
 
-// The verdict that there is a witness. For proved callers.
+// Writes the verdict that there is a witness.
 pub fn none_line(text: &mut [u8], at: usize) -> usize
     requires { ⌜ at + length line-none ≤ length (now text) ⌝ }
     ensures { λ r. ⌜ Puts at line-none (now (text .entry)) (now (text .exit)) r ⌝ }
@@ -93,7 +93,7 @@ pub fn none_line(text: &mut [u8], at: usize) -> usize
     put(text, at, b"verdict N\n")
 }
 
-// The line of the word w of a witness at an index; nothing where it is 0. For proved callers.
+// Writes the line of the witness's word w at index i, or nothing if w is 0.
 pub fn witness_line(text: &mut [u8], at: usize, i: usize, w: usize) -> usize
     requires { ⌜ at + length (witness-lines i (w ∷ [])) ≤ length (now text) ⌝ }
     ensures { λ r. ⌜ Puts at (witness-lines i (w ∷ [])) (now (text .entry)) (now (text .exit)) r ⌝ }
@@ -104,7 +104,7 @@ pub fn witness_line(text: &mut [u8], at: usize, i: usize, w: usize) -> usize
     line(text, at, b"witness ", i, b" ", w)
 }
 
-// The lines of the first so many pairs of a sequence, the oldest first. For proved callers.
+// Writes the lines of the first made pairs of sequence, the oldest first.
 pub fn pair_lines(text: &mut [u8], at: usize, sequence: &[u8], made: usize) -> usize
     requires { ⌜ (2 * made ≤ length (now sequence)) × (at + 13 * made ≤ length (now text)) ⌝ }
     ensures lines { λ r. ⌜ Puts at (pair-lines (pairs-on (now (sequence .entry)) made)) (now (text .entry)) (now (text .exit)) r ⌝ }
@@ -121,7 +121,7 @@ pub fn pair_lines(text: &mut [u8], at: usize, sequence: &[u8], made: usize) -> u
     next
 }
 
-// The lines of a witness of at most 100 words. For proved callers.
+// Writes the lines of a witness of at most 100 words.
 pub fn witness_lines(text: &mut [u8], at: usize, words: &[u16]) -> usize
     requires { ⌜ (length (now words) ≤ 100) × (at + 17 * length (now words) ≤ length (now text)) ⌝ }
     ensures lines { λ r. ⌜ Puts at (witness-lines 0 (now (words .entry))) (now (text .entry)) (now (text .exit)) r ⌝ }

@@ -1,4 +1,4 @@
--- What is lent to the filling of a table, and what the table then holds. Assumes nothing.
+-- What filling a table is lent, and what the table then holds. Assumes nothing.
 use mathlib.Core.Path.{_≡_, refl, ap, _∙_}
 use mathlib.Core.Logic.{_≢_}
 use mathlib.Core.List.{List}
@@ -22,11 +22,11 @@ pub record Complete (n : ℕ) (adjacency weights : List ℕ) : Type 0 where
   pub cells : n * n ≤ length adjacency
   pub weights-enough : pair-count n ≤ length weights
 
--- an entry above the diagonal; 0 unless both vertices are in the set
+-- an entry above the diagonal if both vertices are in the set, else 0
 abbrev pub restricted : Graph → Subset → Matrix
 restricted g S i j = select (S i) (select (S j) (upper g i j) 0) 0
 
--- an entry above the diagonal, at vertices that are listed
+-- an entry above the diagonal, at listed vertices
 abbrev pub listed : Graph → List ℕ → Matrix
 listed g vertices i j = upper g (vector vertices i) (vector vertices j)
 
@@ -35,7 +35,7 @@ pub record Ascending (n : ℕ) (vertices : List ℕ) : Type 0 where
   pub below : (i : ℕ) → i < length vertices → vector vertices i < n
   pub ordered : (i j : ℕ) → i < j → j < length vertices → vector vertices i < vector vertices j
 
--- so many words of row i of a matrix, from the diagonal on
+-- the first `size` words of row i of a matrix, right of the diagonal
 abbrev pub row-of : Matrix → ℕ → ℕ → List ℕ
 row-of E i size = list-of size (λ k. E i (i + 1 + k))
 

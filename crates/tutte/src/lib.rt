@@ -1,5 +1,5 @@
-// The Tutte matrix of a graph in order: one column of it; and its entries above the diagonal as a table of words, on a set of vertices, which
-// is a byte for each vertex, not 0 for those in it, or at listed vertices alone.
+// The Tutte matrix of a graph in order: one of its columns, or its entries above the diagonal as a table of words. The table is for a set
+// of vertices, given by a byte for each vertex that is not 0 for those in it, or for listed vertices alone.
 use residue::Residue;
 ghost use mathlib.Core.Path.{_≡_};
 ghost use Prim.Native.Nat.{_+_, _*_, _<_};
@@ -11,7 +11,7 @@ ghost use Rattle.skew.specs.Subset.{marked};
 ghost use Rattle.matching.specs.Graph.{upper, tutte, over};
 ghost use Rattle.tutte.specs.Table.{Complete, restricted, listed, Ascending, row-of, Filled};
 
-// The weight of i < j where they are adjacent, else 0.
+// Returns the weight of i < j if they are adjacent, else 0.
 fn upper(n: usize, adjacency: &[u8], weights: &[u16], i: usize, j: usize) -> u16
     requires { ⌜ Complete n (now adjacency) (now weights) ⌝ }
     requires { ⌜ (i < j) × (j < n) ⌝ }
@@ -24,7 +24,7 @@ fn upper(n: usize, adjacency: &[u8], weights: &[u16], i: usize, j: usize) -> u16
     }
 }
 
-// The same, but 0 unless both are in the set.
+// Returns what upper returns if i and j are both in set, else 0.
 fn entry(n: usize, adjacency: &[u8], weights: &[u16], set: &[u8], i: usize, j: usize) -> u16
     requires { ⌜ Complete n (now adjacency) (now weights) × (length (now set) ≡ n) ⌝ }
     requires { ⌜ (i < j) × (j < n) ⌝ }
@@ -39,7 +39,7 @@ fn entry(n: usize, adjacency: &[u8], weights: &[u16], set: &[u8], i: usize, j: u
     upper(n, adjacency, weights, i, j)
 }
 
-// Row i from the diagonal on.
+// Writes the entries of row i right of the diagonal to row.
 fn fill_row(n: usize, adjacency: &[u8], weights: &[u16], set: &[u8], i: usize, row: &mut [u64])
     requires { ⌜ Complete n (now adjacency) (now weights) × (length (now set) ≡ n) ⌝ }
     requires { ⌜ (i < n) × (i + 1 + length (now row) ≡ n) ⌝ }
@@ -54,7 +54,7 @@ fn fill_row(n: usize, adjacency: &[u8], weights: &[u16], set: &[u8], i: usize, r
     }
 }
 
-// All entries above the diagonal; the other words of the table stay as they are. For proved callers.
+// Writes all entries above the diagonal to table; its other words stay as they are.
 pub fn fill(n: usize, adjacency: &[u8], weights: &[u16], set: &[u8], table: &mut [u64])
     requires { ⌜ Complete n (now adjacency) (now weights) × (length (now set) ≡ n) ⌝ }
     requires { ⌜ length (now table) ≡ n * n ⌝ }
@@ -72,7 +72,7 @@ pub fn fill(n: usize, adjacency: &[u8], weights: &[u16], set: &[u8], table: &mut
     }
 }
 
-// Row i from the diagonal on, at vertices that are listed.
+// Writes the entries of row i right of the diagonal to row, for the listed vertices alone.
 fn listed_row(
     n: usize,
     adjacency: &[u8],
@@ -96,8 +96,8 @@ fn listed_row(
     }
 }
 
-// The entries above the diagonal at vertices that are listed in ascending order, as a table of their own; its other words stay as they are.
-// For proved callers.
+// Writes the entries above the diagonal for vertices, which are listed in ascending order, to a table of their own; its other words stay as
+// they are.
 pub fn fill_listed(n: usize, adjacency: &[u8], weights: &[u16], vertices: &[u8], table: &mut [u64])
     requires { ⌜ Complete n (now adjacency) (now weights) × Ascending n (now vertices) ⌝ }
     requires { ⌜ Square (length (now vertices)) (now table) ⌝ }
@@ -117,7 +117,7 @@ pub fn fill_listed(n: usize, adjacency: &[u8], weights: &[u16], vertices: &[u8],
     }
 }
 
-// The entry in row i and column j of the whole matrix.
+// Returns entry (i, j) of the whole matrix.
 fn whole_entry(n: usize, adjacency: &[u8], weights: &[u16], i: usize, j: usize) -> u16
     requires { ⌜ Complete n (now adjacency) (now weights) ⌝ }
     requires { ⌜ (i < n) × (j < n) ⌝ }
@@ -136,7 +136,7 @@ fn whole_entry(n: usize, adjacency: &[u8], weights: &[u16], i: usize, j: usize) 
     0
 }
 
-// Column c of the whole matrix, one word for each row. For proved callers.
+// Writes column c of the whole matrix to x, a word for each row.
 pub fn column(n: usize, adjacency: &[u8], weights: &[u16], c: usize, x: &mut [u16])
     requires { ⌜ Complete n (now adjacency) (now weights) × (c < n) × (length (now x) ≡ n) ⌝ }
     ensures { λ _.

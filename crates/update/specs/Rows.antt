@@ -15,7 +15,7 @@ use Rattle.modular.specs.Prime.{remainder}
 use Rattle.skew.specs.Inverse.{Vector}
 use Rattle.skew.specs.Update.{Update}
 
--- f times a and h times b, added to c and reduced modulo p
+-- c plus f times a and h times b, reduced modulo p
 abbrev pub combined : (p f a h b c : ℕ) → ℕ
 combined p f a h b c = (f * a + h * b + c) % p
 
@@ -30,7 +30,7 @@ pub record Updating (n : ℕ) (t x y u v : List ℕ) : Type 0 where
   pub u-size : length u ≡ n
   pub v-size : length v ≡ n
 
--- the first m rows are done, the others as they were
+-- the first m rows are done, and the others are as they were
 pub record UpdatedTo (p n m : ℕ) (x y u v t t' : List ℕ) : Type 0 where
   pub size : length t' ≡ length t
   pub done : (i j : ℕ) → i < m → j < n → table n t' i j ≡ combined p (vector y i) (vector u j) (vector x i) (vector v j) (table n t i j)

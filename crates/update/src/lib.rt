@@ -8,7 +8,7 @@ ghost use Rattle.lists.specs.Table.{vector, Square};
 ghost use Rattle.residue.specs.Modulus.{modulus};
 ghost use Rattle.update.specs.Rows.{combined, multiple, Updating, UpdatedTo, Updated};
 
-// f times a and h times b, added to c and reduced: the only product of this crate.
+// Adds f times a and h times b to c, and reduces the sum. Every product of this crate is formed here.
 fn combine(f: u16, a: u16, h: u16, b: u16, c: u16) -> u16
     ensures { λ r. ⌜ r ≡ combined modulus f a h b c ⌝ }
 {
@@ -16,7 +16,7 @@ fn combine(f: u16, a: u16, h: u16, b: u16, c: u16) -> u16
     Residue::make(sum).value
 }
 
-// The words of x times g, reduced.
+// Writes the words of x times g, reduced, to u.
 fn multiples(x: &[u16], g: u16, u: &mut [u16])
     requires { ⌜ length (now u) ≡ length (now x) ⌝ }
     ensures { λ _. ⌜ now (u .exit) ≡ list-of (length (now (u .entry))) (multiple modulus g (vector (now (x .entry)))) ⌝ }
@@ -53,7 +53,7 @@ fn combine_row(row: &mut [u16], u: &[u16], v: &[u16], f: u16, h: u16)
     }
 }
 
-// The same; a row to which nothing is added takes less time.
+// combine_row, with a shortcut if f and h are 0.
 fn update_row(row: &mut [u16], u: &[u16], v: &[u16], f: u16, h: u16)
     requires { ⌜ (length (now u) ≡ length (now row)) × (length (now v) ≡ length (now row)) ⌝ }
     ensures { λ _.
@@ -81,7 +81,7 @@ fn update_rows(t: &mut [u16], n: usize, x: &[u16], y: &[u16], u: &[u16], v: &[u1
     }
 }
 
-// The update, with room for the multiples of x and y.
+// Updates t; u and v are room for the multiples of x and y.
 fn update_over(t: &mut [u16], n: usize, x: &[u16], y: &[u16], g: u16, u: &mut [u16], v: &mut [u16])
     requires { ⌜ Updating n (now t) (now x) (now y) (now u) (now v) × (g < modulus) ⌝ }
     ensures { λ _. ⌜ Updated modulus n (now (x .entry)) (now (y .entry)) g (now (t .entry)) (now (t .exit)) ⌝ }
@@ -92,7 +92,7 @@ fn update_over(t: &mut [u16], n: usize, x: &[u16], y: &[u16], g: u16, u: &mut [u
     update_rows(t, n, x, y, u, v);
 }
 
-// T + g (y xᵀ - x yᵀ), every word reduced. For proved callers.
+// Adds g (y xᵀ - x yᵀ) to t, and reduces every word.
 pub fn update(t: &mut [u16], n: usize, x: &[u16], y: &[u16], g: u16)
     requires { ⌜ Square n (now t) × (length (now x) ≡ n) × (length (now y) ≡ n) × (g < modulus) ⌝ }
     ensures { λ _. ⌜ Updated modulus n (now (x .entry)) (now (y .entry)) g (now (t .entry)) (now (t .exit)) ⌝ }

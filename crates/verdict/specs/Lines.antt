@@ -35,7 +35,7 @@ pub data Verdict (g : Graph) : List ℕ → Type 0 where
       → Verdict g (pair-lines (pairs-after modulus-prime g everything [] (replicate m automatic) m) ++ line-full)
   none : {f : ℕ} {words : List ℕ} → length words ≡ g .n → Singular modulus g everything f words → Verdict g (witness-lines 0 words ++ line-none)
 
--- all lines of a graph with so many edges
+-- all lines of a graph with m edges
 pub record GraphLines (g : Graph) (m : ℕ) (text : List ℕ) : Type 0 where
   pub rest : List ℕ
   pub verdict : Verdict g rest
@@ -46,7 +46,7 @@ pub record Fresh (n : ℕ) (adjacency weights inverse sequence marks : List ℕ)
   pub known : Known n 0 adjacency weights inverse sequence marks
   pub nonsingular : Nonsingular modulus-prime (over n adjacency weights) everything []
 
--- for some weights
+-- the same for some weights
 abbrev pub FreshFor : (n : ℕ) (adjacency inverse sequence marks : List ℕ) → Type 0
 FreshFor n adjacency inverse sequence marks = (weights : List ℕ) × Fresh n adjacency weights inverse sequence marks
 
@@ -68,7 +68,7 @@ module _ {n : ℕ} {adjacency weights inverse sequence witness work : List ℕ} 
       → (length (take n witness′) ≡ n) × Singular modulus (over n adjacency weights) everything f (take n witness′)
   kernel (finds-singular f new ok l S) = rw (onto-front new witness n l) (l, S)
 
-  -- an accepted graph is not refused
+  -- an accepted graph is never refused
   pub not-refused : {r : Refusal} {left : Buffers} → opening-ruling modulus (over n adjacency weights) (length inverse) (length sequence) (length witness) (length work) ≡ accepted
       → Opens modulus (over n adjacency weights) everything (buffers inverse sequence witness work) (not-opened r) left → ⊥
   not-refused ok (refuses-opening r e) =
@@ -77,7 +77,7 @@ module _ {n : ℕ} {adjacency weights inverse sequence witness work : List ℕ} 
       omega arith
 
 -- the lines of a completed matching
-pub full-lines : {g : Graph} {made : ℕ} {sequence : List ℕ} → Nonsingular modulus-prime g everything [] → Completed g made sequence
+pub full-lines : {g : Graph} {made : ℕ} {sequence : List ℕ} → Nonsingular modulus-prime g everything [] → Completed g everything made sequence
     → Verdict g (pair-lines (pairs-on sequence made) ++ line-full)
 full-lines I C = rw (C .pairs-are) (full I (C .come))
 
@@ -86,7 +86,7 @@ pub record Acceptable (g : Graph) : Type 0 where
   pub in-order : InOrder modulus g
   pub long : GraphFits g
 
--- opening accepts it, over buffers for the largest graph
+-- opening accepts such a graph, over buffers for the largest graph
 pub accepts : {g : Graph} → Acceptable g → opening-ruling modulus g 9216 96 96 9216 ≡ accepted
 accepts {g} L =
     let small = L .in-order .size in

@@ -1,4 +1,4 @@
-// The lines of a graph in the listing: its size and edges, its pairs or its witness, and the verdict.
+// The lines of a graph in the listing: the numbers of its vertices and edges, its pairs or its witness, and the verdict.
 use opening::Opening;
 ghost use mathlib.Core.Path.{_≡_};
 ghost use mathlib.Core.List.{List};
@@ -10,7 +10,8 @@ ghost use Rattle.matching.specs.Graph.{over};
 ghost use Rattle.matching.specs.Causes.{opening-ruling};
 ghost use Rattle.verdict.specs.Lines.{Writes, Verdict, GraphLines, Fresh, FreshFor, Acceptable};
 
-// The lines of a session fresh from opening: its pairs, at most 48 lines of 13 bytes, and the verdict that all vertices are matched, 10 bytes.
+// Writes the lines of a session fresh from opening: its pairs, at most 48 lines of 13 bytes, and the verdict that all vertices are matched,
+// 10 bytes.
 fn full_lines(
     n: usize,
     adjacency: &[u8],
@@ -31,7 +32,7 @@ fn full_lines(
     text::full_line(text, next)
 }
 
-// The lines behind the first: these, or those of a witness, at most 96 of 17 bytes, with a verdict.
+// Writes the lines after the first: those of full_lines, or at most 96 lines of 17 bytes for a witness, and the verdict.
 fn verdict_lines(
     n: usize,
     adjacency: &[u8],
@@ -58,12 +59,12 @@ fn verdict_lines(
             let next = text::witness_lines(text, at, &witness[..n]);
             text::none_line(text, next)
         }
-        // Never: the graph is accepted.
+        // Never happens: the graph is accepted.
         Opening::Refused(_) => at,
     }
 }
 
-// All lines of a graph in order, with so many edges. For proved callers.
+// Writes all lines of a graph in order; edges is the number of its edges.
 pub fn graph_lines(
     n: usize,
     edges: usize,

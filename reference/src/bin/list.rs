@@ -19,7 +19,7 @@ fn main() -> ExitCode {
     }
 }
 
-/// Whether there is no argument, or the one word `list`.
+/// Tells whether there is no argument, or the one word `list`.
 fn arguments_are_known() -> bool {
     let arguments: Vec<_> = std::env::args_os().skip(1).collect();
     arguments.is_empty() || (arguments.len() == 1 && arguments[0] == "list")

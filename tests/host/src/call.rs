@@ -65,7 +65,7 @@ impl Call {
         ]
     }
 
-    /// buffers, to be changed.
+    /// Lists the buffers as buffers does, to be changed.
     pub fn buffers_mut(&mut self) -> [&mut Vec<u8>; 6] {
         [
             &mut self.adjacency,

@@ -58,7 +58,7 @@ fn shorten(random: &mut Random, call: &mut Call) {
     }
 }
 
-/// Chooses a size above 96, often one that is at most 96 but for a high bit.
+/// Chooses a size above 96, often one that is at most 96 except for a high bit.
 pub fn any_large_size(random: &mut Random) -> u64 {
     let n = random.below(97) as u64;
     random.choose(&[

@@ -209,7 +209,7 @@ pub fn undo(lent: Lent) -> u64 {
     }
 }
 
-/// Writes the row of a vertex: who may be matched with it.
+/// Writes the row of a vertex: which vertices may be matched with it.
 pub fn row(lent: Lent, a: u64, row: &mut [u8]) -> u64 {
     // SAFETY: as for opening.
     unsafe {

@@ -37,8 +37,8 @@ pub fn all() -> impl Iterator<Item = SessionCase> {
 }
 
 /// Makes every graph of four vertices, every list of its disjoint edges as a
-/// session, and every call with numbers up to four. The weights are 1, but for
-/// one in the second round.
+/// session, and every call with numbers up to four. The weights are 1, except
+/// for one in the second round.
 pub fn sessions_of_four() -> impl Iterator<Item = SessionCase> {
     (0..128).flat_map(|number| {
         let graph = graph_of_four(number);

@@ -5,16 +5,16 @@
 //! * the length of its name, at least 1, and the name;
 //! * the entry: 0 open, 1 pick, 2 automatic, 3 undo, 4 row, 5 replay, 6 read,
 //!   7 draw;
-//! * n, the pairs made, and two vertices, or a seed in place of the first, 0
-//!   where the entry has none;
+//! * n, the pairs made, and two vertices, or a seed in place of the first, 0 if
+//!   the entry has none;
 //! * the lengths in bytes of the ten buffers: adjacency, weights, inverse,
-//!   sequence, witness, work, row, calls, answers and sheet, 0 where the entry
-//!   has none;
+//!   sequence, witness, work, row, calls, answers and sheet, 0 if the entry has
+//!   none;
 //! * the bytes of the ten buffers before the call;
 //! * the number expected;
 //! * the bytes of the ten buffers expected after the call;
 //!
-//! and at the end 0, in the place of a name's length, and the number of cases.
+//! and at the end 0, in place of a name's length, and the number of cases.
 
 use crate::cases::Case;
 use crate::filling::{Filling, FillingCase, Source};

@@ -112,7 +112,7 @@ fn a_seed_gives_a_sheet_and_a_call_the_same_weights() {
     assert!(found > 1500, "{found}");
 }
 
-/// Whether the vertices of a set of bits have a perfect matching.
+/// Tells whether the vertices of a set of bits have a perfect matching.
 fn has_perfect_matching(graph: &Graph, left: usize) -> bool {
     let first = left.trailing_zeros() as usize;
     let rest = left & left.wrapping_sub(1);
@@ -123,7 +123,7 @@ fn has_perfect_matching(graph: &Graph, left: usize) -> bool {
             .any(|j| has_perfect_matching(graph, rest & !(1 << j)))
 }
 
-/// Whether a graph opens with these weights.
+/// Tells whether a graph opens with these weights.
 fn opens(random: &mut Random, graph: &Graph, weights: &[u8]) -> bool {
     let mut call = Call::new(random, graph, 0);
     let written = Written {

@@ -64,7 +64,7 @@ fn set_vertex(random: &mut Random, sheet: &Sheet, bytes: &mut [u8]) {
     set(bytes, this, value);
 }
 
-/// Repeats an edge record, in either order, somewhere behind it.
+/// Repeats an edge record, in either order, somewhere after it.
 fn repeat_edge(random: &mut Random, sheet: &Sheet, bytes: &mut Vec<u8>) {
     let Some(offset) = edge_offset(random, sheet) else {
         return;

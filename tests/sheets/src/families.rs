@@ -104,8 +104,8 @@ pub fn seeds() -> impl Iterator<Item = Case> {
     })
 }
 
-/// Makes every byte in place of a record-kind: before each record of a good sheet
-/// and behind its end, with what follows there and without it.
+/// Makes every byte in place of a record-kind: before each record of a good
+/// sheet and after its end, with what follows there and without it.
 pub fn every_kind() -> impl Iterator<Item = Case> {
     let sheet = Sheet::listed();
     sheet.offsets().into_iter().flat_map(move |offset| {
@@ -149,7 +149,7 @@ pub fn every_prefix() -> impl Iterator<Item = Case> {
 }
 
 /// Makes an edge record of every two of a few vertices: as the first one, and
-/// behind two others.
+/// after two others.
 pub fn every_edge() -> impl Iterator<Item = Case> {
     let sizes: [(u8, &[u8]); 4] = [
         (0, &[0, 1, 255]),
@@ -189,7 +189,7 @@ pub fn damaged_sheets(count: usize) -> impl Iterator<Item = Case> {
     })
 }
 
-/// Makes any bytes, or small ones, or small ones behind a good beginning.
+/// Makes any bytes, or small ones, or small ones after a good beginning.
 pub fn random_bytes(count: usize) -> impl Iterator<Item = Case> {
     let mut random = Random::new(9);
     (0..count).map(move |round| {

@@ -137,7 +137,7 @@ fn many_pieces() {
     }
 }
 
-/// From a file no more is read than the limit.
+/// From a file, the program reads no more than the limit.
 #[test]
 fn files() {
     let program = Program::named();

@@ -1,4 +1,4 @@
--- `border::border` meets its contract: T v, with the word at a stored over. Assumes nothing.
+-- `border::border` meets its contract: T v, with the word at a overwritten. Assumes nothing.
 use lib.Dec.{lit<}
 use Rattle.border.specs.Column.{bordered}
 use borrow.Author.Needs.{needs}

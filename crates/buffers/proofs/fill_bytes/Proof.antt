@@ -1,4 +1,4 @@
--- `buffers::fill_bytes` meets its contract. Its loop writes one byte after the other. Assumes nothing.
+-- `buffers::fill_bytes` meets its contract. Its loop writes one byte after another. Assumes nothing.
 use mathlib.Core.Path.{_≡_, refl, _∙_}
 use Prim.Native.Nat.{_-_, _≤_}
 use native.Mathlib.Omega.{arith}

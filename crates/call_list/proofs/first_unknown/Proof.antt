@@ -1,5 +1,5 @@
--- `call_list::first_unknown` meets its contract. The invariant of its loop: the calls before i are of a kind. The measure is what is left of the
--- count. Assumes nothing.
+-- `call_list::first_unknown` meets its contract. The invariant of its loop: the calls before i are of a known kind. The measure is what is
+-- left of the count. Assumes nothing.
 use Prim.Native.Nat.{_-_, _≤_}
 use native.Mathlib.Omega.{arith}
 use borrow.Author.Count.{below-none, below-more}

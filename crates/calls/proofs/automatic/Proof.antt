@@ -1,4 +1,4 @@
--- `calls::automatic` meets its contract: the lowest vertex left, its lowest partner, or none. Assumes nothing.
+-- `calls::automatic` meets its contract: the lowest unmatched vertex with its lowest partner, or none. Assumes nothing.
 use Rattle.calls.specs.Known.{few, tables, standing, append-room, appends, appends-left, automatic-denied, automatic-partner, automatic-allowed, automatic-step}
 use native.Mathlib.Omega.{arith}
 use borrow.Author.Needs.{needs}

@@ -1,4 +1,4 @@
--- `calls::undo` meets its contract: no pair, no inverse for the vertices then left, or the newest pair removed. Assumes nothing.
+-- `calls::undo` meets its contract: no pair, no inverse for the vertices then unmatched, or the newest pair removed. Assumes nothing.
 use Prim.Native.Nat.{_+_, _-_}
 use native.Mathlib.Omega.{arith}
 use Rattle.sequence.specs.Formed.{not-true, not-false}

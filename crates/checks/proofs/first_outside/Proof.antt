@@ -1,4 +1,4 @@
--- `checks::first_outside` meets its contract: where none is found no search is needed. Assumes nothing.
+-- `checks::first_outside` meets its contract: if no weight is outside, no search is needed. Assumes nothing.
 use mathlib.Core.Path.{sym, subst}
 use Prim.Native.Nat.{ℕ, _≤_, _<_}
 use native.Mathlib.Omega.{arith}

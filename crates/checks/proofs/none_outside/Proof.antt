@@ -1,5 +1,5 @@
--- `checks::none_outside` meets its contract. The invariant of its loop: the weights before i that are out of range are counted, at most. The
--- measure is what is left. Assumes nothing.
+-- `checks::none_outside` meets its contract. The invariant of its loop: at most i is counted, and if nothing is, the weights before i are
+-- in range. The measure is what is left. Assumes nothing.
 use mathlib.Core.Path.{_≡_, sym}
 use mathlib.Core.Bool.{true≢false}
 use Prim.Native.Nat.{_-_, _≤_, _<_}

@@ -1,4 +1,4 @@
--- `compact::is_inverse` meets its contract: the vertices are listed in a part of an array, and the part of those listed is lent.
+-- `compact::is_inverse` meets its contract: the vertices are listed in a part of an array, and the listed part is lent.
 -- Assumes nothing.
 use mathlib.Core.Path.{_≡_, sym, _∙_}
 use native.Mathlib.Omega.{arith}
@@ -12,7 +12,7 @@ use Rattle.compact.proofs.is_inverse.Tie as tie
 array-borrow-prefix-vertices : tie.Need-array-borrow-prefix-vertices
 array-borrow-prefix-vertices c = search needs
 
--- the list that came back is as long as there are vertices
+-- the list that came back has a byte for each vertex
 full : (at : tie.After-list) → length (at .list .last .1 .0) ≡ length (at .before .before .before .before .before .before .args .marks .now)
 full at = let s = at .before .before .before .before .before .before in at .list .kept .1 .0 ∙ length-part (s .args .n) 96 0 (s .pre .0 .size) ∙ sym (s .pre .1)
 

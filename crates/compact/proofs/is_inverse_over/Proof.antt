@@ -1,4 +1,4 @@
--- `compact::is_inverse_over` meets its contract: the filled table holds the Tutte matrix at the vertices listed, and what exchange leaves of it
+-- `compact::is_inverse_over` meets its contract: the filled table holds the Tutte matrix at the listed vertices. What exchange leaves of it
 -- is the inverse, with which the buffer is compared, or shows that there is none. Assumes nothing.
 use mathlib.Core.Path.{_≡_, sym, subst, _∙_}
 use Prim.Native.Nat.{ℕ, _<_}

@@ -1,5 +1,5 @@
--- `compact::row_clear` meets its contract. The invariant of its loop: the words before b that should be 0 and are not are counted. The
--- measure is what is left. Assumes nothing.
+-- `compact::row_clear` meets its contract. The invariant of its loop: the stray words before b are counted. The measure is what is left.
+-- Assumes nothing.
 use mathlib.Core.Path.{_≡_}
 use Prim.Native.Nat.{_-_, _≤_}
 use native.Mathlib.Omega.{arith}

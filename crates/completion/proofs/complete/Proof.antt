@@ -1,5 +1,5 @@
--- `completion::complete` meets its contract. The invariant of its loop: so many automatic picks were accepted, and the session is known to be
--- sound. The measure is the number of vertices left. Assumes nothing.
+-- `completion::complete` meets its contract. The invariant of its loop: `made` automatic picks were accepted, and the session is known to
+-- be sound. The measure is the number of unmatched vertices. Assumes nothing.
 use mathlib.Core.Path.{_≡_, refl, ap, _∙_}
 use mathlib.Core.List.{List}
 use Prim.Native.Nat.{ℕ, _+_, _-_}
@@ -8,6 +8,7 @@ use borrow.Author.Needs.{needs}
 use lib.ListN.{length}
 use Rattle.matching.specs.Graph.{over}
 use Rattle.matching.specs.Pairs.{pairs-on}
+use Rattle.matching.specs.Session.{state, in-play}
 use Rattle.calls.specs.Meaning.{answer-of}
 use Rattle.calls.specs.Known.{Known, called-known, few}
 use Rattle.completion.specs.Completed.{Picked, picked-none, picked-more, completes}
@@ -20,14 +21,14 @@ Inv-loop n adjacency inverse₀ sequence₀ marks₀ made₀ inverse sequence ma
     × (length sequence ≡ length sequence₀)
     × (length marks ≡ length marks₀)
     × ((weights : List ℕ) → Known n 0 adjacency weights inverse₀ sequence₀ marks₀
-    → Known n made adjacency weights inverse sequence marks × Picked (over n adjacency weights) made (pairs-on sequence made))
+    → Known n made adjacency weights inverse sequence marks × Picked (over n adjacency weights) (in-play (state n made adjacency weights inverse sequence)) made (pairs-on sequence made))
 
 abbrev μ-loop : tie.MeasureT-loop
 μ-loop n adjacency inverse₀ sequence₀ marks₀ made₀ inverse sequence marks made = n - (made + made)
 
 loop-holds : tie.Need-loop-holds Inv-loop μ-loop
 unfolding pairs-on
-loop-holds c = (refl, refl, refl, λ weights K. (K, picked-none _))
+loop-holds c = (refl, refl, refl, λ weights K. (K, picked-none _ _))
 
 automatic-requires : tie.Need-automatic-requires Inv-loop μ-loop
 automatic-requires c κs =

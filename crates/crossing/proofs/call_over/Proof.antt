@@ -1,4 +1,4 @@
--- `crossing::call_over` meets its contract: the parts of an answer fit their bits, and the words left are stored where a pair is answered.
+-- `crossing::call_over` meets its contract: the parts of an answer fit their bits, and the words left are stored if the answer is a pair.
 -- Assumes nothing.
 use mathlib.Core.Path.{refl, ap}
 use Rattle.calls.specs.Meaning.{answer-of, handles-fit}

@@ -1,4 +1,4 @@
--- `crossing::pick` meets its contract: what is handled is accepted exactly where it is allowed. Assumes nothing.
+-- `crossing::pick` meets its contract: a pick is accepted exactly when it is allowed. Assumes nothing.
 use Rattle.laws.specs.Numbers.{host-picked-exactly}
 use borrow.Author.Needs.{needs}
 use Rattle.crossing.proofs.pick.Statement.{statement}

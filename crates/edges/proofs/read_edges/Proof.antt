@@ -1,4 +1,5 @@
--- `edges::read_edges` meets its contract: the table has the edges so far, and what is read behind them is what is read. Assumes nothing.
+-- `edges::read_edges` meets its contract: the table has the edges so far, and how the bytes after them are read is how all are read.
+-- Assumes nothing.
 use mathlib.Core.Path.{sym, _∙_}
 use mathlib.Core.List.{List}
 use Prim.Native.Nat.{ℕ, _-_, _≤_}

@@ -25,7 +25,7 @@ abbrev μ-loop : tie.MeasureT-loop
 abbrev start : tie.At-loop Inv-loop μ-loop → tie.Start Inv-loop μ-loop
 start at = at .before .before .before
 
--- the lengths at the head of a turn are those at the start
+-- the lengths before a turn are those at the start
 table-size : (at : tie.At-loop Inv-loop μ-loop) → length (at .loop .t) ≡ length (start at .args .t .now)
 table-size at = at .loop .inv .0 .table-square .size ∙ sym (start at .pre .0 .size)
 

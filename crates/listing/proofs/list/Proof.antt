@@ -1,4 +1,4 @@
--- `listing::list` meets its contract: the lines of the first bytes, as many as are read, from the start of the buffer. Assumes nothing.
+-- `listing::list` meets its contract: the lines of the first `input-limit` bytes, from the start of the buffer. Assumes nothing.
 use mathlib.Core.Path.{sym}
 use native.Mathlib.Omega.{arith}
 use borrow.Author.Needs.{needs}

@@ -1,4 +1,4 @@
--- `opening::begin` meets its contract: a refusal writes nothing, and what is left of an accepted graph is known beside the work buffer.
+-- `opening::begin` meets its contract: a refusal writes nothing, and all that an accepted graph leaves is known, the work buffer included.
 -- Assumes nothing.
 use mathlib.Core.Path.{_≡_, refl, sym, ap, _∙_}
 use mathlib.Core.List.{List}
@@ -31,7 +31,7 @@ fits : (at : tie.After-enum-told)
     → (let a = start (at .before .before) .args in OpeningReady (a .n) (a .adjacency .now) (a .weights .now) (a .inverse .now) (a .sequence .now) (a .witness .now) × (a .n * a .n ≤ length (a .work .now)))
 fits at = ready _ _ _ _ _ _ _ (accepts at)
 
--- what is left where one is found and the other cleared
+-- what is left when the inverse or the witness is found and the other cleared
 whole : (at : tie.After-begin-accepted) {o : Outcome} {inverse witness : List ℕ} → at .begin-accepted .result ≡ o
     → (let a = start (at .before .before .before .before .before .before .before .before .before .before) .args in
     let b = buffers (a .inverse .now) (a .sequence .now) (a .witness .now) (a .work .now) in

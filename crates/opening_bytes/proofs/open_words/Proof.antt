@@ -1,4 +1,4 @@
--- `opening_bytes::open_words` meets its contract: of each array it lends as many words as the graph needs.
+-- `opening_bytes::open_words` meets its contract: it lends, of each array, the words that the graph needs.
 -- Assumes nothing.
 use mathlib.Core.Path.{sym, _∙_}
 use Prim.Native.Nat.{ℕ, _*_, _≤_}

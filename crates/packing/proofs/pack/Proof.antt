@@ -1,4 +1,4 @@
--- `packing::pack` meets its contract. Its loop writes the two bytes of one word after the other. Assumes nothing.
+-- `packing::pack` meets its contract. Its loop writes two bytes for one word after another. Assumes nothing.
 use mathlib.Core.Path.{_≡_, sym, _∙_}
 use Prim.Native.Nat.{_+_, _*_, _/_, _%_, _-_, _≤_}
 use native.Mathlib.Omega.{arith}

@@ -1,4 +1,4 @@
--- `packing::unpack` meets its contract. Its loop writes one word after the other. Assumes nothing.
+-- `packing::unpack` meets its contract. Its loop writes one word after another. Assumes nothing.
 use mathlib.Core.Path.{sym, _∙_}
 use Prim.Native.Nat.{_-_}
 use native.Mathlib.Omega.{arith}

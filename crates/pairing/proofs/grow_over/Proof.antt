@@ -11,7 +11,7 @@ use borrow.Author.Needs.{needs}
 use Rattle.pairing.proofs.grow_over.Statement.{statement}
 use Rattle.pairing.proofs.grow_over.Tie as tie
 
--- the place where both columns and both borders are known
+-- where both columns and both borders are known
 abbrev start : tie.After-border2 → tie.Start
 start at = at .before .before .before .before .before .before .before .before .before .before .before .before .before .before .before .before .before .before .before .before .before .before .before .before
 

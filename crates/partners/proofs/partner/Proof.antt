@@ -1,5 +1,5 @@
--- `partners::partner` meets its contract. The invariant of its loop: the vertices before r are no partners of c. The measure is what is left
--- of the vertices. Assumes nothing.
+-- `partners::partner` meets its contract. The invariant of its loop: no vertex before r is a partner of c. The measure is what is left of
+-- the vertices. Assumes nothing.
 use mathlib.Core.Path.{_≡_, sym}
 use mathlib.Core.List.{List}
 use Prim.Native.Nat.{ℕ, _-_, _≤_}

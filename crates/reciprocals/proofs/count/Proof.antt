@@ -1,4 +1,5 @@
--- `reciprocals::count` is safe and ends. The invariant of its loop: n is at most the modulus, and fewer than n words are counted. The measure is what is left of the words.
+-- `reciprocals::count` is safe and ends. The invariant of its loop: n is at most the modulus, and fewer than n words are counted. The
+-- measure is the number of words still to come.
 -- Assumes nothing.
 use mathlib.Core.Logic.{⊎-elim}
 use Prim.Native.Nat.{_-_, _≤_, _<_}

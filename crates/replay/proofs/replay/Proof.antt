@@ -1,4 +1,4 @@
--- `replay::replay` meets its contract: the session is refused, the list is, or the calls are made. Assumes nothing.
+-- `replay::replay` meets its contract: the session is refused, or the list is refused, or the calls are made. Assumes nothing.
 use mathlib.Core.Path.{sym}
 use native.Mathlib.Omega.{arith}
 use lib.Seq.{length-take-le}

@@ -1,4 +1,4 @@
--- `replay::run` meets its contract. The invariant of its loop: the calls before i have led to the session at hand, which is known to be
+-- `replay::run` meets its contract. The invariant of its loop: the calls before i have led to the current session, which is known to be
 -- sound. The measure is what is left of the answers. Assumes nothing.
 use mathlib.Core.Path.{_≡_, refl, _∙_}
 use Prim.Native.Nat.{_-_, _≤_}

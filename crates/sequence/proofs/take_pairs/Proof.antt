@@ -1,5 +1,5 @@
 -- `sequence::take_pairs` meets its contract. The invariant of its loop: the first k pairs are in order, and the marks are those that they
--- leave. The measure is the number of pairs left. Assumes nothing.
+-- leave. The measure is the number of pairs still to take. Assumes nothing.
 use mathlib.Core.Bool.{true≢false}
 use mathlib.Core.Path.{_≡_, _∙_, sym}
 use Prim.Native.Nat.{_+_, _-_, _≤_}

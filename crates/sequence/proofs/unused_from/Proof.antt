@@ -11,7 +11,7 @@ use Rattle.sequence.specs.Formed.{tells-true, tells-false, UnusedFrom}
 use Rattle.sequence.proofs.unused_from.Statement.{statement}
 use Rattle.sequence.proofs.unused_from.Tie as tie
 
--- one byte more
+-- one more byte
 grown : (s : List ℕ) (start i : ℕ) → UnusedFrom s start i → getD s i 0 ≡ unused → UnusedFrom s start (i + 1)
 grown s start i h e x l m = go (ℕ-discrete x i)
   where

@@ -1,4 +1,4 @@
--- `sheet_bytes::read` meets its contract: the first bytes, as many as are read. Assumes nothing.
+-- `sheet_bytes::read` meets its contract: the first `input-limit` bytes. Assumes nothing.
 use mathlib.Core.Path.{refl, sym}
 use native.Mathlib.Omega.{arith}
 use borrow.Author.Needs.{needs}

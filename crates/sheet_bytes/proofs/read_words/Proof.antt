@@ -1,4 +1,5 @@
--- `sheet_bytes::read_words` meets its contract: it lends as many words as the weights have, or as the largest graph needs. Assumes nothing.
+-- `sheet_bytes::read_words` meets its contract: it lends the words of the weights, but at most those that the largest graph needs.
+-- Assumes nothing.
 use mathlib.Core.Path.{sym}
 use Prim.Native.Nat.{ℕ, _/_}
 use native.Mathlib.Omega.{arith}

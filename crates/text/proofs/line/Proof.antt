@@ -1,4 +1,4 @@
--- `text::line` meets its contract: its parts are written one behind the other. Assumes nothing.
+-- `text::line` meets its contract: its parts are written one after another. Assumes nothing.
 use mathlib.Core.Path.{_≡_}
 use Prim.Native.Nat.{_+_}
 use native.Mathlib.Omega.{arith}
@@ -10,7 +10,7 @@ use Rattle.text.specs.Lines.{line-of, line-length}
 use Rattle.text.proofs.line.Statement.{statement}
 use Rattle.text.proofs.line.Tie as tie
 
--- how long the line is, by its parts
+-- the length of the line, by its parts
 long : (s : tie.Start)
     → length (line-of (s .args .first .now) (s .args .x) (s .args .second .now) (s .args .y))
     ≡ length (s .args .first .now) + length (decimal (s .args .x)) + length (s .args .second .now) + length (decimal (s .args .y)) + 1

@@ -1,4 +1,4 @@
--- `text::put` meets its contract. Its loop writes one byte after the other. Assumes nothing.
+-- `text::put` meets its contract. Its loop writes one byte after another. Assumes nothing.
 use Prim.Native.Nat.{_+_, _-_, _≤_}
 use native.Mathlib.Nat.{add-zero}
 use native.Mathlib.Omega.{arith}

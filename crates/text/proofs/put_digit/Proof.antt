@@ -5,27 +5,27 @@ use Rattle.text.specs.Puts.{puts-byte}
 use Rattle.text.proofs.put_digit.Statement.{statement}
 use Rattle.text.proofs.put_digit.Tie as tie
 
--- src/lib.rt:27:21
+-- the digit fits a byte
 cast-text : tie.Need-cast-text
 cast-text c = search needs
 
--- src/lib.rt:27:16
+-- 48 and the digit fit a byte
 add-text : tie.Need-add-text
 add-text c = search needs
 
--- src/lib.rt:27:5
+-- the position is within the buffer
 slice-write-text : tie.Need-slice-write-text
 slice-write-text c = search needs
 
--- src/lib.rt:28:5
+-- the position after the digit fits
 add-result : tie.Need-add-result
 add-result c = search needs
 
--- src/lib.rt:23:1
+-- the buffer keeps its length
 same-length : tie.Need-same-length
 same-length c = search needs
 
--- src/lib.rt:23:1
+-- what it ensures
 returns : tie.Need-returns
 returns c = puts-byte _ _ _ (omega arith)
 

@@ -1,4 +1,4 @@
--- `update::update_over` meets its contract: the multiples of x and y make the rows the update. Assumes nothing.
+-- `update::update_over` meets its contract: with the multiples of x and y, the rows are those of the update. Assumes nothing.
 use Rattle.update.specs.Rows.{updated}
 use borrow.Author.Needs.{needs}
 use Rattle.update.proofs.update_over.Statement.{statement}

@@ -1,4 +1,4 @@
--- `update::update_row` meets its contract: where both factors are 0 the row is only reduced. Assumes nothing.
+-- `update::update_row` meets its contract: if both factors are 0, the row is only reduced. Assumes nothing.
 use mathlib.Core.Path.{_≡_, _∙_, ap}
 use Prim.Native.Nat.{ℕ, _%_}
 use native.Mathlib.Omega.{arith}

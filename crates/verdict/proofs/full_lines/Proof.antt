@@ -1,4 +1,4 @@
--- `verdict::full_lines` meets its contract: the pairs of a completed matching, and the verdict behind them. Assumes nothing.
+-- `verdict::full_lines` meets its contract: the pairs of a completed matching, and the verdict after them. Assumes nothing.
 use native.Mathlib.Omega.{arith}
 use borrow.Author.Needs.{needs}
 use Rattle.calls.specs.Known.{tables, sequence-fits}

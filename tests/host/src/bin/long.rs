@@ -44,7 +44,7 @@ impl Drop for StopOnPanic<'_> {
     }
 }
 
-/// Takes one seed after the other until count calls were made in all.
+/// Takes one seed after another until count calls were made in all.
 fn run(seeds: &AtomicU64, calls: &AtomicUsize, count: usize) -> SessionTally {
     let _stop = StopOnPanic(calls);
     let mut tally = SessionTally::default();
