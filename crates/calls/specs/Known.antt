@@ -56,6 +56,13 @@ CalledFor c n made adjacency inverse sequence marks r inverse′ sequence′ mar
     (weights : List ℕ) → Known n made adjacency weights inverse sequence marks
     → Called c n made adjacency weights inverse sequence r inverse′ sequence′ marks′
 
+-- a reply that denies a call which the definition denies
+pub called-denied : {c : Call} {n made cause : ℕ} {adjacency weights inverse sequence inverse′ sequence′ marks′ : List ℕ} {r : Reply}
+    → (r .made ≡ made) × (answer-of (r .answer) ≡ denied (because cause 0))
+    → Handles modulus-prime (state n made adjacency weights inverse sequence) c (denied (because cause 0)) (state n made adjacency weights inverse′ sequence′)
+    → Left n sequence′ made marks′ → Called c n made adjacency weights inverse sequence r inverse′ sequence′ marks′
+called-denied e h l = record { handled = rw (e .0, e .1) h; left = rw (e .0) l }
+
 -- states with the same parts
 pub same-state : (n : ℕ) (adjacency weights : List ℕ) {m m′ : ℕ} {i i′ q q′ : List ℕ} → m ≡ m′ → i ≡ i′ → q ≡ q′
     → state n m adjacency weights i q ≡ state n m′ adjacency weights i′ q′

@@ -6,7 +6,8 @@ use refusals::Refusal;
 use refusals::Ruling;
 ghost use mathlib.Core.Path.{_≡_};
 ghost use Prim.Native.Nat.{ℕ};
-ghost use Rattle.matching.specs.Model.{pick, automatic, undo};
+ghost use Rattle.matching.specs.Decision.{because};
+ghost use Rattle.matching.specs.Model.{pick, automatic, undo, denied};
 ghost use Rattle.matching.specs.Host.{answer-number};
 ghost use Rattle.calls.specs.Meaning.{call-is, answer-of, AnswerFits};
 ghost use Rattle.calls.specs.Known.{Known, Called, KnownFor, CalledFor};
@@ -41,6 +42,17 @@ pub fn number(answer: Answer, made: usize) -> u64
             numbers::carried(3, value, made as u64)
         }
         Answer::Denied(r) => numbers::refused(r),
+    }
+}
+
+// Refuses a call for a cause, and leaves the pairs made as they are.
+fn deny(cause: u8, made: usize) -> Reply
+    ensures { λ r. ⌜ (r .made ≡ made) × (answer-of (r .answer) ≡ denied (because cause 0)) ⌝ }
+{
+    let refusal = refusals::because(cause, 0);
+    Reply {
+        made,
+        answer: Answer::Denied(refusal),
     }
 }
 
@@ -100,15 +112,10 @@ pub fn automatic(
                 answer: Answer::Done(e),
             };
         }
+        // Not reached: if the vertices left have an inverse, the lowest has a partner.
+        return deny(11, made);
     }
-    let refusal = Refusal {
-        cause: 11,
-        place: 0,
-    };
-    Reply {
-        made,
-        answer: Answer::Denied(refusal),
-    }
+    deny(11, made)
 }
 
 // Removes the newest pair.
@@ -127,14 +134,7 @@ pub fn undo(
         (now (inverse .exit)) (now (sequence .exit)) (now (marks .exit)) ⌝ }
 {
     if made == 0 {
-        let refusal = Refusal {
-            cause: 11,
-            place: 0,
-        };
-        return Reply {
-            made,
-            answer: Answer::Denied(refusal),
-        };
+        return deny(11, made);
     }
     let less = made - 1;
     let at = less + less;
@@ -142,14 +142,7 @@ pub fn undo(
     let b = sequence[at + 1] as usize;
     let removed = pairing::remove(n, less, adjacency, weights, inverse, sequence, marks, a, b);
     if !removed {
-        let refusal = Refusal {
-            cause: 10,
-            place: 0,
-        };
-        return Reply {
-            made,
-            answer: Answer::Denied(refusal),
-        };
+        return deny(10, made);
     }
     let e = Pair {
         smaller: a,

@@ -32,5 +32,6 @@ pub fn because(cause: u8, place: usize) -> Refusal
 pub fn refuse(cause: u8, place: usize) -> Ruling
     ensures { λ r. ⌜ ruling-of r ≡ refused (because cause place) ⌝ }
 {
-    Ruling::Refused(Refusal { cause, place })
+    let refusal = because(cause, place);
+    Ruling::Refused(refusal)
 }

@@ -1,5 +1,5 @@
 -- `calls::automatic` meets its contract: the lowest unmatched vertex with its lowest partner, or none. Assumes nothing.
-use Rattle.calls.specs.Known.{few, tables, standing, append-room, appends, appends-left, automatic-denied, automatic-partner, automatic-allowed, automatic-step}
+use Rattle.calls.specs.Known.{called-denied, few, tables, standing, append-room, appends, appends-left, automatic-denied, automatic-partner, automatic-allowed, automatic-step}
 use native.Mathlib.Omega.{arith}
 use borrow.Author.Needs.{needs}
 use Rattle.calls.proofs.automatic.Statement.{statement}
@@ -52,8 +52,8 @@ returns c = λ weights K.
 enum-told : tie.Need-enum-told
 enum-told c = search needs
 
-enum-told-2 : tie.Need-enum-told-2
-enum-told-2 c = search needs
+deny-requires : tie.Need-deny-requires
+deny-requires c κs = search needs
 
 same-length-4 : tie.Need-same-length-4
 same-length-4 c = search needs
@@ -63,17 +63,26 @@ same-length-5 c = search needs
 
 returns-2 : tie.Need-returns-2
 returns-2 c = λ weights K.
-    let partner = c .before .before in
+    let told = c .before in
+    let partner = told .before .before in
     let found = partner .before .before .before .before in
     let C = rw (found .lowest2 .given .1) at (found .before .before .lowest .ensures) in
-    absurd (automatic-partner K C (rw (c .enum-told .given .1) at (partner .partner .ensures weights _ _ (standing K))))
+    absurd (automatic-partner K C (rw (told .enum-told .given .1) at (partner .partner .ensures weights _ _ (standing K))))
+
+enum-told-2 : tie.Need-enum-told-2
+enum-told-2 c = search needs
+
+deny-requires-2 : tie.Need-deny-requires-2
+deny-requires-2 c κs = search needs
 
 same-length-6 : tie.Need-same-length-6
 same-length-6 c = search needs
 
 returns-3 : tie.Need-returns-3
 returns-3 c = λ weights K.
-    record { handled = automatic-denied K (rw (c .enum-told2 .given .1) at (c .before .before .lowest .ensures)); left = K .left }
+    let told = c .before in
+    let none = automatic-denied K (rw (told .enum-told2 .given .1) at (told .before .before .lowest .ensures)) in
+    called-denied (c .deny2 .ensures) none (K .left)
 
 pub automatic-spec : {M : Type 1} → statement M
 automatic-spec =
@@ -90,9 +99,11 @@ automatic-spec =
     same-length-3
     returns
     enum-told
-    enum-told-2
+    deny-requires
     same-length-4
     same-length-5
     returns-2
+    enum-told-2
+    deny-requires-2
     same-length-6
     returns-3)

@@ -2,14 +2,20 @@
 use Prim.Native.Nat.{_+_, _-_}
 use native.Mathlib.Omega.{arith}
 use Rattle.sequence.specs.Formed.{not-true, not-false}
-use Rattle.calls.specs.Known.{few, tables, complete, sequence-fits}
+use Rattle.calls.specs.Known.{called-denied, few, tables, complete, sequence-fits}
 use Rattle.calls.specs.Undone.{undo-none, undo-room, denies-undo, does-undo}
 use borrow.Author.Needs.{needs}
 use Rattle.calls.proofs.undo.Statement.{statement}
 use Rattle.calls.proofs.undo.Tie as tie
 
+deny-requires : tie.Need-deny-requires
+deny-requires c κs = search needs
+
 returns : tie.Need-returns
-returns c = let K = c .before .before .before .before .before .before .pre in record { handled = undo-none K (c .if1 .taken); left = K .left }
+returns c =
+    let if1 = c .before in
+    let K = if1 .before .before .before .before .before .before .pre in
+    called-denied (c .deny .ensures) (undo-none K (if1 .if1 .taken)) (K .left)
 
 sub-less : tie.Need-sub-less
 sub-less c = search needs
@@ -35,6 +41,9 @@ cast-b c = let made = c .before .before .before .before .before .before .before 
 remove-requires : tie.Need-remove-requires
 remove-requires c κs = let K = c .before .before .before .before .before .before .before .before .before .before .before .pre in (complete K, undo-room K (c .before .before .before .before .before .if1 .left))
 
+deny-requires-2 : tie.Need-deny-requires-2
+deny-requires-2 c κs = search needs
+
 same-length : tie.Need-same-length
 same-length c = search needs
 
@@ -46,10 +55,11 @@ same-length-3 c = search needs
 
 returns-2 : tie.Need-returns-2
 returns-2 c =
-    let removed = c .before .before .before .before .before .before .before in
-    let K = c .before .before .before .before .before .before .before .before .before .before .before .before .before .before .before .before .before .before .before .pre in
-    let h = denies-undo K (c .before .before .before .before .before .before .before .before .before .before .before .before .before .if1 .left) (removed .remove .ensures) (not-true _ (c .if2 .taken)) in
-    record { handled = h .0; left = h .1 }
+    let if2 = c .before in
+    let removed = if2 .before .before .before .before .before .before .before in
+    let K = if2 .before .before .before .before .before .before .before .before .before .before .before .before .before .before .before .before .before .before .before .pre in
+    let h = denies-undo K (if2 .before .before .before .before .before .before .before .before .before .before .before .before .before .if1 .left) (removed .remove .ensures) (not-true _ (if2 .if2 .taken)) in
+    called-denied (c .deny2 .ensures) (h .0) (h .1)
 
 same-length-4 : tie.Need-same-length-4
 same-length-4 c = search needs
@@ -71,6 +81,7 @@ pub undo-spec : {M : Type 1} → statement M
 undo-spec =
     tie.close
     (tie.spec
+    deny-requires
     returns
     sub-less
     add-at
@@ -80,6 +91,7 @@ undo-spec =
     slice-read-b
     cast-b
     remove-requires
+    deny-requires-2
     same-length
     same-length-2
     same-length-3
