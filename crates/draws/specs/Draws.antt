@@ -11,12 +11,11 @@ abbrev pub draw : ℕ → ℕ
 draw s = 1 + (s / 65536) % 65520
 
 -- the state after k steps from the seed, which is the state before the first step
-unfoldable pub stateAfter : ℕ → ℕ → ℕ
-stateAfter seed zero = seed
-stateAfter seed (suc k) = next (stateAfter seed k)
+unfoldable pub roll-after : ℕ → ℕ → ℕ
+roll-after seed zero = seed
+roll-after seed (suc k) = next (roll-after seed k)
 
--- the first k draws from the seed, in order, if draw-of gives the draw of a state; the first is the draw of the state after the seed, not of
--- the seed
+-- the first k draws from the seed, where draw-of is the draw of a state; the first is that of the state after the seed
 unfoldable pub draws : (draw-of : ℕ → ℕ) (seed k : ℕ) → List ℕ
 draws draw-of seed zero = []
 draws draw-of seed (suc k) = draw-of (next seed) ∷ draws draw-of (next seed) k

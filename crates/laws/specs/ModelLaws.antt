@@ -1,5 +1,5 @@
--- What holds of the plain model: after any list of calls the unmatched vertices have an inverse, half as many picks are to come, each
--- unmatched vertex has an open partner, and an undo gives back the pairs from before its pick. Assumes nothing.
+-- What holds of the plain model: after any list of calls the unmatched vertices have an inverse, half as many picks are to come, and
+-- each unmatched vertex has an open partner. Assumes nothing.
 use mathlib.Core.Path.{_≡_, refl, sym, ap}
 use mathlib.Core.Logic.{_≢_, _↔_}
 use mathlib.Core.List.{List, [], _∷_}

@@ -12,7 +12,7 @@ use Rattle.skew.specs.Matching.{invertible-even}
 use Rattle.matching.specs.Decision.{Refusal, Ruling, accepted, refused, judge}
 use Rattle.matching.specs.Edition.{Edition}
 use Rattle.matching.specs.Graph.{Graph, tutte}
-use Rattle.matching.specs.Pairs.{Pair, everything, unmatched}
+use Rattle.matching.specs.Pairs.{Pair, unmatched}
 use Rattle.matching.specs.Session.{State}
 use Rattle.matching.specs.Causes.{LongEnough, session-ruling}
 use Rattle.matching.specs.Opening.{Singular}
@@ -21,7 +21,7 @@ use Rattle.matching.specs.Calls.{state-after, row-ruling, ShowsRow, shows, row-
 use Rattle.matching.specs.Replay.{call-count, calls-of, lent-answers, list-causes, replay-ruling, numbers-of, Replays, refuses-replay, replays}
 use Rattle.matching.specs.Records.{Reading, sheet, unread, ReadsFrom, ReadsAs, graph, Read, not-read, graph-read, room, FillsFrom, refuses-records, lacks-room, fills}
 use Rattle.matching.specs.Computed.{read-from, read}
-use Rattle.matching.specs.Listing.{input-limit, first-line, pair-lines, witness-lines, line-full, line-none, refused-line, Lists, refuses-sheet, pairs-up, shows-witness}
+use Rattle.matching.specs.Listing.{players-of, input-limit, first-line, pair-lines, witness-lines, line-full, line-none, refused-line, Lists, refuses-sheet, pairs-up, shows-witness}
 use Rattle.laws.specs.Sound.{more-accepted}
 use Rattle.laws.specs.CallOutcome.{runs-some, runs-unique}
 use Rattle.laws.specs.ModelLaws.{picks-to-come, picks-to-come-half}
@@ -109,26 +109,26 @@ lists-some E input = go (read E (take input-limit input) .reading) (read E (take
     go : (r : Reading) → ReadsAs E (take input-limit input) r → (text : List ℕ) × Lists E input text
     go (unread why) R = (_, refuses-sheet R)
     go (sheet n weights edges) R =
-        ends (outcome (E .prime) (g .n) (tutte g (E .modulus)) (skew (E .prime) g) everything)
+        ends (outcome (E .prime) (g .n) (tutte g (E .modulus)) (skew (E .prime) g) (players-of (g .n)))
       where
         g : Graph
         g = graph n weights edges
 
-        ends : Outcome (E .modulus) (g .n) (tutte g (E .modulus)) everything → (text : List ℕ) × Lists E input text
+        ends : Outcome (E .modulus) (g .n) (tutte g (E .modulus)) (players-of (g .n)) → (text : List ℕ) × Lists E input text
         ends (inverse T I) =
-            let J : Nonsingular (E .prime) g everything [] = (T, I) in
+            let J : Nonsingular (E .prime) g (players-of (g .n)) [] = (T, I) in
             let m = invertible-even (E .prime) (g .n) (tutte g (E .modulus)) (skew (E .prime) g) J in
-            (_, pairs-up R J (picks-to-come (E .prime) g everything (m .0) [] J (m .1)))
+            (_, pairs-up R J (picks-to-come (E .prime) g (players-of (g .n)) (m .0) [] J (m .1)))
         ends (column f w F W) =
-            let s = singular-of (E .prime) g everything F W in (_, shows-witness R (s .1) (s .2))
+            let s = singular-of (E .prime) g (players-of (g .n)) F W in (_, shows-witness R (s .1) (s .2))
 
 -- what a sheet can be listed as
 data Listed (E : Edition) (n : ℕ) (weights : List ℕ) (edges : List Pair) : List ℕ → Type 0 where
-  paired : (m : ℕ) → Nonsingular (E .prime) (graph n weights edges) everything []
-      → PicksToCome (E .prime) (graph n weights edges) everything [] m
+  paired : (m : ℕ) → Nonsingular (E .prime) (graph n weights edges) (players-of n) []
+      → PicksToCome (E .prime) (graph n weights edges) (players-of n) [] m
       → Listed E n weights edges
-      (first-line n (length edges) ++ pair-lines (pairs-after (E .prime) (graph n weights edges) everything [] (replicate m automatic) m) ++ line-full)
-  witnessed : (f : ℕ) (words : List ℕ) → length words ≡ n → Singular (E .modulus) (graph n weights edges) everything f words
+      (first-line n (length edges) ++ pair-lines (pairs-after (E .prime) (graph n weights edges) (players-of n) [] (replicate m automatic) m) ++ line-full)
+  witnessed : (f : ℕ) (words : List ℕ) → length words ≡ n → Singular (E .modulus) (graph n weights edges) (players-of n) f words
       → Listed E n weights edges (first-line n (length edges) ++ witness-lines 0 words ++ line-none)
 
 listed : {E : Edition} {input text : List ℕ} {n : ℕ} {weights : List ℕ} {edges : List Pair} → ReadsAs E (take input-limit input) (sheet n weights edges) → Lists E input text
@@ -140,16 +140,16 @@ listed R (shows-witness {f = f} {words = ws} R′ l s) = let q = sheets (reads-u
 listed-unique : {E : Edition} {n : ℕ} {weights : List ℕ} {edges : List Pair} {text text′ : List ℕ} → Listed E n weights edges text → Listed E n weights edges text′ → text ≡ text′
 unfolding graph unmatched
 listed-unique {E} {n} {weights} {edges} (paired m I c) (paired m′ I′ c′) =
-    let h = picks-to-come-half (E .prime) (graph n weights edges) everything m [] I c in
-    let h′ = picks-to-come-half (E .prime) (graph n weights edges) everything m′ [] I′ c′ in
+    let h = picks-to-come-half (E .prime) (graph n weights edges) (players-of n) m [] I c in
+    let h′ = picks-to-come-half (E .prime) (graph n weights edges) (players-of n) m′ [] I′ c′ in
     let q : m ≡ m′ = omega arith in
     rw q refl
 listed-unique {E} {n} {weights} {edges} (paired m I c) (witnessed f ws l s) =
-    absurd (witness-singular (E .prime) n (tutte (graph n weights edges) (E .modulus)) (skew (E .prime) (graph n weights edges)) everything (s .kernel) I)
+    absurd (witness-singular (E .prime) n (tutte (graph n weights edges) (E .modulus)) (skew (E .prime) (graph n weights edges)) (players-of n) (s .kernel) I)
 listed-unique {E} {n} {weights} {edges} (witnessed f ws l s) (paired m I c) =
-    absurd (witness-singular (E .prime) n (tutte (graph n weights edges) (E .modulus)) (skew (E .prime) (graph n weights edges)) everything (s .kernel) I)
+    absurd (witness-singular (E .prime) n (tutte (graph n weights edges) (E .modulus)) (skew (E .prime) (graph n weights edges)) (players-of n) (s .kernel) I)
 listed-unique {E} {n} {weights} {edges} (witnessed f ws l s) (witnessed f′ ws′ l′ s′) =
-    let q = singular-unique (E .prime) (graph n weights edges) everything l l′ s s′ .1 in rw q refl
+    let q = singular-unique (E .prime) (graph n weights edges) (players-of n) l l′ s s′ .1 in rw q refl
 
 listed-refusal : {E : Edition} {input text : List ℕ} {r : Refusal} → ReadsAs E (take input-limit input) (unread r) → Lists E input text → text ≡ refused-line r
 listed-refusal {r = r} R (refuses-sheet {r = r′} R′) = let e = reads-unique R R′ in let q : r′ ≡ r = cc in rw q refl

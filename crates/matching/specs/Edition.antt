@@ -1,5 +1,6 @@
--- An edition of the rules: its prime, the draw of a state of the draw roll, and the number of the host's bytes that hold a word. A definition
--- that depends on one of them takes an edition. Document 01 is the first edition. Assumes nothing.
+-- An edition of the rules: its prime, the draw of a state of the draw roll, and the number of the host's bytes that hold a word. What is
+-- about words takes the prime alone; what also depends on the draw or on bytes takes an edition. Document 01 is the first edition. Assumes
+-- nothing.
 use Prim.Native.Nat.{ℕ, _^_, _≤_, _<_}
 use native.Mathlib.Omega.{arith}
 use Rattle.modular.specs.Prime.{OddPrime}

@@ -52,7 +52,7 @@ bytes-of w (x ∷ rest) = low-bytes w x ++ bytes-of w rest
 abbrev pub number : (cause kind value made : ℕ) → ℕ
 number cause kind value made = cause + 2 ^ 8 * kind + 2 ^ 16 * value + 2 ^ 32 * made
 
--- what stands in a number: the cause, the answer-kind, and the number of pairs
+-- what stands in a number: the cause, the answer-kind, and the number of pairs, or of the vertices of a sheet
 abbrev pub cause-in : ℕ → ℕ
 cause-in answer = answer % 2 ^ 8
 

@@ -1,6 +1,6 @@
--- Demand 3, opening, the row of a vertex and single calls through the host on two adjacent vertices: the definitions hold of a run that is
--- written out, and each sentence of demand 3 is read back from them for any run. Assumes nothing.
-use mathlib.Core.Path.{_≡_, refl, ap}
+-- Demand 3, opening, the row of a vertex and single calls through the host on two adjacent vertices, and opening on one alone: the
+-- definitions hold of a run that is written out, and each sentence of demand 3 is read back from them for any run. Assumes nothing.
+use mathlib.Core.Path.{_≡_, refl, sym, ap, _∙_}
 use mathlib.Core.Bool.{false≢true}
 use mathlib.Core.List.{List, [], _∷_, _++_, map}
 use Prim.Native.Nat.{ℕ, zero, suc, _+_, _≤_, _<_}
@@ -12,7 +12,7 @@ use Rattle.skew.specs.Subset.{_∈_, count}
 use Rattle.skew.specs.Decide.{first-dependent?}
 use Rattle.matching.specs.Decision.{Refusal, because, Every, At, accepted, every?, first?}
 use Rattle.matching.specs.Edition.{first-edition}
-use Rattle.matching.specs.Graph.{Graph, over, tutte}
+use Rattle.matching.specs.Graph.{Graph, over, cell, tutte}
 use Rattle.matching.specs.Pairs.{Pair, everything, unmatched, sequence, pairs-on}
 use Rattle.matching.specs.Session.{State}
 use Rattle.matching.specs.Decided.{inverse-table?, witness?}
@@ -20,9 +20,9 @@ use Rattle.matching.specs.Causes.{session-ruling, opening-ruling}
 use Rattle.matching.specs.Opening.{opened, singular, Buffers, Opens, opens, finds-singular}
 use Rattle.matching.specs.Model.{Call, pick, automatic, undo, done, denied, answered, pairs-after, step, nonsingular?, pick-ruling, OpenPartner, PicksToCome, stopped, picked}
 use Rattle.matching.specs.Calls.{Returned, state-after, row-ruling, open-row, refuses, carries, none, shows}
-use Rattle.matching.specs.Demand.{Once, StateOf, pairs-left, Undoes, FollowsModel}
-use Rattle.matching.specs.Host.{words, bytes-of, HostOpens, HostShowsRow}
-use Rattle.matching.specs.HostRuns.{HostRuns, host-none, host-more}
+use Rattle.matching.specs.Demand.{Once, StateOf, pairs-at, pairs-left, Undoes, FollowsModel}
+use Rattle.matching.specs.Host.{words, bytes-of, cause-in, HostOpens, HostShowsRow}
+use Rattle.matching.specs.HostRuns.{HostReturned, host-after, HostRuns, host-none, host-more, HostRestores}
 use Rattle.matching.specs.Claims.{on, edge, Claim, spoiled, Holds, All, decided, ShownSingular, shown-singular, Shown, all}
 
 -- two adjacent vertices with weight 2, over tables with an excess
@@ -196,6 +196,19 @@ module _ (returned : List Returned) (F : FollowsModel modulus-prime pair-graph e
       go (suc zero) l e = refl
       go (suc (suc x)) l e = absurd (omega arith)
 
+-- exactly once: the vertex stands at no two places, and its pair is adjacent
+module _ {g : Graph} {made : ℕ} {order : List ℕ} {v : ℕ} (O : Once g made order v) where
+  pub says-only : {x y : ℕ} → x < g .n → y < g .n → getD order x 0 ≡ v → getD order y 0 ≡ v → x ≡ y
+  says-only {x} {y} hx hy ex ey = O .only x hx ex ∙ sym (O .only y hy ey)
+
+  pub says-adjacent : O .place ≡ 1 → cell g (getD order 0 0) (getD order 1 0) ≡ 1
+  says-adjacent e = rw e at (O .adjacent)
+
+-- an undo removes the pair that its pick appended
+pub says-undoes : {i j : ℕ} {e : Pair} → Undoes modulus-prime pair-graph everything [] calls i j e
+    → pairs-at modulus-prime pair-graph everything [] calls j ≡ pairs-at modulus-prime pair-graph everything [] calls (suc i)
+says-undoes U = U .newest ∙ sym (U .appends)
+
 -- the empty list counts: one pick is to come, and each vertex has an open partner
 module _ (F : FollowsModel modulus-prime pair-graph everything [] [] empty []) where
   pub says-come : F .to-come ≡ 1
@@ -284,6 +297,18 @@ host-ran =
       stored = refl;
     })
     (host-more (record { given = denied (because 8 0); left = _; outcome = refuses (because 8 0) refl refl; numbered = refl; stored = refl }) host-none)
+
+-- an accepted undo through the host restores every byte
+module _ (returned : List HostReturned) (R : HostRestores first-edition host-graph host-empty (pick 1 0 ∷ undo ∷ []) returned) where
+  pub host-says-restored : (answer : ℕ) → At (map (λ (r : HostReturned). r .answer) returned) 1 answer → cause-in answer ≡ 0
+      → host-after host-empty returned 2 ≡ host-empty
+  unfolding At host-after
+  host-says-restored answer given ok = let r = R 1 answer refl given ok in go (r .0) (r .1) (r .2) (r .3)
+    where
+      go : (i : ℕ) (e : Pair) → Undoes modulus-prime host-graph everything [] (pick 1 0 ∷ undo ∷ []) i 1 e
+          → host-after host-empty returned 2 ≡ host-after host-empty returned i → host-after host-empty returned 2 ≡ host-empty
+      go zero e U q = q
+      go (suc i) e U q = absurd (omega (arith, U .earlier))
 
 -- two numbers of which the first, or both, are past the last vertex are not a pair of the session, even if the excess of the adjacency
 -- table has a 1 for them

@@ -1,5 +1,5 @@
 -- Document 01 in definitions, nearly in its own order: the edition, the graph and its matrix, pairs, the session, opening and its display,
--- the plain model, the session calls, records, causes, the listing, the host's number.
+-- the plain model, the session calls, demand 3, replay, records, causes, the listing, the host's number, demand 3 through the host.
 pub mod Edition
 pub mod Graph
 pub mod Pairs

@@ -6,6 +6,7 @@ use native.Mathlib.Decide.{ℕ-discrete, decLt}
 use lib.ListN.{length, take, replicate}
 use Rattle.lists.specs.Choose.{choose}
 use Rattle.lists.specs.Onto.{onto}
+use Rattle.skew.specs.Subset.{Subset}
 use Rattle.matching.specs.Decision.{Refusal}
 use Rattle.matching.specs.Edition.{Edition}
 use Rattle.matching.specs.Pairs.{Pair, Pairs, everything}
@@ -93,16 +94,20 @@ line-none = text-verdict ++ 78 ∷ line-feed
 abbrev pub refused-line : Refusal → List ℕ
 refused-line r = text-refused ++ decimal (r .cause) ++ text-at ++ decimal (r .place) ++ line-feed
 
+-- the vertices of a sheet of n that the verdict is about: all of them
+abbrev pub players-of : ℕ → Subset
+players-of n = everything
+
 -- what is printed for an input: the refusal, or automatic picks to the end, or the witness
 pub data Lists (E : Edition) (input : List ℕ) : List ℕ → Type 0 where
   refuses-sheet : {r : Refusal} → ReadsAs E (take input-limit input) (unread r) → Lists E input (refused-line r)
   pairs-up : {n m : ℕ} {weights : List ℕ} {edges : List Pair} → ReadsAs E (take input-limit input) (sheet n weights edges)
-      → Nonsingular (E .prime) (graph n weights edges) everything []
-      → PicksToCome (E .prime) (graph n weights edges) everything [] m
+      → Nonsingular (E .prime) (graph n weights edges) (players-of n) []
+      → PicksToCome (E .prime) (graph n weights edges) (players-of n) [] m
       → Lists E input
-      (first-line n (length edges) ++ pair-lines (pairs-after (E .prime) (graph n weights edges) everything [] (replicate m automatic) m) ++ line-full)
+      (first-line n (length edges) ++ pair-lines (pairs-after (E .prime) (graph n weights edges) (players-of n) [] (replicate m automatic) m) ++ line-full)
   shows-witness : {n f : ℕ} {weights words : List ℕ} {edges : List Pair} → ReadsAs E (take input-limit input) (sheet n weights edges)
-      → length words ≡ n → Singular (E .modulus) (graph n weights edges) everything f words
+      → length words ≡ n → Singular (E .modulus) (graph n weights edges) (players-of n) f words
       → Lists E input (first-line n (length edges) ++ witness-lines 0 words ++ line-none)
 
 -- the length that a buffer for the text needs: no text of the first edition has more than 1,654 bytes

@@ -107,7 +107,8 @@ module _ {p : ℕ} (P : OddPrime p) (g : Graph) (S : Subset) where
     undoes : {e : Pair} {earlier : Pairs} → pairs ≡ e ∷ earlier → Nonsingular earlier → Rule pairs undo (done e) earlier
 
   -- The rules computed, as `step`, which all that follows uses. If the unmatched vertices have an inverse, `step` follows the rules; and it
-  -- gives whatever a rule gives (laws, Rules).
+  -- gives whatever a rule gives (laws, Rules). First its parts.
+
   -- c with the lowest r whose pick with c is accepted. There is one if the unmatched vertices have an inverse, so the second case then
   -- never occurs
   abbrev pub with-lowest : (pairs : Pairs) (c : ℕ) → First (g .n) (λ r. Accepted (pick-ruling pairs c r)) → Step

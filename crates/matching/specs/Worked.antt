@@ -1,7 +1,7 @@
 -- Worked examples of the causes with their places and order, of rows, the displayed part, records, the listing and the host's numbers, one
 -- list with one claim over it; and of replays. Assumes nothing.
-use mathlib.Core.Path.{refl}
-use mathlib.Core.List.{List, [], _∷_, _++_}
+use mathlib.Core.Path.{_≡_, refl}
+use mathlib.Core.List.{List, [], _∷_, _++_, map}
 use Prim.Native.Nat.{ℕ}
 use native.Mathlib.Decide.{decLt}
 use lib.ListN.{replicate}
@@ -21,7 +21,7 @@ use Rattle.matching.specs.Calls.{Returned, state-after, row-ruling, open
 use Rattle.matching.specs.Records.{sheet, unread, cells, graph, graph-read, not-read}
 use Rattle.matching.specs.Computed.{read}
 use Rattle.matching.specs.Host.{words, bytes-of}
-use Rattle.matching.specs.Replay.{first-calls, replay-ruling}
+use Rattle.matching.specs.Replay.{place-of, first-calls, replay-ruling}
 use Rattle.matching.specs.Listing.{digits, pair-lines, witness-lines}
 use Rattle.matching.specs.Claims.{linked, on, edge, ones, path, complete, ring, Claim, witness, not-opening, model, answers, by-hand, spoiled, handled, ran, row, no-row, replayed, no-replay, displayed, reads, filling, lists, lists-witness, lists-refusal, host-opening, host-answer, host-row, host-words, host-bytes, host-handled, host-replayed, host-reads, host-draws, before, Holds, All, ShownSingular, ShownHandled, ShownReturned, ShownRun, ShownReplay, ShownListed, ShownWitness, ShownFilling, Shown, all}
 
@@ -80,6 +80,7 @@ worked =
     ∷ not-opening (two in-order (1 ∷ [])) (lengths 4 2 1 3) (because 2 5)
     ∷ not-opening (two in-order (1 ∷ [])) (lengths 4 2 2 3) (because 2 6)
     ∷ not-opening (two (0 ∷ 0 ∷ 2 ∷ 0 ∷ []) (0 ∷ [])) (lengths 4 2 2 4) (because 3 1)
+    ∷ not-opening (two (0 ∷ 2 ∷ 2 ∷ 0 ∷ []) (1 ∷ [])) (lengths 4 2 2 4) (because 3 1)
     ∷ not-opening (two (0 ∷ 1 ∷ 1 ∷ 1 ∷ []) (0 ∷ [])) (lengths 4 2 2 4) (because 3 3)
     ∷ not-opening (two (2 ∷ 1 ∷ 0 ∷ 1 ∷ []) (0 ∷ [])) (lengths 4 2 2 4) (because 3 0)
     ∷ not-opening (two in-order (0 ∷ [])) (lengths 4 2 2 4) (because 4 0)
@@ -97,7 +98,9 @@ worked =
     ∷ spoiled (on complete 1 last-two (0 ∷ 1 ∷ 255 ∷ 2 ∷ [])) undo (because 5 0)
     ∷ spoiled (on complete 1 last-two (0 ∷ 200 ∷ 255 ∷ 255 ∷ [])) undo (because 5 0)
     ∷ spoiled (on complete 1 last-two (0 ∷ 6 ∷ 255 ∷ 255 ∷ [])) undo (because 5 0)
+    ∷ spoiled (on complete 1 last-two (0 ∷ 4 ∷ 255 ∷ 255 ∷ [])) undo (because 5 0)
     ∷ spoiled (on complete 2 zeros (0 ∷ 1 ∷ 1 ∷ 2 ∷ [])) undo (because 5 0)
+    ∷ spoiled (on complete 2 zeros (0 ∷ 1 ∷ 0 ∷ 2 ∷ [])) undo (because 5 0)
     ∷ spoiled (on (linked 4 (edge 2 3 ∷ []) (ones 4)) 1 last-two first-pair) undo (because 5 0)
     ∷ spoiled (on complete 1 (65521 ∷ 0 ∷ 0 ∷ 0 ∷ 0 ∷ 0 ∷ 0 ∷ 0 ∷ 0 ∷ 0 ∷ 0 ∷ 65520 ∷ 0 ∷ 0 ∷ 1 ∷ 0 ∷ []) first-pair) (pick 0 0) (because 6 0)
     ∷ spoiled (on complete 1 (0 ∷ 0 ∷ 0 ∷ 0 ∷ 0 ∷ 0 ∷ 0 ∷ 0 ∷ 0 ∷ 0 ∷ 0 ∷ 1 ∷ 0 ∷ 0 ∷ 65520 ∷ 0 ∷ []) first-pair) automatic (because 6 0)
@@ -123,12 +126,15 @@ worked =
     ∷ no-row (on complete 1 last-two first-pair) 4 (9 ∷ 9 ∷ 9 ∷ 9 ∷ []) (because 7 0)
     ∷ no-row (on complete 1 last-two first-pair) 0 (9 ∷ 9 ∷ 9 ∷ 9 ∷ []) (because 8 0)
     ∷ no-row (on complete 1 last-two first-pair) 4 (9 ∷ 9 ∷ 9 ∷ []) (because 2 7)
+    ∷ no-row (on complete 3 last-two first-pair) 4 (9 ∷ 9 ∷ 9 ∷ 9 ∷ []) (because 5 0)
+    ∷ no-row (on complete 1 zeros first-pair) 4 (9 ∷ 9 ∷ 9 ∷ 9 ∷ []) (because 6 0)
     -- the displayed part
     ∷ displayed 2 (0 ∷ 1 ∷ 2 ∷ 0 ∷ 7 ∷ []) (0 ∷ 0 ∷ 5 ∷ []) (of-inverse 4)
     ∷ displayed 2 (0 ∷ 0 ∷ 0 ∷ 0 ∷ []) (1 ∷ 0 ∷ []) (of-witness 2)
     ∷ displayed 2 (0 ∷ 0 ∷ 0 ∷ []) (1 ∷ 0 ∷ []) (of-inverse 0)
     ∷ displayed 2 (0 ∷ 0 ∷ 0 ∷ 0 ∷ []) (1 ∷ []) (of-inverse 0)
     ∷ displayed 97 [] [] (of-inverse 0)
+    ∷ displayed 97 (replicate 9409 0) (replicate 97 0) (of-inverse 0)
     -- records: 12 and 13 before 1 and 14, and these before 15
     ∷ reads [] (unread (because 13 0))
     ∷ reads (1 ∷ []) (unread (because 13 1))
@@ -138,6 +144,7 @@ worked =
     ∷ reads (1 ∷ 2 ∷ 4 ∷ []) (unread (because 12 2))
     ∷ reads (1 ∷ 2 ∷ 3 ∷ 1 ∷ 0 ∷ 0 ∷ []) (unread (because 13 6))
     ∷ reads (1 ∷ 2 ∷ 3 ∷ 1 ∷ 2 ∷ 0 ∷ 0 ∷ 4 ∷ []) (sheet 2 (draws draw 513 1) [])
+    ∷ reads (1 ∷ 2 ∷ 3 ∷ 1 ∷ 2 ∷ 3 ∷ 4 ∷ 4 ∷ []) (sheet 2 (draws draw 67305985 1) [])
     ∷ reads (1 ∷ 2 ∷ 3 ∷ 1 ∷ 2 ∷ 0 ∷ 0 ∷ 4 ∷ 4 ∷ []) (unread (because 12 8))
     ∷ reads (1 ∷ 2 ∷ 3 ∷ 1 ∷ 2 ∷ 0 ∷ 0 ∷ 5 ∷ []) (unread (because 12 7))
     ∷ reads (1 ∷ 2 ∷ 3 ∷ 1 ∷ 2 ∷ 0 ∷ 0 ∷ 2 ∷ 9 ∷ []) (unread (because 13 9))
@@ -192,7 +199,7 @@ worked =
 
 pub worked-hold : All Holds worked
 unfolding worked Shown ShownFilling words bytes-of draws ShownSingular ShownHandled ShownReturned ShownRun ShownListed ShownWitness modulus-prime answered pairs-after step nonsingular? inverse-table? witness? first-dependent? first? every? tutte opening-ruling session-ruling row-ruling open-row display cells unmatched pairs-on decLt read digits pair-lines witness-lines graph sequence
-worked-hold = all worked (refl, (refl, (refl, (refl, (refl, (refl, (refl, (refl, (refl, (refl, (refl, (refl, (refl, (refl, (refl, (refl, (refl, (refl, (refl, (refl, (refl, (refl, (refl, (refl, (refl, (refl, (refl, (refl, (refl, ((refl, refl), ((refl, refl), ((refl, refl), ((refl, refl), ((tt, refl), (refl, ((tt, refl), ((refl, refl, refl, tt, refl), ((refl, refl, refl, tt, refl), ((refl, refl, refl, tt, refl), (((refl, refl, refl), ((refl, refl, refl, tt, refl), ((refl, refl, refl), ((refl, refl, refl, tt, refl), ((refl, refl, refl), ((refl, refl, refl, tt, refl), ((refl, refl, refl, tt, refl), tt))))))), (((refl, refl, refl, tt, refl), ((refl, refl, refl, tt, refl), ((refl, refl, refl), tt))), ((refl, refl), ((refl, refl), (refl, (refl, (refl, (refl, (refl, (refl, (refl, (refl, (refl, (refl, (refl, (refl, (refl, (refl, (refl, (refl, (refl, (refl, (refl, (refl, (refl, (refl, (refl, (refl, (refl, (refl, (refl, (refl, ((refl, refl, refl), ((refl, refl, refl), ((refl, refl, refl, refl), ((tt, picked refl (picked refl (stopped refl)), refl), ((refl, (tt, tt, tt), refl), ((refl, (tt, tt, tt), refl), ((refl, refl), (refl, (refl, (refl, (refl, (refl, (refl, (refl, (refl, (refl, (refl, (refl, (refl, (refl, (((refl, refl, refl, tt, refl), refl, refl), (((refl, refl, refl, refl), refl, refl), (((refl, refl, refl), refl, refl), ((refl, refl), ((refl, refl), ((refl, refl), tt)))))))))))))))))))))))))))))))))))))))))))))))))))))))))))))))))))))))))))))))))))))))))))))))))
+worked-hold = all worked (refl, (refl, (refl, (refl, (refl, (refl, (refl, (refl, (refl, (refl, (refl, (refl, (refl, (refl, (refl, (refl, (refl, (refl, (refl, (refl, (refl, (refl, (refl, (refl, (refl, (refl, (refl, (refl, (refl, (refl, (refl, (refl, ((refl, refl), ((refl, refl), ((refl, refl), ((refl, refl), ((tt, refl), (refl, ((tt, refl), ((refl, refl, refl, tt, refl), ((refl, refl, refl, tt, refl), ((refl, refl, refl, tt, refl), (((refl, refl, refl), ((refl, refl, refl, tt, refl), ((refl, refl, refl), ((refl, refl, refl, tt, refl), ((refl, refl, refl), ((refl, refl, refl, tt, refl), ((refl, refl, refl, tt, refl), tt))))))), (((refl, refl, refl, tt, refl), ((refl, refl, refl, tt, refl), ((refl, refl, refl), tt))), ((refl, refl), ((refl, refl), (refl, (refl, (refl, (refl, (refl, (refl, (refl, (refl, (refl, (refl, (refl, (refl, (refl, (refl, (refl, (refl, (refl, (refl, (refl, (refl, (refl, (refl, (refl, (refl, (refl, (refl, (refl, (refl, (refl, (refl, (refl, (refl, ((refl, refl, refl), ((refl, refl, refl), ((refl, refl, refl, refl), ((tt, picked refl (picked refl (stopped refl)), refl), ((refl, (tt, tt, tt), refl), ((refl, (tt, tt, tt), refl), ((refl, refl), (refl, (refl, (refl, (refl, (refl, (refl, (refl, (refl, (refl, (refl, (refl, (refl, (refl, (((refl, refl, refl, tt, refl), refl, refl), (((refl, refl, refl, refl), refl, refl), (((refl, refl, refl), refl, refl), ((refl, refl), ((refl, refl), ((refl, refl), tt))))))))))))))))))))))))))))))))))))))))))))))))))))))))))))))))))))))))))))))))))))))))))))))))))))))))
 
 -- replays
 pub worked-replays : List Claim
@@ -207,6 +214,7 @@ worked-replays =
     ∷ no-replay (on complete 1 zeros first-pair) (2 ∷ 0 ∷ 0 ∷ 2 ∷ []) (9 ∷ []) (because 6 0)
     -- 12 before 13, each at its call; the kind of a call that is cut does not count
     ∷ no-replay one-pair (2 ∷ 0 ∷ 0 ∷ 4 ∷ 0 ∷ 0 ∷ 1 ∷ []) (9 ∷ 9 ∷ []) (because 12 1)
+    ∷ no-replay one-pair (0 ∷ 0 ∷ 0 ∷ []) (9 ∷ []) (because 12 0)
     ∷ no-replay one-pair (2 ∷ 0 ∷ 0 ∷ 4 ∷ 0 ∷ []) (9 ∷ []) (because 13 1)
     -- calls made, one of them refused, with room for one more answer; no calls
     ∷ replayed no-pairs (1 ∷ 1 ∷ 0 ∷ 2 ∷ 7 ∷ 9 ∷ 1 ∷ 0 ∷ 2 ∷ 3 ∷ 7 ∷ 9 ∷ []) (9 ∷ 9 ∷ 9 ∷ 9 ∷ 9 ∷ [])
@@ -224,4 +232,9 @@ worked-replays =
 
 pub worked-replays-hold : All Holds worked-replays
 unfolding worked-replays Shown ShownReplay words bytes-of ShownHandled ShownReturned ShownRun modulus-prime step nonsingular? inverse-table? first? every? tutte replay-ruling session-ruling first-calls state-after cells unmatched pairs-on decLt sequence
-worked-replays-hold = all worked-replays (refl, (refl, (refl, (refl, (refl, (refl, (refl, (refl, (refl, ((refl, ((refl, refl, refl, tt, refl), ((refl, refl, refl, tt, refl), ((refl, refl, refl), ((refl, refl, refl, tt, refl), tt)))), refl, refl), ((refl, tt, refl, refl), (((refl, ((refl, refl, refl, tt, refl), tt), refl, refl), refl, refl), tt))))))))))))
+worked-replays-hold = all worked-replays (refl, (refl, (refl, (refl, (refl, (refl, (refl, (refl, (refl, (refl, ((refl, ((refl, refl, refl, tt, refl), ((refl, refl, refl, tt, refl), ((refl, refl, refl), ((refl, refl, refl, tt, refl), tt)))), refl, refl), ((refl, tt, refl, refl), (((refl, ((refl, refl, refl, tt, refl), tt), refl, refl), refl, refl), tt)))))))))))))
+
+-- the place of a call, up to 16 bits and past them
+pub places-cut : map place-of (0 ∷ 65534 ∷ 65535 ∷ 65536 ∷ []) ≡ 0 ∷ 65534 ∷ 65535 ∷ 65535 ∷ []
+unfolding decLt
+places-cut = refl

@@ -7,7 +7,7 @@ use native.Mathlib.Omega.{arith}
 use native.Mathlib.Decide.{ℕ-discrete, decLt}
 use lib.ListN.{length, getD}
 use Rattle.lists.specs.Values.{list-of}
-use Rattle.lists.specs.Table.{table, index-below, index-row, index-column}
+use Rattle.lists.specs.Table.{table, index-below}
 use Rattle.modular.specs.Congruence.{Congruent, equals}
 use Rattle.modular.specs.Prime.{below-equal}
 use Rattle.residue.specs.Modulus.{modulus, modulus-prime}
@@ -15,12 +15,12 @@ use Rattle.skew.specs.Subset.{Subset, _∈_, marked, marked-in, clash, marked-o
 use Rattle.skew.specs.Remove.{invertible-without}
 use Rattle.matching.specs.Decision as decision
 use Rattle.matching.specs.Decision.{because, accepted, refused, not?, both?, Cause}
-use Rattle.matching.specs.Graph.{Graph, over, largest, cell, tutte, fault, cell-fault, InOrder}
+use Rattle.matching.specs.Graph.{Graph, over, largest, cell, tutte, InOrder}
 use Rattle.matching.specs.Pairs.{Pairs, pair-of, unmatched, in?}
 use Rattle.matching.specs.Session.{InverseTable}
 use Rattle.matching.specs.Model.{Named, named?, needs, adjacent?, skew, Nonsingular, nonsingular?, pick-ruling, OpenPartner}
 use Rattle.matching.specs.Calls.{bit-of}
-use Rattle.laws.specs.Faults.{fault-of-cell, fault-large, fault-unequal}
+use Rattle.laws.specs.Faults.{faultless-simple}
 use Rattle.laws.specs.ModelLaws.{pair-of-smaller, pair-of-larger, unmatched-without}
 use Rattle.laws.specs.Judge.{judge-refused, judge-next, when-at, unless-absent}
 use Rattle.refusals.specs.declared.Ruling.{Ruling}
@@ -80,26 +80,15 @@ RowOf n adjacency inverse marks a row v row′ =
 
 -- in a graph in order a cell equals its mirror
 module _ {g : Graph} (order : InOrder modulus g) where
-  faultless : (i j : ℕ) → i < g .n → j < g .n → cell-fault (cell g i j) (cell g j i) i j ≡ 0
-  faultless i j hi hj =
-      sym (fault-of-cell g i j)
-      ∙ sym (ap₂ (fault g) (index-row (g .n) i j hj) (index-column (g .n) i j hj))
-      ∙ order .cells (i * g .n + j) (index-below (g .n) i j hi hj)
-
-  mirror : (i j : ℕ) → i < g .n → j < g .n → i ≢ j → cell g i j ≡ cell g j i
-  mirror i j hi hj d = go (decLt 1 (cell g i j)) (ℕ-discrete (cell g i j) (cell g j i))
-    where
-      go : Dec (1 < cell g i j) → Dec (cell g i j ≡ cell g j i) → cell g i j ≡ cell g j i
-      go _ (yes e) = e
-      go (yes l) (no _) = absurd (omega (arith, faultless i j hi hj, fault-large (cell g i j) (cell g j i) i j l))
-      go (no l) (no e) = absurd (omega (arith, faultless i j hi hj, fault-unequal (cell g i j) (cell g j i) i j (omega arith) d e))
+  mirror : (i j : ℕ) → i < g .n → j < g .n → cell g i j ≡ cell g j i
+  mirror = faultless-simple g .0 (order .cells) .symmetric
 
   pub cell-pair : (a b : ℕ) → Named (g .n) a b → cell g (pair-of a b .smaller) (pair-of a b .larger) ≡ cell g a b
   cell-pair a b h = go (decLt a b) (decLt b a)
     where
       go : Dec (a < b) → Dec (b < a) → cell g (pair-of a b .smaller) (pair-of a b .larger) ≡ cell g a b
       go (yes l) _ = rw (pair-of-smaller a b l) refl
-      go (no _) (yes l) = rw (pair-of-larger a b l) (mirror b a (h .1) (h .0) (λ e. h .2 (sym e)))
+      go (no _) (yes l) = rw (pair-of-larger a b l) (mirror b a (h .1) (h .0))
       go (no d) (no e) = absurd (h .2 (omega arith))
 
 -- the unmatched vertices by their marks

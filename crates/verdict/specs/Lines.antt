@@ -9,12 +9,12 @@ use Rattle.lists.specs.Onto.{onto-front}
 use Rattle.residue.specs.Modulus.{modulus, modulus-prime}
 use Rattle.matching.specs.Decision.{Refusal, accepted, refused}
 use Rattle.matching.specs.Graph.{Graph, over, InOrder}
-use Rattle.matching.specs.Pairs.{everything, unmatched, pairs-on}
+use Rattle.matching.specs.Pairs.{unmatched, pairs-on}
 use Rattle.matching.specs.Session.{Session}
 use Rattle.matching.specs.Causes.{opening-ruling}
-use Rattle.matching.specs.Opening.{opened, singular, not-opened, Singular, Buffers, Opens, refuses-opening, opens, finds-singular}
+use Rattle.matching.specs.Opening.{opened, singular, not-opened, Singular, Buffers, players, Opens, refuses-opening, opens, finds-singular}
 use Rattle.matching.specs.Model.{automatic, Nonsingular, pairs-after, PicksToCome}
-use Rattle.matching.specs.Listing.{first-line, pair-lines, witness-lines, line-full, line-none}
+use Rattle.matching.specs.Listing.{players-of, first-line, pair-lines, witness-lines, line-full, line-none}
 use Rattle.laws.specs.Sound.{GraphFits, opening-accepted}
 use Rattle.laws.specs.Fresh.{opened-sound}
 use Rattle.sequence.specs.Formed.{left-start}
@@ -31,9 +31,9 @@ pub record Writes (P : List ℕ → Type 0) (at : ℕ) (before after : List ℕ)
 
 -- the pairs of automatic picks to the end, or the witness; and the verdict
 pub data Verdict (g : Graph) : List ℕ → Type 0 where
-  full : {m : ℕ} → Nonsingular modulus-prime g everything [] → PicksToCome modulus-prime g everything [] m
-      → Verdict g (pair-lines (pairs-after modulus-prime g everything [] (replicate m automatic) m) ++ line-full)
-  none : {f : ℕ} {words : List ℕ} → length words ≡ g .n → Singular modulus g everything f words → Verdict g (witness-lines 0 words ++ line-none)
+  full : {m : ℕ} → Nonsingular modulus-prime g (players-of (g .n)) [] → PicksToCome modulus-prime g (players-of (g .n)) [] m
+      → Verdict g (pair-lines (pairs-after modulus-prime g (players-of (g .n)) [] (replicate m automatic) m) ++ line-full)
+  none : {f : ℕ} {words : List ℕ} → length words ≡ g .n → Singular modulus g (players-of (g .n)) f words → Verdict g (witness-lines 0 words ++ line-none)
 
 -- all lines of a graph with m edges
 pub record GraphLines (g : Graph) (m : ℕ) (text : List ℕ) : Type 0 where
@@ -44,7 +44,7 @@ pub record GraphLines (g : Graph) (m : ℕ) (text : List ℕ) : Type 0 where
 -- a session fresh from opening that is known to be sound
 pub record Fresh (n : ℕ) (adjacency weights inverse sequence marks : List ℕ) : Type 0 where
   pub known : Known n 0 adjacency weights inverse sequence marks
-  pub nonsingular : Nonsingular modulus-prime (over n adjacency weights) everything []
+  pub nonsingular : Nonsingular modulus-prime (over n adjacency weights) (players-of n) []
 
 -- the same for some weights
 abbrev pub FreshFor : (n : ℕ) (adjacency inverse sequence marks : List ℕ) → Type 0
@@ -54,30 +54,30 @@ FreshFor n adjacency inverse sequence marks = (weights : List ℕ) × Fresh n ad
 module _ {n : ℕ} {adjacency weights inverse sequence witness work : List ℕ} where
   -- a session that is opened is known to be sound, and has an inverse
   pub fresh : {s : Session} {inverse′ sequence′ witness′ work′ marks : List ℕ}
-      → Opens modulus (over n adjacency weights) everything (buffers inverse sequence witness work) (opened s) (buffers inverse′ sequence′ witness′ work′)
+      → Opens modulus (over n adjacency weights) (players n (buffers inverse sequence witness work)) (buffers inverse sequence witness work) (opened s) (buffers inverse′ sequence′ witness′ work′)
       → marks ≡ replicate n 1 → Fresh n adjacency weights inverse′ sequence′ marks
   unfolding unmatched
   fresh (opens new ok l I) e =
-      let o : Opens modulus (over n adjacency weights) everything (buffers inverse sequence witness work) _ _ = opens new ok l I in
+      let o : Opens modulus (over n adjacency weights) (players n (buffers inverse sequence witness work)) (buffers inverse sequence witness work) _ _ = opens new ok l I in
       let k = opened-sound modulus-prime (over n adjacency weights) {b = buffers inverse sequence witness work} o in
       record { known = record { sound = rw (k .1) at (k .0); left = rw e (left-start n _) }; nonsingular = (_, I .is-inverse) }
 
   -- the first words of the witness are the kernel vector
   pub kernel : {f : ℕ} {inverse′ sequence′ witness′ work′ : List ℕ}
-      → Opens modulus (over n adjacency weights) everything (buffers inverse sequence witness work) (singular f) (buffers inverse′ sequence′ witness′ work′)
-      → (length (take n witness′) ≡ n) × Singular modulus (over n adjacency weights) everything f (take n witness′)
+      → Opens modulus (over n adjacency weights) (players n (buffers inverse sequence witness work)) (buffers inverse sequence witness work) (singular f) (buffers inverse′ sequence′ witness′ work′)
+      → (length (take n witness′) ≡ n) × Singular modulus (over n adjacency weights) (players-of n) f (take n witness′)
   kernel (finds-singular f new ok l S) = rw (onto-front new witness n l) (l, S)
 
   -- an accepted graph is never refused
   pub not-refused : {r : Refusal} {left : Buffers} → opening-ruling modulus (over n adjacency weights) (length inverse) (length sequence) (length witness) (length work) ≡ accepted
-      → Opens modulus (over n adjacency weights) everything (buffers inverse sequence witness work) (not-opened r) left → ⊥
+      → Opens modulus (over n adjacency weights) (players n (buffers inverse sequence witness work)) (buffers inverse sequence witness work) (not-opened r) left → ⊥
   not-refused ok (refuses-opening r e) =
       let both : accepted ≡ refused r = sym ok ∙ e in
       let z : _≡_ {A = ℕ} 0 1 = cc in
       omega arith
 
 -- the lines of a completed matching
-pub full-lines : {g : Graph} {made : ℕ} {sequence : List ℕ} → Nonsingular modulus-prime g everything [] → Completed g everything made sequence
+pub full-lines : {g : Graph} {made : ℕ} {sequence : List ℕ} → Nonsingular modulus-prime g (players-of (g .n)) [] → Completed g (players-of (g .n)) made sequence
     → Verdict g (pair-lines (pairs-on sequence made) ++ line-full)
 full-lines I C = rw (C .pairs-are) (full I (C .come))
 

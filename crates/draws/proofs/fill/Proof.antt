@@ -6,14 +6,14 @@ use native.Mathlib.Omega.{arith}
 use lib.ListN.{length}
 use borrow.Author.Needs.{needs}
 use Rattle.lists.specs.Written.{Written, written-start, written-more, written-all}
-use Rattle.draws.specs.Draws.{next, draw, stateAfter}
-use Rattle.draws.specs.Laws.{stateAfter-more, draws-values}
+use Rattle.draws.specs.Draws.{next, draw, roll-after}
+use Rattle.draws.specs.Laws.{roll-after-more, draws-values}
 use Rattle.draws.proofs.fill.Statement.{statement}
 use Rattle.draws.proofs.fill.Tie as tie
 
 record Filling (seed : ℕ) (words₀ words : List ℕ) (state i : ℕ) : Type 0 where
-  at-state : state ≡ stateAfter seed i
-  written : Written (λ k. draw (stateAfter seed (k + 1))) words₀ words i
+  at-state : state ≡ roll-after seed i
+  written : Written (λ k. draw (roll-after seed (k + 1))) words₀ words i
 
 abbrev Inv-loop : tie.InvT-loop
 Inv-loop words₀ seed state₀ i₀ words state i = Filling seed words₀ words state i
@@ -22,7 +22,7 @@ abbrev μ-loop : tie.MeasureT-loop
 μ-loop words₀ seed state₀ i₀ words state i = length words₀ - i
 
 loop-holds : tie.Need-loop-holds Inv-loop μ-loop
-unfolding stateAfter
+unfolding roll-after
 loop-holds c = record { at-state = refl; written = written-start _ _ }
 
 next-requires : tie.Need-next-requires Inv-loop μ-loop
@@ -49,7 +49,7 @@ loop-again c =
     let inv = at-loop .loop .inv in
     let seed = at-loop .before .before .args .seed in
     let i = at-loop .loop .i in
-    let stepped : c .before .next .result ≡ stateAfter seed (i + 1) = c .before .next .ensures ∙ ap next (inv .at-state) ∙ sym (stateAfter-more seed i) in
+    let stepped : c .before .next .result ≡ roll-after seed (i + 1) = c .before .next .ensures ∙ ap next (inv .at-state) ∙ sym (roll-after-more seed i) in
     record { at-state = stepped; written = written-more _ (inv .written) (omega arith) (c .draw .ensures ∙ ap draw stepped) }
 
 same-length : tie.Need-same-length Inv-loop μ-loop
