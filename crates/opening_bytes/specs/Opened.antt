@@ -4,8 +4,7 @@ use mathlib.Core.List.{List, [], _∷_, _++_}
 use Prim.Native.Nat.{ℕ, _*_, _/_, _^_, _≤_, _<_}
 use native.Mathlib.Omega.{arith}
 use native.Mathlib.Decide.{decLt}
-use lib.ListN.{length, getD, take, replicate, length-replicate}
-use Rattle.lists.specs.Onto.{onto}
+use lib.ListN.{length, getD, replicate, length-replicate}
 use Rattle.residue.specs.Modulus.{modulus}
 use Rattle.matching.specs.Decision.{Every, Refusal, Ruling, accepted, refused, judge, unless}
 use Rattle.matching.specs.Edition.{first-edition}
@@ -13,7 +12,7 @@ use Rattle.matching.specs.Graph.{Graph, largest, pair-count, over}
 use Rattle.matching.specs.Causes.{Lent, lent-always, lent-besides, lent-to-opening, too-large, too-short, bad-cell, bad-weight, opening-ruling}
 use Rattle.matching.specs.Pairs.{everything}
 use Rattle.matching.specs.Opening.{Opening, opened, singular, not-opened, Buffers, ruling, with-inverse, with-witness, Opens, refuses-opening, opens, finds-singular}
-use Rattle.matching.specs.Host.{words, Bytes, bytes-of, opening-number, unpacked, HostOpens}
+use Rattle.matching.specs.Host.{words, Bytes, opening-number, unpacked, HostOpens}
 use Rattle.laws.specs.Sound.{OpeningFits, opening-fits, short-absent}
 use Rattle.laws.specs.Numbers as numbers
 use Rattle.laws.specs.Words.{words-length, stored-front}
@@ -22,6 +21,7 @@ use Rattle.checks.specs.Weights.{needed}
 use Rattle.checks.specs.Lengths.{lengths-refused, lengths-accepted}
 use Rattle.checks.specs.Opening.{graph-causes}
 use Rattle.opening.specs.Meaning.{buffers}
+use Rattle.opening_pack.specs.Packed.{after}
 use Rattle.crossing.specs.Same.{cells-same, weights-same, table-same, singular-same}
 use Rattle.crossing.specs.Needed.{needed-weights, needed-agree, needed-counted, needed-fits}
 
@@ -36,31 +36,6 @@ pub record Lends (n : ℕ) (values table vector spare : List ℕ) : Type 0 where
   pub cells : length table ≡ n * n
   pub vertices : length vector ≡ n
   pub spare-cells : length spare ≡ n * n
-
--- the first k words, stored over bytes
-abbrev pub first-stored : ℕ → (new bytes : List ℕ) → List ℕ
-first-stored k new bytes = onto (bytes-of 2 (take k new)) bytes
-
--- the host's bytes after an opening that leaves words for n vertices; the sequence is bytes already
-abbrev stored : ℕ → (left b : Buffers) → Buffers
-stored n left b =
-    buffers (first-stored (n * n) (left .inverse) (b .inverse)) (left .sequence) (first-stored n (left .witness) (b .witness)) (first-stored (n * n) (left .work) (b .work))
-
-abbrev pub after : ℕ → Opening → (left b : Buffers) → Buffers
-after n (opened s) left b = stored n left b
-after n (singular f) left b = stored n left b
-after n (not-opened r) left b = buffers (b .inverse) (left .sequence) (b .witness) (b .work)
-
--- the parts of an answer fit their bits of the number
-abbrev pub OpeningNumberFits : Opening → Type 0
-OpeningNumberFits (opened s) = s .made < 2 ^ 8
-OpeningNumberFits (singular f) = f < 2 ^ 16
-OpeningNumberFits (not-opened r) = r .place < 2 ^ 16
-
-pub opening-number-fits : {g : Graph} {b left : Buffers} {o : Opening} → Opens modulus g everything b o left → OpeningNumberFits o
-opening-number-fits {b = b} (refuses-opening r e) = numbers.opens-small {S = everything} {b = b} (refuses-opening r e) .place-below
-opening-number-fits (opens new ok l I) = omega arith
-opening-number-fits {b = b} (finds-singular f new ok l s) = numbers.opens-small {S = everything} {b = b} (finds-singular f new ok l s)
 
 -- the number of vertices and the lengths are judged
 module _ (n : ℕ) (adjacency weights : List ℕ) (b : Buffers) where

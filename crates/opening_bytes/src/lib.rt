@@ -1,70 +1,9 @@
 // Opening with numbers and byte slices: what the host's entry calls. Words cross as two bytes, low first (docs/HOST.md).
-use opening::Opening;
 use refusals::Ruling;
-ghost use mathlib.Core.Path.{_≡_};
-ghost use mathlib.Core.List.{List};
-ghost use Prim.Native.Nat.{ℕ, _*_, _≤_};
-ghost use lib.ListN.{length};
 ghost use Rattle.matching.specs.Edition.{first-edition};
-ghost use Rattle.matching.specs.Host.{opening-number, HostOpens, HostOpenedExactly};
-ghost use Rattle.opening.specs.Meaning.{opening-of, buffers};
-ghost use Rattle.opening_bytes.specs.Opened.{HostOpeningFits, Lends, first-stored, OpeningNumberFits, after};
-
-// Stores the words of the inverse, the witness and the work buffer as bytes.
-fn store(
-    n: usize,
-    table: &[u16],
-    vector: &[u16],
-    spare: &[u16],
-    inverse: &mut [u8],
-    witness: &mut [u8],
-    work: &mut [u8],
-)
-    requires { ⌜ (n * n ≤ length (now table)) × (n ≤ length (now vector)) × (n * n ≤ length (now spare)) ⌝ }
-    requires { ⌜ (2 * (n * n) ≤ length (now inverse)) × (2 * n ≤ length (now witness)) × (2 * (n * n) ≤ length (now work)) ⌝ }
-    ensures { λ _. ⌜ now (inverse .exit) ≡ first-stored (n * n) (now (table .entry)) (now (inverse .entry)) ⌝ }
-    ensures { λ _. ⌜ now (witness .exit) ≡ first-stored n (now (vector .entry)) (now (witness .entry)) ⌝ }
-    ensures { λ _. ⌜ now (work .exit) ≡ first-stored (n * n) (now (spare .entry)) (now (work .entry)) ⌝ }
-{
-    packing::store(table, n * n, inverse);
-    packing::store(vector, n, witness);
-    packing::store(spare, n * n, work);
-}
-
-// Returns the number of opened, and stores the words as bytes unless it is a refusal.
-fn pack(
-    n: usize,
-    opened: Opening,
-    table: &[u16],
-    vector: &[u16],
-    spare: &[u16],
-    inverse: &mut [u8],
-    witness: &mut [u8],
-    work: &mut [u8],
-) -> u64
-    requires { ⌜ (n * n ≤ length (now table)) × (n ≤ length (now vector)) × (n * n ≤ length (now spare)) ⌝ }
-    requires { ⌜ (2 * (n * n) ≤ length (now inverse)) × (2 * n ≤ length (now witness)) × (2 * (n * n) ≤ length (now work)) ⌝ }
-    requires { ⌜ OpeningNumberFits (opening-of opened) ⌝ }
-    ensures { λ r. ⌜ r ≡ opening-number (opening-of opened) ⌝ }
-    ensures { λ _.
-        ⌜ ((new old : List ℕ)
-        → buffers (now (inverse .exit)) new (now (witness .exit)) (now (work .exit))
-        ≡ after n (opening-of opened)
-        (buffers (now (table .entry)) new (now (vector .entry)) (now (spare .entry)))
-        (buffers (now (inverse .entry)) old (now (witness .entry)) (now (work .entry)))) ⌝ }
-{
-    match opened {
-        Opening::Opened(session) => {
-            store(n, table, vector, spare, inverse, witness, work);
-            numbers::carried(1, 0, session.made as u64)
-        }
-        Opening::Singular(f) => {
-            store(n, table, vector, spare, inverse, witness, work);
-            numbers::carried(2, f as u64, 0)
-        }
-        Opening::Refused(refusal) => numbers::refused(refusal),
-    }
-}
+ghost use Rattle.matching.specs.Host.{HostOpens, HostOpenedExactly};
+ghost use Rattle.opening.specs.Meaning.{buffers};
+ghost use Rattle.opening_bytes.specs.Opened.{HostOpeningFits, Lends};
 
 // Opens over lent words: unpacks the weights that the graph needs, opens the session on words, and packs what that leaves.
 fn open_over(
@@ -89,7 +28,7 @@ fn open_over(
 {
     packing::unpack(weights, values);
     let opened = opening::begin(n, adjacency, values, table, sequence, vector, spare);
-    pack(n, opened, table, vector, spare, inverse, witness, work)
+    opening_pack::pack(n, opened, table, vector, spare, inverse, witness, work)
 }
 
 // Calls open_over with words of its own. A small graph has fewer, which take less time to clear.

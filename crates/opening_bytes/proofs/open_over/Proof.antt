@@ -10,7 +10,8 @@ use Rattle.matching.specs.Pairs.{everything}
 use Rattle.matching.specs.Host.{words}
 use Rattle.opening.specs.Meaning.{opening-of, buffers}
 use Rattle.crossing.specs.Needed.{needed-weights}
-use Rattle.opening_bytes.specs.Opened.{opening-number-fits, weights-fit, inverse-fits, witness-fits, work-fits, host-opens}
+use Rattle.opening_pack.specs.Packed.{opening-number-fits}
+use Rattle.opening_bytes.specs.Opened.{weights-fit, inverse-fits, witness-fits, work-fits, host-opens}
 use borrow.Author.Needs.{needs}
 use Rattle.opening_bytes.proofs.open_over.Statement.{statement}
 use Rattle.opening_bytes.proofs.open_over.Tie as tie

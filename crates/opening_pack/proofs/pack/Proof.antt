@@ -1,12 +1,12 @@
--- `opening_bytes::pack` meets its contract. Assumes nothing.
+-- `opening_pack::pack` meets its contract. Assumes nothing.
 use mathlib.Core.Path.{_≡_, refl, subst}
 use native.Mathlib.Omega.{arith}
 use Rattle.opening.specs.declared.Opening.{Opening}
 use Rattle.opening.specs.Meaning.{opening-of}
-use Rattle.opening_bytes.specs.Opened.{OpeningNumberFits}
+use Rattle.opening_pack.specs.Packed.{OpeningNumberFits}
 use borrow.Author.Needs.{needs}
-use Rattle.opening_bytes.proofs.pack.Statement.{statement}
-use Rattle.opening_bytes.proofs.pack.Tie as tie
+use Rattle.opening_pack.proofs.pack.Statement.{statement}
+use Rattle.opening_pack.proofs.pack.Tie as tie
 
 abbrev start : tie.After-slice-known3 → tie.Start
 start at = at .before .before .before .before .before .before

@@ -1,0 +1,2 @@
+-- What an opening leaves, as bytes.
+pub mod Packed
