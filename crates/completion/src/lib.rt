@@ -18,7 +18,8 @@ pub fn complete(
     ensures { λ made.
         ⌜ ((weights : List ℕ)
         → Known n 0 (now (adjacency .entry)) weights (now (inverse .entry)) (now (sequence .entry)) (now (marks .entry))
-        → CompletedFrom (state n 0 (now (adjacency .entry)) weights (now (inverse .entry)) (now (sequence .entry))) made (now (sequence .exit))) ⌝ }
+        → CompletedFrom (state n 0 (now (adjacency .entry)) weights (now (inverse .entry)) (now (sequence .entry))) made
+        (now (sequence .exit))) ⌝ }
 {
     let mut made = 0;
     // made picks were accepted so far; each matches two more vertices, so the loop ends.

@@ -39,8 +39,8 @@ fn accepts(changed: bool, answer: Answer) -> bool
     }
 }
 
-// Makes the calls of a list, one for each answer, on a session that is known to be sound. Every call keeps it so, and the answers before i are
-// those of the calls before i.
+// Makes the calls of a list, one for each answer, on a session that is known to be sound. Every call keeps it so, and the answers before i
+// are those of the calls before i.
 fn run(
     n: usize,
     start: usize,

@@ -1,7 +1,8 @@
 // The entries that a host calls with numbers and byte slices. Words cross as two bytes, low first (docs/HOST.md).
 ghost use mathlib.Core.Path.{_≡_};
 ghost use Rattle.matching.specs.Edition.{first-edition};
-ghost use Rattle.matching.specs.Host.{HostOpens, HostOpenedExactly, HostHandles, HostPickedExactly, HostShowsRow, HostReads, HostDraws, handed-back};
+ghost use Rattle.matching.specs.Host.{HostOpens, HostOpenedExactly, HostHandles, HostPickedExactly, HostShowsRow};
+ghost use Rattle.matching.specs.Host.{HostReads, HostDraws, handed-back};
 ghost use Rattle.matching.specs.Model.{pick, automatic, undo};
 ghost use Rattle.matching.specs.Replay.{HostReplays, HostDemandThree};
 ghost use Rattle.matching.specs.Session.{state};

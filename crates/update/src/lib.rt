@@ -70,7 +70,9 @@ fn update_row(row: &mut [u16], u: &[u16], v: &[u16], f: u16, h: u16)
 // Adds y(i) times u and x(i) times v to each row i.
 fn update_rows(t: &mut [u16], n: usize, x: &[u16], y: &[u16], u: &[u16], v: &[u16])
     requires { ⌜ Updating n (now t) (now x) (now y) (now u) (now v) ⌝ }
-    ensures { λ _. ⌜ UpdatedTo modulus n n (now (x .entry)) (now (y .entry)) (now (u .entry)) (now (v .entry)) (now (t .entry)) (now (t .exit)) ⌝ }
+    ensures { λ _.
+        ⌜ UpdatedTo modulus n n (now (x .entry)) (now (y .entry)) (now (u .entry)) (now (v .entry))
+        (now (t .entry)) (now (t .exit)) ⌝ }
 {
     let mut i = 0;
     while i < n {
