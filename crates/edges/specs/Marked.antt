@@ -7,7 +7,8 @@ use lib.ListN.{getD, set}
 use Rattle.matching.specs.Edition.{Edition}
 use Rattle.matching.specs.Pairs.{Pair, pair-of}
 use Rattle.matching.specs.Model.{Named}
-use Rattle.matching.specs.Records.{share, weighted, Takes, takes-share, Rejects, not-two, stood-already, cells}
+use Rattle.matching.specs.Filling.{cells}
+use Rattle.matching.specs.Records.{share, weighted, Takes, takes-share, Rejects, not-two, stood-already}
 use Rattle.matching.specs.Computed.{among-bit}
 use Rattle.laws.specs.Cells.{cells-at, cells-more}
 use Rattle.edges.specs.declared.Mark.{Mark}

@@ -8,7 +8,8 @@ use lib.ListN.{length}
 use Rattle.matching.specs.Decision.{because}
 use Rattle.matching.specs.Edition.{Edition}
 use Rattle.matching.specs.Pairs.{Pair, pair-of}
-use Rattle.matching.specs.Records.{weighted, takes-end, sheet, unread, cells}
+use Rattle.matching.specs.Filling.{cells}
+use Rattle.matching.specs.Records.{weighted, takes-end, sheet, unread}
 use Rattle.matching.specs.Computed.{only-edges}
 use Rattle.records.specs.Stands.{Stands}
 use Rattle.records.specs.declared.Ends.{Ends}

@@ -8,7 +8,7 @@ ghost use mathlib.Core.List.{List, []};
 ghost use Prim.Native.Nat.{ℕ};
 ghost use Rattle.lists.specs.Table.{Square};
 ghost use Rattle.matching.specs.Edition.{Edition};
-ghost use Rattle.matching.specs.Records.{cells};
+ghost use Rattle.matching.specs.Filling.{cells};
 ghost use Rattle.edges.specs.Marked.{Marked};
 ghost use Rattle.edges.specs.Stepped.{Stepped, EdgesRead};
 

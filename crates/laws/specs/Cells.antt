@@ -12,7 +12,7 @@ use Rattle.lists.specs.Table.{index-of, index-row, index-column, index-below}
 use Rattle.lists.specs.Choose.{choose-yes, choose-no}
 use Rattle.matching.specs.Pairs.{Pair, pair-of}
 use Rattle.matching.specs.Model.{Named}
-use Rattle.matching.specs.Records.{Same, same?, among, cells}
+use Rattle.matching.specs.Filling.{Same, same?, among, cells}
 use Rattle.laws.specs.ModelLaws.{pair-of-smaller, pair-of-larger}
 
 pub pair-of-swap : (a b : ℕ) → a ≢ b → pair-of a b ≡ pair-of b a

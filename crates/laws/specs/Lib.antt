@@ -15,16 +15,21 @@ pub mod CallOutcome
 -- Demand 3.
 pub mod Demand
 pub mod Fresh
--- The reader, and one outcome for the row of a vertex, replay, the reader and the listing.
+-- Edges in a table; what either reader fills; the reader of a sheet, and one outcome for the row of a vertex, replay, the reader and the
+-- listing.
 pub mod Cells
+pub mod Edges
+pub mod Filling
 pub mod Reading
 pub mod Bounds
 pub mod Longest
 pub mod Outcomes
-pub mod Sheets
--- The host: its number, words as bytes, and demand 3 by single calls.
+-- The host: its number, words as bytes, reading, and demand 3 by single calls.
 pub mod Numbers
 pub mod Words
+pub mod HostFilling
+pub mod Sheets
+pub mod Texts
 pub mod HostDemand
 -- The index of a weight.
 pub mod Weights

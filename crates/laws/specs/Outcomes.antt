@@ -19,13 +19,15 @@ use Rattle.matching.specs.Opening.{Singular}
 use Rattle.matching.specs.Model.{skew, automatic, pairs-after, Nonsingular, PicksToCome}
 use Rattle.matching.specs.Calls.{state-after, row-ruling, ShowsRow, shows, row-refused}
 use Rattle.matching.specs.Replay.{call-count, calls-of, lent-answers, list-causes, replay-ruling, numbers-of, Replays, refuses-replay, replays}
-use Rattle.matching.specs.Records.{Reading, sheet, unread, ReadsFrom, ReadsAs, graph, Read, not-read, graph-read, room, FillsFrom, refuses-records, lacks-room, fills}
+use Rattle.matching.specs.Filling.{graph, Read, not-read}
+use Rattle.matching.specs.Records.{Reading, sheet, unread, ReadsFrom, ReadsAs, FillsFrom, refuses-records, reads-records}
 use Rattle.matching.specs.Computed.{read-from, read}
 use Rattle.matching.specs.Listing.{players-of, input-limit, first-line, pair-lines, witness-lines, line-full, line-none, refused-line, Lists, refuses-sheet, pairs-up, shows-witness}
 use Rattle.laws.specs.Sound.{more-accepted}
 use Rattle.laws.specs.CallOutcome.{runs-some, runs-unique}
 use Rattle.laws.specs.ModelLaws.{picks-to-come, picks-to-come-half}
 use Rattle.laws.specs.OpeningOutcome.{singular-of, singular-unique}
+use Rattle.laws.specs.Filling.{filled-some, filled-unique}
 use Rattle.laws.specs.Reading.{reads-unique}
 
 never : {A : Type 0} → _≡_ {A = ℕ} 0 1 → A
@@ -71,15 +73,11 @@ module _ {p : ℕ} (P : OddPrime p) where
       (refl, ap (λ l. state-after s l (length l)) q, ap (λ l. onto (numbers-of l) answers) q)
 
 pub fills-some : (E : Edition) (bytes : List ℕ) (at : ℕ) (adjacency weights : List ℕ) → (o : Read) × (a : List ℕ) × (w : List ℕ) × FillsFrom E bytes at adjacency weights o a w
-fills-some E bytes at adjacency weights = by-reading (read-from E bytes at .reading) (read-from E bytes at .reads)
+fills-some E bytes at adjacency weights = go (read-from E bytes at .reading) (read-from E bytes at .reads)
   where
-    by-reading : (r : Reading) → ReadsFrom E bytes at r → (o : Read) × (a : List ℕ) × (w : List ℕ) × FillsFrom E bytes at adjacency weights o a w
-    by-reading (unread why) R = (not-read why, adjacency, weights, refuses-records R)
-    by-reading (sheet n drawn edges) R = go (room n adjacency weights) refl
-      where
-        go : (v : Ruling) → room n adjacency weights ≡ v → (o : Read) × (a : List ℕ) × (w : List ℕ) × FillsFrom E bytes at adjacency weights o a w
-        go accepted e = (graph-read n (length edges), _, _, fills R e)
-        go (refused why) e = (not-read why, adjacency, weights, lacks-room R e)
+    go : (r : Reading) → ReadsFrom E bytes at r → (o : Read) × (a : List ℕ) × (w : List ℕ) × FillsFrom E bytes at adjacency weights o a w
+    go (unread why) R = (not-read why, adjacency, weights, refuses-records R)
+    go (sheet n drawn edges) R = let h = filled-some n drawn edges adjacency weights in (_, _, _, reads-records R (h .3))
 
 -- equal sheets have equal parts
 sheets : {n n′ : ℕ} {drawn drawn′ : List ℕ} {edges edges′ : List Pair} → sheet n drawn edges ≡ sheet n′ drawn′ edges′
@@ -89,18 +87,10 @@ sheets e = (cc, cc, cc)
 pub fills-unique : {E : Edition} {bytes adjacency weights a a′ w w′ : List ℕ} {at : ℕ} {o o′ : Read} → FillsFrom E bytes at adjacency weights o a w → FillsFrom E bytes at adjacency weights o′ a′ w′
     → (o ≡ o′) × (a ≡ a′) × (w ≡ w′)
 fills-unique (refuses-records R) (refuses-records R′) = let q = reads-unique R R′ in (cc, refl, refl)
-fills-unique (refuses-records R) (lacks-room R′ f′) = let q = reads-unique R R′ in never (cc)
-fills-unique (refuses-records R) (fills R′ f′) = let q = reads-unique R R′ in never (cc)
-fills-unique (lacks-room R f) (refuses-records R′) = let q = reads-unique R R′ in never (cc)
-fills-unique (lacks-room R f) (lacks-room R′ f′) =
-    let q = sheets (reads-unique R R′) .0 in let g = rw (← q) at f′ in (cc, refl, refl)
-fills-unique (lacks-room R f) (fills R′ f′) =
-    let q = sheets (reads-unique R R′) .0 in let g = rw (← q) at f′ in never (cc)
-fills-unique (fills R f) (refuses-records R′) = let q = reads-unique R R′ in never (cc)
-fills-unique (fills R f) (lacks-room R′ f′) =
-    let q = sheets (reads-unique R R′) .0 in let g = rw (← q) at f′ in never (cc)
-fills-unique (fills R f) (fills R′ f′) =
-    let q = sheets (reads-unique R R′) in rw (q .0, q .1, q .2) (refl, refl, refl)
+fills-unique (refuses-records R) (reads-records R′ F′) = let q = reads-unique R R′ in never (cc)
+fills-unique (reads-records R F) (refuses-records R′) = let q = reads-unique R R′ in never (cc)
+fills-unique (reads-records R F) (reads-records R′ F′) =
+    let q = sheets (reads-unique R′ R) in filled-unique F (rw (q .0, q .1, q .2) at F′)
 
 pub lists-some : (E : Edition) (input : List ℕ) → (text : List ℕ) × Lists E input text
 unfolding graph unmatched

@@ -10,14 +10,16 @@ use Rattle.matching.specs.Decision.{Refusal}
 use Rattle.matching.specs.Edition.{first-edition}
 use Rattle.matching.specs.Graph.{over, largest}
 use Rattle.matching.specs.Pairs.{Pair}
-use Rattle.matching.specs.Records.{sheet, ReadsAs, cells, graph, graph-read, not-read, Fills, refuses-records, lacks-room, fills}
+use Rattle.matching.specs.Filling.{cells, graph, graph-read, not-read, lacks-room, fills}
+use Rattle.matching.specs.Records.{sheet, ReadsAs, Fills, refuses-records, reads-records}
 use Rattle.matching.specs.Listing as definition
 use Rattle.matching.specs.Listing.{input-limit, text-room, first-line, refused-line, Lists, refuses-sheet, pairs-up, shows-witness, ListsInto, lists-into}
 use Rattle.laws.specs.Cells.{cells-length}
-use Rattle.laws.specs.Reading.{reads-fit, sheet-in-order}
-use Rattle.laws.specs.Bounds.{reads-edges}
+use Rattle.laws.specs.Edges.{few-edges}
+use Rattle.laws.specs.Filling.{graph-in-order}
+use Rattle.laws.specs.Reading.{reads-fit}
 use Rattle.checks.specs.Weights.{needed, needed-all, needed-small}
-use Rattle.sheet.specs.Filled.{room-enough, drawn-needed}
+use Rattle.filling.specs.Written.{room-enough, drawn-needed}
 use Rattle.text.specs.Puts.{puts-first}
 use Rattle.verdict.specs.Lines.{Writes, Verdict, full, none, GraphLines, Acceptable}
 
@@ -35,7 +37,7 @@ pub record Tables (bytes adjacency weights text : List ℕ) : Type 0 where
 -- a sheet that was read: its graph, over just the cells and the weights that it needs, and the listing of its lines
 pub record Sheet (bytes : List ℕ) (n m : ℕ) (adjacency weights : List ℕ) : Type 0 where
   pub small : n ≤ largest
-  pub few-edges : m ≤ length bytes
+  pub few-edges : m ≤ 4560
   pub lent : Acceptable (over n (take (n * n) adjacency) (take (needed n) weights))
   pub lists : {text : List ℕ} → GraphLines (over n (take (n * n) adjacency) (take (needed n) weights)) m text → ListsBytes bytes text
 
@@ -51,14 +53,14 @@ sheet-lists {bytes} {drawn} {text} {n} {edges} R G input e = rw (G .all) (go (G 
 
 pub sheet-read : {bytes adjacency weights adjacency′ weights′ : List ℕ} {n m : ℕ} → Fills first-edition bytes adjacency weights (graph-read n m) adjacency′ weights′
     → Sheet bytes n m adjacency′ weights′
-sheet-read {bytes} {adjacency} {weights} {n = n} {m = m} (fills {drawn = drawn} {edges = edges} R e) =
+sheet-read {bytes} {adjacency} {weights} {n = n} {m = m} (reads-records {drawn = drawn} {edges = edges} R (fills e)) =
     let F = reads-fit R refl tt in
     let a : take (n * n) (onto (cells n edges) adjacency) ≡ cells n edges = onto-front (cells n edges) adjacency (n * n) (cells-length n edges) in
     let w : take (needed n) (onto drawn weights) ≡ drawn = onto-front drawn weights (needed n) (drawn-needed F) in
-    let k = rw (onto-nothing (cells n edges), onto-nothing drawn) at (sheet-in-order F [] []) in
+    let k = rw (onto-nothing (cells n edges), onto-nothing drawn) at (graph-in-order F [] []) in
     record {
       small = F .small;
-      few-edges = omega (arith, reads-edges R refl);
+      few-edges = few-edges n edges (F .small) (F .edges-fit) (F .different);
       lent = rw (a, w) (record { in-order = k .1; long = k .0 });
       lists = λ G. sheet-lists R (rw (a, w) at G);
     }
@@ -67,7 +69,7 @@ sheet-read {bytes} {adjacency} {weights} {n = n} {m = m} (fills {drawn = drawn} 
 pub sheet-refused : {bytes adjacency weights adjacency′ weights′ : List ℕ} {why : Refusal} → length adjacency ≡ 9216 → length weights ≡ 4560
     → Fills first-edition bytes adjacency weights (not-read why) adjacency′ weights′ → ListsBytes bytes (refused-line why)
 sheet-refused {why = why} la lw (refuses-records R) input e = refuses-sheet {r = why} (rw e R)
-sheet-refused {adjacency = adjacency} {weights = weights} la lw (lacks-room {n = n} R e) input _ =
+sheet-refused {adjacency = adjacency} {weights = weights} la lw (reads-records {n = n} R (lacks-room e)) input _ =
     let F = reads-fit R refl tt in
     let enough = room-enough n adjacency weights (omega (arith, square-small n (F .small))) (omega (arith, needed-small n, needed-all n (F .small))) in
     absurd (let z : _≡_ {A = ℕ} 0 1 = cc in omega arith)

@@ -1,5 +1,5 @@
 // The listing of a sheet as text in a lent buffer.
-use sheet::Read;
+use filling::Read;
 ghost use Prim.Native.Nat.{_≤_};
 ghost use lib.ListN.{length};
 ghost use Rattle.matching.specs.Edition.{first-edition};

@@ -6,6 +6,7 @@ use native.Mathlib.Decide.{decLt}
 use lib.ListN.{length, getD, take, replicate}
 use Rattle.lists.specs.Table.{vector}
 use Rattle.lists.specs.Onto.{onto}
+use Rattle.draws.specs.Draws.{draws}
 use Rattle.residue.specs.Modulus.{modulus, modulus-prime}
 use Rattle.skew.specs.Decide.{first-dependent?}
 use Rattle.matching.specs.Decision.{Refusal, Ruling, every?, accepted, refused}
@@ -19,10 +20,14 @@ use Rattle.matching.specs.Opening.{Opening, opened, singular, not-opened
 use Rattle.matching.specs.Display.{Part, display}
 use Rattle.matching.specs.Model.{Call, automatic, Answer, done, denied, skew, Nonsingular, nonsingular?, answered, pairs-after, PicksToCome}
 use Rattle.matching.specs.Calls.{Returned, state-after, model-step, Handles, unsound, refuses, carries, Runs, none, more, row-ruling, open-row, ShowsRow, shows, row-refused}
-use Rattle.matching.specs.Records.{Reading, sheet, unread, ReadsAs, cells, graph, Read, graph-read, not-read, room, Fills, lacks-room, fills}
+use Rattle.matching.specs.Filling.{cells, graph, Read, graph-read, not-read, room, Filled, lacks-room, fills}
+use Rattle.matching.specs.Records.{Reading, sheet, unread, ReadsAs, Fills, reads-records}
+use Rattle.matching.specs.Dimacs as dimacs
+use Rattle.matching.specs.Dimacs.{ReadsText, FillsText, refuses-lines, reads-lines}
 use Rattle.matching.specs.Computed.{read}
+use Rattle.matching.specs.DimacsComputed.{read-text}
 use Rattle.matching.specs.Listing.{input-limit, first-line, pair-lines, witness-lines, line-full, line-none, refused-line, Lists, refuses-sheet, pairs-up, shows-witness}
-use Rattle.matching.specs.Host.{opening-number, answer-number, row-number, words, bytes-of, unpacked-state, state-stored, HostHandles, read-number, weights-stored, HostReads, draws-ruling, draws-number, draws-stored, HostDraws}
+use Rattle.matching.specs.Host.{opening-number, answer-number, row-number, words, bytes-of, unpacked-state, state-stored, HostHandles, read-number, weights-stored, HostReads, in-lines, HostReadsText, draws-ruling, draws-number, draws-stored, HostDraws}
 use Rattle.matching.specs.Replay.{calls-of, numbers-of, replay-ruling, Replays, refuses-replay, replays, replay-number, replay-stored, HostReplays}
 
 -- n vertices with these edges and weights
@@ -93,6 +98,10 @@ pub data Claim : Type 0 where
   reads : List ℕ → Reading → Claim
   -- reading these bytes into an adjacency table and weights gives this answer, and leaves these
   filling : List ℕ → List ℕ → List ℕ → Read → List ℕ → List ℕ → Claim
+  -- the reading of these bytes as a text in the DIMACS edge format
+  reads-text : List ℕ → dimacs.Reading → Claim
+  -- reading such a text with this seed into an adjacency table and weights gives this answer, and leaves these
+  filling-text : (seed : ℕ) (bytes adjacency weights : List ℕ) → Read → (adjacency′ weights′ : List ℕ) → Claim
   -- the listing of this input, whose graph opens
   lists : List ℕ → List ℕ → Claim
   -- the listing of this input, whose graph has this witness of this column
@@ -112,6 +121,10 @@ pub data Claim : Type 0 where
   host-replayed : State → (numbers answers : List ℕ) → List Returned → (left : State) → ℕ → State → List ℕ → Claim
   -- a sheet through the host into an adjacency table and the weights' bytes: the answer and the words left, the number, and the bytes afterwards
   host-reads : (bytes adjacency weights : List ℕ) → Read → (left : List ℕ) → ℕ → (adjacency′ weights′ : List ℕ) → Claim
+  -- a text with this seed through the host: as for a sheet
+  host-reads-text : (seed : ℕ) (bytes adjacency weights : List ℕ) → Read → (left : List ℕ) → ℕ → (adjacency′ weights′ : List ℕ) → Claim
+  -- the host's number of a text that is refused
+  host-text-refused : Refusal → ℕ → Claim
   -- the draws of a seed through the host, for n vertices: the number, and the weights' bytes afterwards
   host-draws : (n seed : ℕ) (weights : List ℕ) → ℕ → List ℕ → Claim
 
@@ -148,6 +161,8 @@ Holds (no-replay s numbers old r) = Replays modulus-prime s numbers old (refused
 Holds (displayed n inverse words part) = display n inverse words ≡ part
 Holds (reads bytes r) = ReadsAs first-edition bytes r
 Holds (filling bytes adjacency weights o adjacency′ weights′) = Fills first-edition bytes adjacency weights o adjacency′ weights′
+Holds (reads-text bytes r) = ReadsText bytes r
+Holds (filling-text seed bytes adjacency weights o adjacency′ weights′) = FillsText first-edition seed bytes adjacency weights o adjacency′ weights′
 Holds (lists input text) = Lists first-edition input text
 Holds (lists-witness input f words text) = Lists first-edition input text
 Holds (lists-refusal input r text) = Lists first-edition input text
@@ -159,6 +174,8 @@ Holds (host-bytes w ws old new) = onto (bytes-of w ws) old ≡ new
 Holds (host-handled s c e left k after) = HostHandles first-edition s c k after
 Holds (host-replayed s numbers old returned left k after new) = HostReplays first-edition s numbers old k after new
 Holds (host-reads bytes adjacency weights o left k adjacency′ weights′) = HostReads first-edition bytes adjacency weights k adjacency′ weights′
+Holds (host-reads-text seed bytes adjacency weights o left k adjacency′ weights′) = HostReadsText first-edition seed bytes adjacency weights k adjacency′ weights′
+Holds (host-text-refused r k) = read-number (in-lines (not-read r)) ≡ k
 Holds (host-draws n seed weights k weights′) = HostDraws first-edition n seed weights k weights′
 
 -- every claim of a list
@@ -281,24 +298,50 @@ listed-witness input f words text (sheet n weights edges) q e =
     subst (λ (t : List ℕ). Lists first-edition input t) (e .2)
     (shows-witness (shown-read (take input-limit input) q) (e .0) (shown-singular (graph n weights edges) f words (e .1)))
 
-unfoldable pub ShownFilling : Reading → List ℕ → List ℕ → Read → List ℕ → List ℕ → Type 0
-ShownFilling (unread r) adjacency weights o adjacency′ weights′ = ⊥
-ShownFilling (sheet n drawn edges) adjacency weights (not-read r) adjacency′ weights′ =
+-- a graph that is read is filled so
+unfoldable pub ShownFilled : ℕ → List ℕ → List Pair → (adjacency weights : List ℕ) → Read → (adjacency′ weights′ : List ℕ) → Type 0
+ShownFilled n drawn edges adjacency weights (not-read r) adjacency′ weights′ =
     (room n adjacency weights ≡ refused r) × (adjacency ≡ adjacency′) × (weights ≡ weights′)
-ShownFilling (sheet n drawn edges) adjacency weights (graph-read m k) adjacency′ weights′ =
+ShownFilled n drawn edges adjacency weights (graph-read m k) adjacency′ weights′ =
     (room n adjacency weights ≡ accepted)
     × (graph-read n (length edges) ≡ graph-read m k)
     × (onto (cells n edges) adjacency ≡ adjacency′)
     × (onto drawn weights ≡ weights′)
 
+shown-filled : (n : ℕ) (drawn : List ℕ) (edges : List Pair) (adjacency weights : List ℕ) (o : Read) (adjacency′ weights′ : List ℕ)
+    → ShownFilled n drawn edges adjacency weights o adjacency′ weights′ → Filled n drawn edges adjacency weights o adjacency′ weights′
+unfolding ShownFilled
+shown-filled n drawn edges adjacency weights (not-read r) adjacency′ weights′ e = rw (← e .1, ← e .2) (lacks-room (e .0))
+shown-filled n drawn edges adjacency weights (graph-read m k) adjacency′ weights′ e = rw (← e .1, ← e .2, ← e .3) (fills (e .0))
+
+unfoldable pub ShownFilling : Reading → List ℕ → List ℕ → Read → List ℕ → List ℕ → Type 0
+unfolding ShownFilled
+ShownFilling (unread r) adjacency weights o adjacency′ weights′ = ⊥
+ShownFilling (sheet n drawn edges) adjacency weights o adjacency′ weights′ = ShownFilled n drawn edges adjacency weights o adjacency′ weights′
+
 filled : (bytes adjacency weights : List ℕ) (o : Read) (adjacency′ weights′ : List ℕ) (r : Reading) → read first-edition bytes .reading ≡ r
     → ShownFilling r adjacency weights o adjacency′ weights′ → Fills first-edition bytes adjacency weights o adjacency′ weights′
 unfolding ShownFilling
 filled bytes adjacency weights o adjacency′ weights′ (unread r) q e = absurd e
-filled bytes adjacency weights (not-read r) adjacency′ weights′ (sheet n drawn edges) q e =
-    rw (← e .1, ← e .2) (lacks-room (shown-read bytes q) (e .0))
-filled bytes adjacency weights (graph-read m k) adjacency′ weights′ (sheet n drawn edges) q e =
-    rw (← e .1, ← e .2, ← e .3) (fills (shown-read bytes q) (e .0))
+filled bytes adjacency weights o adjacency′ weights′ (sheet n drawn edges) q e =
+    reads-records (shown-read bytes q) (shown-filled n drawn edges adjacency weights o adjacency′ weights′ e)
+
+-- the same of a text, which may be refused for its lines
+shown-read-text : (bytes : List ℕ) {r : dimacs.Reading} → read-text bytes .reading ≡ r → ReadsText bytes r
+shown-read-text bytes e = subst (λ (q : dimacs.Reading). ReadsText bytes q) e (read-text bytes .reads)
+
+unfoldable pub ShownText : ℕ → dimacs.Reading → List ℕ → List ℕ → Read → List ℕ → List ℕ → Type 0
+unfolding ShownFilled
+ShownText seed (dimacs.unread r) adjacency weights o adjacency′ weights′ = (not-read r ≡ o) × (adjacency ≡ adjacency′) × (weights ≡ weights′)
+ShownText seed (dimacs.text n edges) adjacency weights o adjacency′ weights′ =
+    ShownFilled n (draws (first-edition .draw) seed (pair-count n)) edges adjacency weights o adjacency′ weights′
+
+filled-text : (seed : ℕ) (bytes adjacency weights : List ℕ) (o : Read) (adjacency′ weights′ : List ℕ) (r : dimacs.Reading) → read-text bytes .reading ≡ r
+    → ShownText seed r adjacency weights o adjacency′ weights′ → FillsText first-edition seed bytes adjacency weights o adjacency′ weights′
+unfolding ShownText
+filled-text seed bytes adjacency weights o adjacency′ weights′ (dimacs.unread r) q e = rw (← e .0, ← e .1, ← e .2) (refuses-lines (shown-read-text bytes q))
+filled-text seed bytes adjacency weights o adjacency′ weights′ (dimacs.text n edges) q e =
+    reads-lines (shown-read-text bytes q) (shown-filled n (draws (first-edition .draw) seed (pair-count n)) edges adjacency weights o adjacency′ weights′ e)
 
 unfoldable pub Shown : Claim → Type 0
 Shown (opening g inverse) =
@@ -331,6 +374,8 @@ Shown (no-replay s numbers old r) = replay-ruling modulus-prime s numbers old �
 Shown (displayed n inverse words part) = display n inverse words ≡ part
 Shown (reads bytes r) = read first-edition bytes .reading ≡ r
 Shown (filling bytes adjacency weights o adjacency′ weights′) = ShownFilling (read first-edition bytes .reading) adjacency weights o adjacency′ weights′
+Shown (reads-text bytes r) = read-text bytes .reading ≡ r
+Shown (filling-text seed bytes adjacency weights o adjacency′ weights′) = ShownText seed (read-text bytes .reading) adjacency weights o adjacency′ weights′
 Shown (lists input text) = ShownListed (read first-edition (take input-limit input) .reading) text
 Shown (lists-witness input f words text) = ShownWitness (read first-edition (take input-limit input) .reading) f words text
 Shown (lists-refusal input r text) = (read first-edition (take input-limit input) .reading ≡ unread r) × (refused-line r ≡ text)
@@ -349,6 +394,11 @@ Shown (host-reads bytes adjacency weights o left k adjacency′ weights′) =
     ShownFilling (read first-edition (take input-limit bytes) .reading) adjacency (words (first-edition .width) weights) o adjacency′ left
     × (k ≡ read-number o)
     × (weights′ ≡ weights-stored first-edition o left weights)
+Shown (host-reads-text seed bytes adjacency weights o left k adjacency′ weights′) =
+    ShownText seed (read-text bytes .reading) adjacency (words (first-edition .width) weights) o adjacency′ left
+    × (k ≡ read-number (in-lines o))
+    × (weights′ ≡ weights-stored first-edition o left weights)
+Shown (host-text-refused r k) = read-number (in-lines (not-read r)) ≡ k
 Shown (host-draws n seed weights k weights′) =
     (k ≡ draws-number (draws-ruling first-edition n weights) n) × (weights′ ≡ draws-stored first-edition (draws-ruling first-edition n weights) n seed weights)
 
@@ -377,6 +427,9 @@ enough (no-replay s numbers old r) e = refuses-replay r e
 enough (displayed n inverse words part) e = e
 enough (reads bytes r) e = shown-read bytes e
 enough (filling bytes adjacency weights o adjacency′ weights′) e = filled bytes adjacency weights o adjacency′ weights′ (read first-edition bytes .reading) refl e
+enough (reads-text bytes r) e = shown-read-text bytes e
+enough (filling-text seed bytes adjacency weights o adjacency′ weights′) e =
+    filled-text seed bytes adjacency weights o adjacency′ weights′ (read-text bytes .reading) refl e
 enough (lists input text) e = listed input text (read first-edition (take input-limit input) .reading) refl e
 enough (lists-witness input f words text) e = listed-witness input f words text (read first-edition (take input-limit input) .reading) refl e
 enough (lists-refusal input r text) e =
@@ -402,6 +455,14 @@ enough (host-reads bytes adjacency weights o left k adjacency′ weights′) e =
   numbered = e .1;
   stored = e .2;
 }
+enough (host-reads-text seed bytes adjacency weights o left k adjacency′ weights′) e = record {
+  given = o;
+  left = left;
+  outcome = filled-text seed bytes adjacency (words (first-edition .width) weights) o adjacency′ left (read-text bytes .reading) refl (e .0);
+  numbered = e .1;
+  stored = e .2;
+}
+enough (host-text-refused r k) e = e
 enough (host-draws n seed weights k weights′) e = record { numbered = e .0; stored = e .1 }
 
 pub all : (claims : List Claim) → All Shown claims → All Holds claims

@@ -13,7 +13,8 @@ use Rattle.matching.specs.Edition.{Edition}
 use Rattle.matching.specs.Graph.{largest, pair-count}
 use Rattle.matching.specs.Pairs.{Pair, pair-of}
 use Rattle.matching.specs.Model.{Named, named?}
-use Rattle.matching.specs.Records.{Record, size, share, seed, end, kind, width, four, Begins, begins-size, begins-share, begins-seed, begins-end, Progress, start, sized, weighted, ended, Due, size-due, seed-due, share-due, end-due, among, Same, same?, takes-size, takes-seed, takes-share, takes-end, too-large-size, not-two, stood-already, Reading, unread, Reads, whole, not-due, stops, cut, rejected, goes-on}
+use Rattle.matching.specs.Filling.{among, Same, same?}
+use Rattle.matching.specs.Records.{Record, size, share, seed, end, kind, width, four, Begins, begins-size, begins-share, begins-seed, begins-end, Progress, start, sized, weighted, ended, Due, size-due, seed-due, share-due, end-due, takes-size, takes-seed, takes-share, takes-end, too-large-size, not-two, stood-already, Reading, unread, Reads, whole, not-due, stops, cut, rejected, goes-on}
 
 pub only-size : {k : ℕ} → k ≢ 1 → ¬ Due start k
 only-size d size-due = d refl

@@ -3,15 +3,15 @@
 use mathlib.Core.Path.{_≡_}
 use mathlib.Core.Logic.{_↔_}
 use mathlib.Core.List.{List, [], _∷_, _++_}
-use Prim.Native.Nat.{ℕ, zero, suc, _+_, _*_, _/_, _%_, _^_, _<_}
-use native.Mathlib.Decide.{ℕ-discrete}
+use Prim.Native.Nat.{ℕ, zero, suc, _+_, _*_, _-_, _/_, _%_, _^_, _<_}
+use native.Mathlib.Decide.{ℕ-discrete, decLt}
 use lib.ListN.{length, getD, take}
 use Rattle.lists.specs.Values.{list-of}
 use Rattle.lists.specs.Choose.{choose}
 use Rattle.lists.specs.Onto.{onto}
 use Rattle.draws.specs.Draws.{draws}
 use Rattle.skew.specs.Inverse.{Invertible}
-use Rattle.matching.specs.Decision.{Refusal, Ruling, accepted, refused, judge}
+use Rattle.matching.specs.Decision.{Refusal, because, Ruling, accepted, refused, judge}
 use Rattle.matching.specs.Edition.{Edition}
 use Rattle.matching.specs.Graph.{over, pair-count, tutte}
 use Rattle.matching.specs.Session.{Session, State, in-play, graph-of, pairs-of}
@@ -19,7 +19,9 @@ use Rattle.matching.specs.Model.{Call, Answer, done, denied, Allowed}
 use Rattle.matching.specs.Causes.{too-large, too-short, lent-weights, session-ruling}
 use Rattle.matching.specs.Opening.{Opening, opened, singular, not-opened, Buffers, ruling, players, Opens}
 use Rattle.matching.specs.Calls.{Handles, ShowsRow}
-use Rattle.matching.specs.Records.{Read, graph-read, not-read, Fills}
+use Rattle.matching.specs.Filling.{Read, graph-read, not-read}
+use Rattle.matching.specs.Records.{Fills}
+use Rattle.matching.specs.Dimacs.{FillsText}
 use Rattle.matching.specs.Listing.{input-limit}
 
 -- the word of the w bytes from an index on, low byte first
@@ -48,11 +50,11 @@ bytes-of w [] = []
 bytes-of w (x ∷ rest) = low-bytes w x ++ bytes-of w rest
 
 -- the one number of a call. Bits 0 to 7: the cause, 0 when none; 8 to 15: the answer-kind; 16 to 31: a value; 32 to 39: the pairs made, or
--- the number of vertices of a sheet that was read
+-- the number of vertices of a graph that was read. The place of a refusal is its value, and if it is a line it has bits 16 to 62
 abbrev pub number : (cause kind value made : ℕ) → ℕ
 number cause kind value made = cause + 2 ^ 8 * kind + 2 ^ 16 * value + 2 ^ 32 * made
 
--- what stands in a number: the cause, the answer-kind, and the number of pairs, or of the vertices of a sheet
+-- what stands in a number: the cause, the answer-kind, the number of pairs, or of the vertices of a graph, and the line of a refusal
 abbrev pub cause-in : ℕ → ℕ
 cause-in answer = answer % 2 ^ 8
 
@@ -61,6 +63,9 @@ kind-in answer = answer / 2 ^ 8 % 2 ^ 8
 
 abbrev pub made-in : ℕ → ℕ
 made-in answer = answer / 2 ^ 32 % 2 ^ 8
+
+abbrev pub line-in : ℕ → ℕ
+line-in answer = answer / 2 ^ 16 % 2 ^ 47
 
 -- the number of a refusal, with its place
 abbrev pub refusal-number : Refusal → ℕ
@@ -183,7 +188,7 @@ module _ (E : Edition) where
     pub numbered : answer ≡ row-number verdict (s .session)
     pub same : after ≡ s
 
--- answer-kind 6: a sheet read, the number of its edges as the value and its number of vertices in place of the pairs
+-- answer-kind 6: a graph read, the number of its edges as the value and its number of vertices in place of the pairs
 abbrev pub read-number : Read → ℕ
 read-number (graph-read n m) = number 0 6 m n
 read-number (not-read r) = refusal-number r
@@ -200,6 +205,22 @@ pub record HostReads (E : Edition) (sheet adjacency weights : List ℕ) (answer 
   pub left : List ℕ
   pub outcome : Fills E (take input-limit sheet) adjacency (words (E .width) weights) given adjacency′ left
   pub numbered : answer ≡ read-number given
+  pub stored : weights′ ≡ weights-stored E given left weights
+
+-- a line as a place, which has 47 bits: 2 ^ 47 - 1 stands for itself and every later line
+abbrev pub line-place : ℕ → ℕ
+line-place line = choose (decLt line (2 ^ 47 - 1)) line (2 ^ 47 - 1)
+
+abbrev pub in-lines : Read → Read
+in-lines (graph-read n m) = graph-read n m
+in-lines (not-read r) = not-read (because (r .cause) (line-place (r .place)))
+
+-- reading a text with a seed beside it through the host: the number, and every byte of the adjacency table and the weights afterwards
+pub record HostReadsText (E : Edition) (seed : ℕ) (bytes adjacency weights : List ℕ) (answer : ℕ) (adjacency′ weights′ : List ℕ) : Type 0 where
+  pub given : Read
+  pub left : List ℕ
+  pub outcome : FillsText E seed bytes adjacency (words (E .width) weights) given adjacency′ left
+  pub numbered : answer ≡ read-number (in-lines given)
   pub stored : weights′ ≡ weights-stored E given left weights
 
 -- causes 1 and 2 of drawing the weights of n vertices

@@ -12,7 +12,8 @@ use Rattle.matching.specs.Edition.{Edition}
 use Rattle.matching.specs.Pairs.{Pair, Pairs, everything}
 use Rattle.matching.specs.Model.{automatic, Nonsingular, pairs-after, PicksToCome}
 use Rattle.matching.specs.Opening.{Singular}
-use Rattle.matching.specs.Records.{sheet, unread, ReadsAs, graph}
+use Rattle.matching.specs.Filling.{graph}
+use Rattle.matching.specs.Records.{sheet, unread, ReadsAs}
 
 -- the most bytes that the program reads
 abbrev pub input-limit : ℕ

@@ -12,7 +12,7 @@ use Rattle.matching.specs.Causes.{opening-ruling, session-ruling}
 use Rattle.matching.specs.Display.{display}
 use Rattle.matching.specs.Model.{pick, automatic, undo, done, denied, nonsingular?, step, answered, pairs-after}
 use Rattle.matching.specs.Calls.{row-ruling, open-row}
-use Rattle.matching.specs.Records.{cells, graph}
+use Rattle.matching.specs.Filling.{cells, graph}
 use Rattle.matching.specs.Computed.{read}
 use Rattle.matching.specs.Listing.{digits, pair-lines, witness-lines}
 use Rattle.matching.specs.Claims.{linked, on, edge, ones, path, complete, ring, Claim, opening, witness, answers, afterwards, by-hand, Holds, All, ShownSingular, ShownListed, ShownWitness, Shown, all}

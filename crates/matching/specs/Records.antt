@@ -2,19 +2,15 @@
 -- and 2 when the whole sheet has been read (document 01, "Sheet records"). Assumes nothing.
 use mathlib.Core.Path.{_≡_}
 use mathlib.Core.List.{List, [], _∷_}
-use Prim.Native.Nat.{ℕ, _+_, _*_, _/_, _%_, _≤_, _<_}
-use native.Mathlib.Decide.{ℕ-discrete}
+use Prim.Native.Nat.{ℕ, _+_, _*_, _≤_, _<_}
 use lib.ListN.{length, drop}
-use Rattle.lists.specs.Values.{list-of}
-use Rattle.lists.specs.Choose.{choose}
-use Rattle.lists.specs.Onto.{onto}
 use Rattle.draws.specs.Draws.{draws}
-use Rattle.matching.specs.Decision.{Refusal, because, both?, Ruling, accepted, refused, judge}
+use Rattle.matching.specs.Decision.{Refusal, because}
 use Rattle.matching.specs.Edition.{Edition}
-use Rattle.matching.specs.Graph.{Graph, over, largest, pair-count}
+use Rattle.matching.specs.Graph.{largest, pair-count}
 use Rattle.matching.specs.Pairs.{Pair, pair-of}
 use Rattle.matching.specs.Model.{Named}
-use Rattle.matching.specs.Causes.{lent-graph, too-short}
+use Rattle.matching.specs.Filling.{among, Read, not-read, Filled}
 
 -- one of four kinds of record, with its body: the size; two vertices that are adjacent (document 01: may share), in
 -- either order; the seed; the end
@@ -64,18 +60,6 @@ pub data Due : Progress → ℕ → Type 0 where
   share-due : {n : ℕ} {weights : List ℕ} {edges : List Pair} → Due (weighted n weights edges) 2
   end-due : {n : ℕ} {weights : List ℕ} {edges : List Pair} → Due (weighted n weights edges) 4
 
-abbrev pub Same : Pair → Pair → Type 0
-Same e f = (e .smaller ≡ f .smaller) × (e .larger ≡ f .larger)
-
-abbrev pub same? : (e f : Pair) → Dec (Same e f)
-same? e f = both? (ℕ-discrete (e .smaller) (f .smaller)) (ℕ-discrete (e .larger) (f .larger))
-
--- 1 if the pair is among the edges, else 0
-unfoldable pub among : Pair → List Pair → ℕ
-unfolding ℕ-discrete
-among e [] = 0
-among e (f ∷ edges) = choose (same? e f) 1 (among e edges)
-
 -- the progress after a record that is due and taken: the seed's draws become the weights
 pub data Takes (E : Edition) : Progress → Record → Progress → Type 0 where
   takes-size : {n : ℕ} → n ≤ largest → Takes E start (size n) (sized n)
@@ -118,34 +102,11 @@ ReadsFrom E bytes at r = Reads E (length bytes) start at (drop at bytes) r
 abbrev pub ReadsAs : Edition → List ℕ → Reading → Type 0
 ReadsAs E bytes r = ReadsFrom E bytes 0 r
 
--- the adjacency table of these edges: 1 in both cells of each edge, 0 elsewhere
-unfoldable pub cells : ℕ → List Pair → List ℕ
-unfolding list-of among pair-of
-cells n edges = list-of (n * n) (λ x. among (pair-of (x / n) (x % n)) edges)
-
--- the graph of a sheet
-unfoldable pub graph : ℕ → List ℕ → List Pair → Graph
-unfolding cells
-graph n weights edges = over n (cells n edges) weights
-
--- what the reader returns: the size and the number of edges, or a refusal
-pub data Read : Type 0 where
-  graph-read : ℕ → ℕ → Read
-  not-read : Refusal → Read
-
--- cause 2 of the two buffers that the reader is lent
-abbrev pub room : ℕ → List ℕ → List ℕ → Ruling
-room n adjacency weights =
-    let g : Graph = over n adjacency weights in
-    judge (too-short (lent-graph g) ∷ [])
-
 -- reading from an offset: the answer, and the adjacency table and the weights afterwards
 pub data FillsFrom (E : Edition) (bytes : List ℕ) (at : ℕ) (adjacency weights : List ℕ) : Read → List ℕ → List ℕ → Type 0 where
   refuses-records : {why : Refusal} → ReadsFrom E bytes at (unread why) → FillsFrom E bytes at adjacency weights (not-read why) adjacency weights
-  lacks-room : {n : ℕ} {drawn : List ℕ} {edges : List Pair} {why : Refusal} → ReadsFrom E bytes at (sheet n drawn edges) → room n adjacency weights ≡ refused why
-      → FillsFrom E bytes at adjacency weights (not-read why) adjacency weights
-  fills : {n : ℕ} {drawn : List ℕ} {edges : List Pair} → ReadsFrom E bytes at (sheet n drawn edges) → room n adjacency weights ≡ accepted
-      → FillsFrom E bytes at adjacency weights (graph-read n (length edges)) (onto (cells n edges) adjacency) (onto drawn weights)
+  reads-records : {n : ℕ} {drawn : List ℕ} {edges : List Pair} {given : Read} {adjacency′ weights′ : List ℕ} → ReadsFrom E bytes at (sheet n drawn edges)
+      → Filled n drawn edges adjacency weights given adjacency′ weights′ → FillsFrom E bytes at adjacency weights given adjacency′ weights′
 
 -- reading all bytes
 abbrev pub Fills : Edition → (bytes adjacency weights : List ℕ) → Read → List ℕ → List ℕ → Type 0

@@ -18,7 +18,8 @@ use Rattle.matching.specs.Opening.{opened, singular, not-opened, Buffers
 use Rattle.matching.specs.Display.{of-inverse, of-witness, display}
 use Rattle.matching.specs.Model.{pick, automatic, undo, done, denied, nonsingular?, step, answered, pairs-after, picked, stopped}
 use Rattle.matching.specs.Calls.{Returned, state-after, row-ruling, open-row}
-use Rattle.matching.specs.Records.{sheet, unread, cells, graph, graph-read, not-read}
+use Rattle.matching.specs.Filling.{cells, graph, graph-read, not-read}
+use Rattle.matching.specs.Records.{sheet, unread}
 use Rattle.matching.specs.Computed.{read}
 use Rattle.matching.specs.Host.{words, bytes-of}
 use Rattle.matching.specs.Replay.{place-of, first-calls, replay-ruling}

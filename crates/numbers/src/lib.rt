@@ -4,7 +4,7 @@ use refusals::Ruling;
 ghost use mathlib.Core.Path.{_≡_};
 ghost use Prim.Native.Nat.{ℕ, _<_, _^_};
 ghost use Rattle.matching.specs.Decision.{because};
-ghost use Rattle.matching.specs.Host.{number, refusal-number, ruled-number};
+ghost use Rattle.matching.specs.Host.{number, refusal-number, ruled-number, line-place};
 ghost use Rattle.refusals.specs.Meaning.{ruling-of};
 ghost use Rattle.numbers.specs.Bits.{RulingFits};
 
@@ -22,6 +22,18 @@ pub fn refused(refusal: Refusal) -> u64
     ensures { λ r. ⌜ r ≡ refusal-number (because (refusal .cause) (refusal .place)) ⌝ }
 {
     refusal.cause as u64 + 65536 * (refusal.place as u64)
+}
+
+// Returns the number of a refusal whose place is a line of any number.
+pub fn refused_at_line(refusal: Refusal) -> u64
+    ensures { λ r. ⌜ r ≡ refusal-number (because (refusal .cause) (line-place (refusal .place))) ⌝ }
+{
+    let line = refusal.place as u64;
+    // 2^47 - 1.
+    if line < 140737488355327 {
+        return refusal.cause as u64 + 65536 * line;
+    }
+    refusal.cause as u64 + 65536 * 140737488355327
 }
 
 // Returns the number of a call whose answer has no value: the answer-kind and the pairs made, or the refusal.

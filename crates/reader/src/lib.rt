@@ -1,11 +1,11 @@
 // The reader of a sheet: the bytes that it is lent, together with its place in them.
+use filling::Read;
 use records::Next;
-use sheet::Read;
 ghost use mathlib.Core.Path.{_≡_};
 ghost use Rattle.matching.specs.Edition.{first-edition};
 ghost use Rattle.matching.specs.Records.{FillsFrom, Fills};
 ghost use Rattle.records.specs.Stands.{Stands};
-ghost use Rattle.sheet.specs.Meaning.{read-of};
+ghost use Rattle.filling.specs.Meaning.{read-of};
 
 // The bytes of a sheet, and an offset in them.
 pub struct Reader<'a> {

@@ -2,19 +2,19 @@
 ghost use mathlib.Core.Path.{_≡_};
 ghost use Rattle.matching.specs.Edition.{first-edition};
 ghost use Rattle.matching.specs.Host.{HostOpens, HostOpenedExactly, HostHandles, HostPickedExactly, HostShowsRow};
-ghost use Rattle.matching.specs.Host.{HostReads, HostDraws, handed-back};
+ghost use Rattle.matching.specs.Host.{HostReads, HostReadsText, HostDraws, handed-back};
 ghost use Rattle.matching.specs.Model.{pick, automatic, undo};
 ghost use Rattle.matching.specs.Replay.{HostReplays, HostDemandThree};
 ghost use Rattle.matching.specs.Session.{state};
 ghost use Rattle.opening.specs.Meaning.{buffers};
 ghost use Rattle.saszvigom.specs.Version.{version};
 
-// Returns the version of the library: 0.5.0.
+// Returns the version of the library: 0.6.0.
 #[no_mangle]
 pub extern "C" fn saszvigom_version() -> u64
     ensures { λ r. ⌜ r ≡ version ⌝ }
 {
-    1280
+    1536
 }
 
 // Opens a session: document 01, "Opening", through the host.
@@ -195,6 +195,22 @@ pub extern "C" fn saszvigom_read(sheet: &[u8], adjacency: &mut [u8], weights: &m
         (now (adjacency .exit)) (now (weights .exit)) ⌝ }
 {
     sheet_bytes::read(sheet, adjacency, weights)
+}
+
+// Reads a text in the DIMACS edge format into an adjacency table, and the draws of a seed into weights: document 02, request 1, through the
+// host.
+#[no_mangle]
+pub extern "C" fn saszvigom_read_dimacs(
+    text: &[u8],
+    seed: u32,
+    adjacency: &mut [u8],
+    weights: &mut [u8],
+) -> u64
+    ensures { λ r.
+        ⌜ HostReadsText first-edition seed (now (text .entry)) (now (adjacency .entry)) (now (weights .entry)) r
+        (now (adjacency .exit)) (now (weights .exit)) ⌝ }
+{
+    dimacs_bytes::read(text, seed, adjacency, weights)
 }
 
 // Draws the weights of n vertices from a seed: document 01, "Draw roll", through the host.

@@ -2,6 +2,7 @@
 use due::Due;
 use due::Found;
 use edges::Edges;
+use filling::Read;
 use records::Record;
 use refusals::Refusal;
 ghost use mathlib.Core.Path.{_≡_};
@@ -10,22 +11,11 @@ ghost use Prim.Native.Nat.{_≤_};
 ghost use Rattle.lists.specs.Table.{Square};
 ghost use Rattle.matching.specs.Edition.{first-edition};
 ghost use Rattle.matching.specs.Graph.{largest};
-ghost use Rattle.matching.specs.Records.{start, sized, cells, FillsFrom};
-ghost use Rattle.sheet.specs.Meaning.{read-of};
+ghost use Rattle.matching.specs.Filling.{cells};
+ghost use Rattle.matching.specs.Records.{start, sized, FillsFrom};
+ghost use Rattle.filling.specs.Meaning.{read-of};
 ghost use Rattle.sheet.specs.Headed.{Heads};
-ghost use Rattle.sheet.specs.Filled.{Finishes, Continues};
-
-// The number of vertices of a graph, and of its edges.
-pub struct Extent {
-    pub size: usize,
-    pub edges: usize,
-}
-
-// What the reader answers.
-pub enum Read {
-    Graph(Extent),
-    Refused(Refusal),
-}
+ghost use Rattle.sheet.specs.Continued.{Continues};
 
 // What the first two records say, and the offset after them.
 pub struct Head {
@@ -78,36 +68,6 @@ fn read_head(bytes: &[u8], at: usize) -> Start
     }
 }
 
-// Writes table to adjacency and the draws of seed to weights, if both are long enough for n vertices.
-fn write_graph(
-    n: usize,
-    seed: u32,
-    count: usize,
-    table: &[u8],
-    adjacency: &mut [u8],
-    weights: &mut [u16],
-) -> Read
-    requires { ⌜ Square n (now table) ⌝ }
-    ensures { λ r.
-        ⌜ Finishes first-edition n seed count (now (table .entry)) (now (adjacency .entry)) (now (weights .entry)) (read-of r)
-        (now (adjacency .exit)) (now (weights .exit)) ⌝ }
-{
-    let cells = n * n;
-    if adjacency.len() < cells {
-        return Read::Refused(refusals::because(2, 1));
-    }
-    let pairs = checks::weights_needed(n);
-    if weights.len() < pairs {
-        return Read::Refused(refusals::because(2, 2));
-    }
-    buffers::copy_bytes(table, &mut adjacency[..cells]);
-    draws::fill(&mut weights[..pairs], seed);
-    Read::Graph(Extent {
-        size: n,
-        edges: count,
-    })
-}
-
 // Reads the records of bytes from offset next on, which follow the size n and the seed, into table, where every cell is 0 before, and
 // writes the graph.
 fn read_over(
@@ -127,7 +87,7 @@ fn read_over(
     let edges = edges::read_edges(bytes, next, n, table);
     match edges {
         Edges::Refused(why) => Read::Refused(why),
-        Edges::Counted(count) => write_graph(n, seed, count, table, adjacency, weights),
+        Edges::Counted(count) => filling::write_graph(n, seed, count, table, adjacency, weights),
     }
 }
 

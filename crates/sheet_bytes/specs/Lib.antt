@@ -1,3 +1,4 @@
--- Reading a sheet over words, and drawing weights, through the host.
+-- What a reader has left, stored through the host; reading a sheet; drawing weights.
+pub mod Stored
 pub mod Reads
 pub mod Drawn

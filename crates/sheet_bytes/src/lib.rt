@@ -1,20 +1,21 @@
 // Sheets and draws with numbers and byte slices: what the host's entries call. Words cross as two bytes, low first (docs/HOST.md).
-use sheet::Read;
+use filling::Read;
 ghost use mathlib.Core.Path.{_≡_};
-ghost use Prim.Native.Nat.{_*_, _≤_};
+ghost use Prim.Native.Nat.{_+_, _*_, _≤_};
 ghost use lib.ListN.{length};
 ghost use Rattle.lists.specs.Onto.{onto};
 ghost use Rattle.draws.specs.Draws.{draw, draws};
 ghost use Rattle.matching.specs.Edition.{first-edition};
 ghost use Rattle.matching.specs.Listing.{input-limit};
 ghost use Rattle.matching.specs.Host.{bytes-of, read-number, HostReads, HostDraws};
-ghost use Rattle.laws.specs.Bounds.{AnswerBounds};
-ghost use Rattle.sheet.specs.Meaning.{read-of};
-ghost use Rattle.sheet_bytes.specs.Reads.{stored-of, ReadRoom, ReadsFront};
+ghost use Rattle.laws.specs.Filling.{AnswerBounds};
+ghost use Rattle.filling.specs.Meaning.{read-of};
+ghost use Rattle.sheet_bytes.specs.Reads.{ReadRoom, ReadsFront};
+ghost use Rattle.sheet_bytes.specs.Stored.{stored-of};
 
 // Returns the host's number for read.
 fn number(read: Read) -> u64
-    requires { ⌜ AnswerBounds (read-of read) input-limit ⌝ }
+    requires { ⌜ AnswerBounds (read-of read) (input-limit + 2) ⌝ }
     ensures { λ r. ⌜ r ≡ read-number (read-of read) ⌝ }
 {
     match read {
@@ -23,8 +24,8 @@ fn number(read: Read) -> u64
     }
 }
 
-// Counts the weights to store: none if the sheet is refused.
-fn stored(read: Read) -> usize
+// Counts the weights to store: none on a refusal.
+pub fn stored(read: Read) -> usize
     ensures { λ r. ⌜ r ≡ stored-of (read-of read) ⌝ }
 {
     match read {

@@ -2,7 +2,7 @@
 use Rattle.draws.specs.Draws.{draw, draws}
 use Rattle.matching.specs.Edition.{first-edition}
 use Rattle.matching.specs.Graph.{pair-count}
-use Rattle.matching.specs.Records.{sheet, refuses-records}
+use Rattle.matching.specs.Records.{sheet, refuses-records, reads-records}
 use borrow.Author.Needs.{needs}
 use Rattle.sheet.proofs.read_over.Statement.{statement}
 use Rattle.sheet.proofs.read_over.Tie as tie
@@ -45,7 +45,7 @@ returns-2 c at B =
     let s = read .before .before .before .before .before .before in
     let drawn = draws draw (s .args .seed) (pair-count (s .args .n)) in
     let R = rw (known .edges2 .given .1) at (read .read-edges .ensures first-edition drawn) in
-    wrote .write-graph .ensures (s .args .bytes .now) at (R .edges) (B (sheet (s .args .n) drawn (R .edges)) (R .reads)) (R .counted) (R .marks)
+    reads-records {edges = R .edges} (B (sheet (s .args .n) drawn (R .edges)) (R .reads)) (wrote .write-graph .ensures (R .edges) (R .counted) (R .marks))
 
 pub read-over-spec : {M : Type 1} → statement M
 read-over-spec =

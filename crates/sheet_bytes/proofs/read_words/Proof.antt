@@ -6,7 +6,7 @@ use native.Mathlib.Omega.{arith}
 use borrow.Author.Needs.{needs}
 use lib.ListN.{length, length-replicate}
 use Rattle.lists.specs.Part.{length-part}
-use Rattle.laws.specs.Words.{words-length}
+use Rattle.sheet_bytes.specs.Stored.{room-part, room-whole}
 use Rattle.sheet_bytes.proofs.read_words.Statement.{statement}
 use Rattle.sheet_bytes.proofs.read_words.Tie as tie
 
@@ -20,9 +20,8 @@ read-over-requires : tie.Need-read-over-requires
 read-over-requires c κs =
     let then = c .before .before .before in
     let start = then .before .before .before .before in
-    let size = length-part (length (start .args .weights .now) / 2) 4560 0 (omega (arith, then .if1 .taken)) in
-    let half = words-length 2 (start .args .weights .now) in
-    record { few = start .pre; within = omega (arith, size, half); enough = λ k l h. omega (arith, size, half) }
+    let l = then .if1 .taken in
+    record { few = start .pre; room = room-part (start .args .weights .now) l (length-part (length (start .args .weights .now) / 2) 4560 0 (omega (arith, l))) }
 
 same-length : tie.Need-same-length
 same-length c = search needs
@@ -40,9 +39,7 @@ read-over-requires-2 : tie.Need-read-over-requires-2
 read-over-requires-2 c κs =
     let else = c .before .before .before in
     let start = else .before .before .before .before in
-    let size = length-replicate {A = ℕ} 4560 0 in
-    let half = words-length 2 (start .args .weights .now) in
-    record { few = start .pre; within = omega (arith, size, half, else .if1 .left); enough = λ k l h. omega (arith, size) }
+    record { few = start .pre; room = room-whole (start .args .weights .now) (else .if1 .left) (length-replicate {A = ℕ} 4560 0) }
 
 same-length-3 : tie.Need-same-length-3
 same-length-3 c = search needs

@@ -47,11 +47,11 @@ use denote.Exit.{yes}
 use denote.Triple.Clauses.{ensured, lasts}
 use Rattle.matching.specs.Edition.{first-edition}
 use Rattle.matching.specs.Records.{FillsFrom}
-use Rattle.sheet.specs.Meaning.{read-of}
-use Rattle.sheet.specs.declared.Read.{Read}
+use Rattle.filling.specs.Meaning.{read-of}
+use Rattle.filling.specs.declared.Read.{Read}
 use Rattle.reader.specs.declared.Reader.{Reader}
-use Rattle.sheet.proofs.Read as S
-use Rattle.sheet.proofs.Read.Laws as S′
+use Rattle.filling.proofs.Read as S
+use Rattle.filling.proofs.Read.Laws as S′
 use Rattle.reader.proofs.Reader as T
 use Rattle.reader.proofs.Reader.Laws as T′
 use Rattle.sheet.proofs.read_at as read-at

@@ -1,12 +1,13 @@
--- `sheet::write_graph` meets its contract: cause 2 case by case, and the first part of each buffer is written. Assumes nothing.
+-- `filling::write_graph` meets its contract: cause 2 case by case, and the first part of each buffer is written. Assumes nothing.
 use mathlib.Core.Path.{refl, sym, ap, _∙_}
 use lib.Seq.{length-take-le}
 use Rattle.draws.specs.Draws.{draw, draws}
+use Rattle.matching.specs.Edition.{first-edition}
 use Rattle.checks.specs.Weights.{needed-all}
-use Rattle.sheet.specs.Filled.{lacks-adjacency, lacks-weights, written}
+use Rattle.filling.specs.Written.{lacks-adjacency, lacks-weights, written}
 use borrow.Author.Needs.{needs}
-use Rattle.sheet.proofs.write_graph.Statement.{statement}
-use Rattle.sheet.proofs.write_graph.Tie as tie
+use Rattle.filling.proofs.write_graph.Statement.{statement}
+use Rattle.filling.proofs.write_graph.Tie as tie
 
 mul-cells : tie.Need-mul-cells
 mul-cells c = search needs
@@ -15,7 +16,7 @@ because-requires : tie.Need-because-requires
 because-requires c κs = search needs
 
 returns : tie.Need-returns
-returns c = rw (c .because .ensures) (lacks-adjacency _ _ _ (c .before .if1 .taken))
+returns c = rw (c .because .ensures) (lacks-adjacency first-edition _ _ (c .before .if1 .taken))
 
 weights-needed-requires : tie.Need-weights-needed-requires
 weights-needed-requires c κs = search needs
@@ -28,7 +29,7 @@ returns-2 c =
     let count = c .before .before in
     let s = count .before .before .before .before .before in
     rw (c .because2 .ensures)
-    (lacks-weights _ _ _ (count .before .if1 .left) (rw (count .weights-needed .ensures ∙ needed-all (s .args .n) (s .pre .small)) at (c .before .if2 .taken)))
+    (lacks-weights first-edition _ _ (count .before .if1 .left) (rw (count .weights-needed .ensures ∙ needed-all (s .args .n) (s .pre .small)) at (c .before .if2 .taken)))
 
 slice-relend-prefix-copy-bytes : tie.Need-slice-relend-prefix-copy-bytes
 slice-relend-prefix-copy-bytes c = search needs
@@ -68,7 +69,7 @@ returns-3 c =
     let known = copied .before .before in
     let s = known .before .before .before .before .before .before in
     let e = known .before .weights-needed .ensures ∙ needed-all (s .args .n) (s .pre .small) in
-    written _ _ _ _ _ refl e (known .before .before .if1 .left) (rw e at (known .if2 .left)) (copied .copy-bytes .ensures)
+    written first-edition _ _ _ _ refl e (known .before .before .if1 .left) (rw e at (known .if2 .left)) (copied .copy-bytes .ensures)
     (filled .fill .ensures ∙ ap (draws draw (s .args .seed)) (length-take-le _ (s .args .weights .now) (known .if2 .left) ∙ e))
 
 pub write-graph-spec : {M : Type 1} → statement M

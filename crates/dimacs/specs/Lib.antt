@@ -1,0 +1,2 @@
+-- What reading comes to after the `p` line.
+pub mod Continued

@@ -1,0 +1,2 @@
+-- Reading a text over words, and through the host.
+pub mod Texts

@@ -1,0 +1,3 @@
+-- What a reader answers; what is written.
+pub mod Meaning
+pub mod Written
