@@ -1,5 +1,5 @@
 //! Why a call is refused, and at which place (document 01, "Causes, numbers,
-//! and what is untouched").
+//! and what is untouched"; document 02, request 1).
 
 /// The causes, by their numbers in the paper's table.
 #[derive(Clone, Copy, Debug, PartialEq, Eq, PartialOrd, Ord)]
@@ -34,10 +34,16 @@ pub enum Cause {
     /// The data stops inside a body or before the end record. Or the list of a
     /// replay ends inside a call.
     DataStops = 13,
-    /// A record names a vertex not below n, or the same vertex twice.
+    /// A record or a line names a vertex that the graph does not have, or the same
+    /// vertex twice.
     RecordVertexInvalid = 14,
     /// A record names an edge that an earlier one named.
     EdgeRepeated = 15,
+    /// A line has none of the three forms or may not stand where it does, or no
+    /// line tells the number of vertices.
+    LineInvalid = 16,
+    /// The lines of edges are not as many as announced.
+    LineCountWrong = 17,
 }
 
 impl Cause {

@@ -1,5 +1,5 @@
-//! The reference: document 01 in plain Rust, which shares nothing with the
-//! crates.
+//! The reference: document 01, and request 1 of document 02, in plain Rust, which
+//! shares nothing with the crates.
 //!
 //! A graph of at most 96 vertices has an adjacency table and one weight for
 //! every two vertices. Its Tutte matrix modulo 65521 either has an inverse, and
@@ -35,6 +35,9 @@ pub mod draws;
 
 /// "Sheet records": the reader of a sheet.
 pub mod records;
+
+/// Document 02, request 1: the reader of a graph in the DIMACS edge format.
+pub mod dimacs;
 
 /// "Causes, numbers, and what is untouched": why a call is refused, and where.
 pub mod causes;

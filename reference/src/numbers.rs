@@ -20,7 +20,7 @@ pub fn replay_number(outcome: &Outcome<()>) -> u64 {
     number(outcome, 5, |_| 0)
 }
 
-/// Answers a sheet read: kind 6, the number of edges in bits 16 to 31 and the
+/// Answers a graph read, from a sheet or a text: kind 6, the number of edges in bits 16 to 31 and the
 /// size in bits 32 to 39.
 pub fn read_number(answer: Result<Counts, Refusal>) -> u64 {
     match answer {
@@ -37,9 +37,8 @@ pub fn draws_number(answer: Result<u64, Refusal>) -> u64 {
     }
 }
 
-/// Sets bits 0 to 7 to the cause, or 0; 8 to 15 to the answer-kind, or 0; 16 to
-/// 31 to a value, or the place; 32 to 39 to the pairs made, if the call was
-/// carried out.
+/// Sets bits 8 to 15 to the answer-kind, 16 to 31 to a value, and 32 to 39 to the
+/// pairs made, if the call was carried out.
 fn number<T>(outcome: &Outcome<T>, kind: u64, value: impl Fn(&T) -> u64) -> u64 {
     match &outcome.answer {
         Ok(answer) => kind << 8 | value(answer) << 16 | outcome.session.pairs << 32,
@@ -47,7 +46,12 @@ fn number<T>(outcome: &Outcome<T>, kind: u64, value: impl Fn(&T) -> u64) -> u64 
     }
 }
 
+/// The largest place of a refusal: all of bits 16 to 62. A line after it is given
+/// as this one.
+pub const LAST_PLACE: u64 = (1 << 47) - 1;
+
+/// Sets bits 0 to 7 to the cause, and 16 to 62 to the place.
 fn refusal_number(refusal: Refusal) -> u64 {
     let (cause, place) = refusal.numbers();
-    u64::from(cause) | place << 16
+    u64::from(cause) | place.min(LAST_PLACE) << 16
 }

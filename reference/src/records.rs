@@ -1,8 +1,8 @@
 //! The reader of a sheet (document 01, "Sheet records").
 
 use crate::causes::{Cause, Refusal};
-use crate::draws;
-use crate::graph::{check_lengths, graph_buffers, weight_count, MAX_VERTICES};
+use crate::draws::fill_weights;
+use crate::graph::{check_lengths, graph_buffers, MAX_VERTICES};
 
 /// The two vertices of an edge record, in the order of the bytes.
 #[derive(Clone, Copy, Debug, PartialEq, Eq)]
@@ -42,7 +42,7 @@ impl Due {
     }
 }
 
-/// What was read: the size and the number of edge records (document 01:
+/// What was read: the size and the number of different edges (document 01:
 /// "number of links").
 #[derive(Clone, Copy, Debug, PartialEq, Eq)]
 pub struct Counts {
@@ -99,12 +99,49 @@ impl<'a> Reader<'a> {
     }
 }
 
-/// The records of a whole sheet.
-struct Parsed {
-    size: usize,
-    seed: u32,
+/// A graph while it is read: n vertices, and the edges so far.
+pub(crate) struct Draft {
+    pub(crate) n: usize,
     adjacency: Vec<u8>,
     edges: u64,
+}
+
+impl Draft {
+    /// Begins a graph of n vertices, without edges.
+    pub(crate) fn new(n: usize) -> Draft {
+        Draft {
+            n,
+            adjacency: vec![0; n * n],
+            edges: 0,
+        }
+    }
+
+    /// Adds the edge of i and j, which differ and are below n. Returns whether it
+    /// is new.
+    pub(crate) fn add_edge(&mut self, i: usize, j: usize) -> bool {
+        let is_new = self.adjacency[i * self.n + j] == 0;
+        self.adjacency[i * self.n + j] = 1;
+        self.adjacency[j * self.n + i] = 1;
+        self.edges += u64::from(is_new);
+        is_new
+    }
+
+    /// Fills the adjacency table, and the weights with the draws of a seed. Refuses a
+    /// short buffer: cause 2.
+    pub(crate) fn fill(
+        &self,
+        seed: u32,
+        adjacency: &mut [u8],
+        weights: &mut [u16],
+    ) -> Result<Counts, Refusal> {
+        check_lengths(self.n, &graph_buffers(adjacency, weights))?;
+        adjacency[..self.n * self.n].copy_from_slice(&self.adjacency);
+        fill_weights(self.n as u64, seed, weights)?;
+        Ok(Counts {
+            size: self.n as u64,
+            edges: self.edges,
+        })
+    }
 }
 
 /// Reads a sheet and fills the adjacency table and the weights. Refuses the first
@@ -114,40 +151,24 @@ pub fn read_graph(
     adjacency: &mut [u8],
     weights: &mut [u16],
 ) -> Result<Counts, Refusal> {
-    let parsed = parse(bytes)?;
-    let n = parsed.size;
-    check_lengths(n, &graph_buffers(adjacency, weights))?;
-    adjacency[..n * n].copy_from_slice(&parsed.adjacency);
-    let drawn = draws::weights(parsed.seed);
-    for (word, weight) in weights[..weight_count(n)].iter_mut().zip(drawn) {
-        *word = weight;
-    }
-    Ok(Counts {
-        size: n as u64,
-        edges: parsed.edges,
-    })
+    let (graph, seed) = parse(bytes)?;
+    graph.fill(seed, adjacency, weights)
 }
 
 /// Reads the records in order: size, seed, edges, end, nothing.
-fn parse(bytes: &[u8]) -> Result<Parsed, Refusal> {
+fn parse(bytes: &[u8]) -> Result<(Draft, u32), Refusal> {
     let mut reader = Reader::new(bytes);
-    let size = read_size(&mut reader)?;
+    let mut graph = Draft::new(read_size(&mut reader)?);
     let seed = read_seed(&mut reader)?;
-    let mut parsed = Parsed {
-        size,
-        seed,
-        adjacency: vec![0; size * size],
-        edges: 0,
-    };
     loop {
         let offset = reader.place();
         match reader.next_record(Due::EdgeOrEnd)? {
-            Record::Edge(body) => add_edge(&mut parsed, body, offset)?,
+            Record::Edge(body) => add_edge(&mut graph, body, offset)?,
             _ => break,
         }
     }
     reader.finish()?;
-    Ok(parsed)
+    Ok((graph, seed))
 }
 
 /// Reads the size record. Refuses a size above 96: cause 1 at its offset.
@@ -169,17 +190,13 @@ fn read_seed(reader: &mut Reader) -> Result<u32, Refusal> {
 }
 
 /// Adds the edge of a record. Refuses with cause 14, then 15, at its offset.
-fn add_edge(parsed: &mut Parsed, body: EdgeBody, offset: u64) -> Result<(), Refusal> {
-    let n = parsed.size;
+fn add_edge(graph: &mut Draft, body: EdgeBody, offset: u64) -> Result<(), Refusal> {
     let (i, j) = (usize::from(body.first), usize::from(body.second));
-    if i >= n || j >= n || i == j {
+    if i >= graph.n || j >= graph.n || i == j {
         return Err(Cause::RecordVertexInvalid.at(offset));
     }
-    if parsed.adjacency[i * n + j] == 1 {
+    if !graph.add_edge(i, j) {
         return Err(Cause::EdgeRepeated.at(offset));
     }
-    parsed.adjacency[i * n + j] = 1;
-    parsed.adjacency[j * n + i] = 1;
-    parsed.edges += 1;
     Ok(())
 }
