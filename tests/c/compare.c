@@ -9,12 +9,12 @@
 #define BLOCK (BUFFERS * (LONGEST + GUARD + sizeof(uint64_t)) + GUARD)
 
 const char *const entry_names[ENTRIES] = {
-    "open", "pick", "automatic", "undo", "row", "replay", "read", "draw",
+    "open", "pick", "automatic", "undo", "row", "replay", "read", "draw", "read dimacs",
 };
 
 const char *const buffer_names[BUFFERS] = {
     "adjacency", "weights", "inverse", "sequence", "witness",
-    "work",      "row",     "calls",   "answers",  "sheet",
+    "work",      "row",     "calls",   "answers",  "sheet or text",
 };
 
 uint8_t guard_byte(size_t position)
@@ -63,6 +63,10 @@ static uint64_t make_call(const struct call *call, uint8_t *const buffers[BUFFER
     case READ:
         return saszvigom_read(buffers[SHEET], call->length[SHEET], buffers[ADJACENCY],
                               call->length[ADJACENCY], buffers[WEIGHTS], call->length[WEIGHTS]);
+    case READ_DIMACS:
+        return saszvigom_read_dimacs(buffers[SHEET], call->length[SHEET], (uint32_t)call->a,
+                                     buffers[ADJACENCY], call->length[ADJACENCY],
+                                     buffers[WEIGHTS], call->length[WEIGHTS]);
     case DRAW:
         return saszvigom_draws(call->n, (uint32_t)call->a, buffers[WEIGHTS],
                                call->length[WEIGHTS]);

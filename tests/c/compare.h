@@ -7,9 +7,10 @@
 
 #include "saszvigom.h"
 
-enum entry { OPEN, PICK, AUTOMATIC, UNDO, ROW, REPLAY, READ, DRAW, ENTRIES };
+enum entry { OPEN, PICK, AUTOMATIC, UNDO, ROW, REPLAY, READ, DRAW, READ_DIMACS, ENTRIES };
 
-/* The buffers: the first seven in the order of their numbers from 1 on. */
+/* The buffers: the first seven in the order of their numbers from 1 on. SHEET is
+   also the text that is read. */
 enum {
     ADJACENCY, WEIGHTS, INVERSE, SEQUENCE, WITNESS, WORK, PARTNERS, CALLS, ANSWERS, SHEET, BUFFERS
 };
@@ -22,8 +23,8 @@ extern const char *const buffer_names[BUFFERS];
 
 /* A call: the entry, its numbers, and for each buffer its length in bytes and
    the bytes before. An entry uses only some of the numbers and buffers: a is
-   also the seed of draws. Calls and answers are 64-bit numbers as they lie in
-   memory. */
+   also the seed of draws and of a text. Calls and answers are 64-bit numbers as
+   they lie in memory. */
 struct call {
     enum entry entry;
     uint64_t n, made, a, b;

@@ -24,7 +24,7 @@
 #include <stdlib.h>
 
 #define LONGEST_NAME 127
-#define LAST_CAUSE SASZVIGOM_EDGE_REPEATED
+#define LAST_CAUSE SASZVIGOM_LINE_COUNT_WRONG
 
 static struct call call;
 static struct outcome expected;

@@ -100,6 +100,16 @@ extern "C" {
         weights_len: usize,
     ) -> u64;
 
+    fn saszvigom_read_dimacs(
+        text: *const u8,
+        text_len: usize,
+        seed: u32,
+        adjacency: *mut u8,
+        adjacency_len: usize,
+        weights: *mut u8,
+        weights_len: usize,
+    ) -> u64;
+
     fn saszvigom_draws(n: u64, seed: u32, weights: *mut u8, weights_len: usize) -> u64;
 }
 
@@ -261,6 +271,23 @@ pub fn read(sheet: &[u8], adjacency: &mut [u8], weights: &mut [u8]) -> u64 {
         saszvigom_read(
             sheet.as_ptr(),
             sheet.len(),
+            adjacency.as_mut_ptr(),
+            adjacency.len(),
+            weights.as_mut_ptr(),
+            weights.len(),
+        )
+    }
+}
+
+/// Reads a text in the DIMACS edge format into an adjacency table, and draws the
+/// weights from a seed.
+pub fn read_dimacs(text: &[u8], seed: u32, adjacency: &mut [u8], weights: &mut [u8]) -> u64 {
+    // SAFETY: as for opening.
+    unsafe {
+        saszvigom_read_dimacs(
+            text.as_ptr(),
+            text.len(),
+            seed,
             adjacency.as_mut_ptr(),
             adjacency.len(),
             weights.as_mut_ptr(),

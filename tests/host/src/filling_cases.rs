@@ -5,13 +5,13 @@ use crate::damage::any_large_size;
 use crate::filling::{Filling, FillingCase, Source};
 use crate::random::Random;
 use crate::stream::LONGEST_BUFFER;
-use sheet_tests::families::{self, Case};
+use sheet_tests::families;
 use sheet_tests::sheet::Sheet;
 
 /// Chains all families, without the longest sheets.
 pub fn all() -> impl Iterator<Item = FillingCase> {
     sheets()
-        .chain(long_sheets().filter(|case| case.call.buffers()[0].1.len() <= LONGEST_BUFFER))
+        .chain(long_sheets().filter(|case| case.call.source_bytes().len() <= LONGEST_BUFFER))
         .chain(short_buffers())
         .chain(every_length())
         .chain(every_draw())
@@ -41,11 +41,58 @@ fn filling(random: &mut Random, source: Source, lengths: [usize; 2]) -> Filling 
     }
 }
 
-/// Reads a sheet into buffers, each up to most bytes longer than needed.
-fn with_excess(random: &mut Random, case: Case, most: usize) -> FillingCase {
-    let lengths = needed(size_named(&case.bytes)).map(|length| length + random.between(0, most));
-    let call = filling(random, Source::Sheet(case.bytes), lengths);
-    FillingCase::new(case.name, call)
+/// Reads into buffers that are as long as n vertices need, or up to most bytes
+/// longer.
+fn with_excess(
+    random: &mut Random,
+    name: String,
+    source: Source,
+    n: usize,
+    most: usize,
+) -> FillingCase {
+    let lengths = needed(n).map(|length| length + random.between(0, most));
+    let call = filling(random, source, lengths);
+    FillingCase::new(name, call)
+}
+
+/// with_excess, of a random number of bytes.
+pub(crate) fn read_with_excess(
+    random: &mut Random,
+    name: String,
+    source: Source,
+    n: usize,
+) -> FillingCase {
+    let most = random.choose(&[0, 1, 2, 40]);
+    with_excess(random, name, source, n, most)
+}
+
+/// Reads into buffers that are often shorter than n vertices need.
+pub(crate) fn read_with_short_buffers(
+    random: &mut Random,
+    name: String,
+    source: Source,
+    n: usize,
+) -> FillingCase {
+    let lengths = needed(n).map(|length| match random.below(4) {
+        0 => 0,
+        1 => length.saturating_sub(1),
+        2 => length.saturating_sub(2),
+        _ => length + random.below(3),
+    });
+    let call = filling(random, source, lengths);
+    FillingCase::new(format!("{name}, {lengths:?} bytes"), call)
+}
+
+/// Reads into buffers of every length, from 0 to a few bytes more than n vertices
+/// need.
+pub(crate) fn every_length_of(random: &mut Random, n: usize, source: &Source) -> Vec<FillingCase> {
+    let [adjacency, weights] = needed(n);
+    let lengths = (0..adjacency + 4).flat_map(|a| (0..weights + 4).map(move |w| [a, w]));
+    let case = |lengths| {
+        let call = filling(random, source.clone(), lengths);
+        FillingCase::new(format!("n = {n}, {lengths:?} bytes"), call)
+    };
+    lengths.map(case).collect()
 }
 
 /// Reads the sheets that the listing program is given too.
@@ -62,14 +109,17 @@ pub fn sheets() -> impl Iterator<Item = FillingCase> {
         .chain(families::damaged_sheets(12000))
         .chain(families::random_bytes(3000))
         .map(move |case| {
-            let most = random.choose(&[0, 1, 2, 40]);
-            with_excess(&mut random, case, most)
+            let n = size_named(&case.bytes);
+            read_with_excess(&mut random, case.name, Source::Sheet(case.bytes), n)
         })
 }
 
 pub fn long_sheets() -> impl Iterator<Item = FillingCase> {
     let mut random = Random::new(21);
-    families::long_inputs().map(move |case| with_excess(&mut random, case, 3))
+    families::long_inputs().map(move |case| {
+        let n = size_named(&case.bytes);
+        with_excess(&mut random, case.name, Source::Sheet(case.bytes), n, 3)
+    })
 }
 
 /// Reads good and damaged sheets into short buffers: the sheet's own fault comes
@@ -80,15 +130,8 @@ pub fn short_buffers() -> impl Iterator<Item = FillingCase> {
         .chain(families::damaged_sheets(3000))
         .chain(families::every_edge())
         .map(move |case| {
-            let most = needed(size_named(&case.bytes));
-            let lengths = most.map(|length| match random.below(4) {
-                0 => 0,
-                1 => length.saturating_sub(1),
-                2 => length.saturating_sub(2),
-                _ => length + random.below(3),
-            });
-            let call = filling(&mut random, Source::Sheet(case.bytes), lengths);
-            FillingCase::new(format!("{}, {lengths:?} bytes", case.name), call)
+            let n = size_named(&case.bytes);
+            read_with_short_buffers(&mut random, case.name, Source::Sheet(case.bytes), n)
         })
 }
 
@@ -97,13 +140,7 @@ pub fn every_length() -> impl Iterator<Item = FillingCase> {
     let mut random = Random::new(23);
     (0..=5).flat_map(move |n| {
         let sheet = Sheet::complete(n, 5).shuffled(&mut random).bytes();
-        let [adjacency, weights] = needed(n.into());
-        let lengths = (0..adjacency + 4).flat_map(|a| (0..weights + 4).map(move |w| [a, w]));
-        let case = |lengths| {
-            let call = filling(&mut random, Source::Sheet(sheet.clone()), lengths);
-            FillingCase::new(format!("n = {n}, {lengths:?} bytes"), call)
-        };
-        lengths.map(case).collect::<Vec<_>>()
+        every_length_of(&mut random, n.into(), &Source::Sheet(sheet))
     })
 }
 

@@ -22,5 +22,7 @@ pub mod session_cases;
 pub mod states;
 pub mod stream;
 pub mod tally;
+pub mod text_cases;
+pub mod texts;
 
 pub use sheet_tests::random;

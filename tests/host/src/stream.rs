@@ -4,12 +4,12 @@
 //!
 //! * the length of its name, at least 1, and the name;
 //! * the entry: 0 open, 1 pick, 2 automatic, 3 undo, 4 row, 5 replay, 6 read,
-//!   7 draw;
+//!   7 draw, 8 read a text in the DIMACS edge format;
 //! * n, the pairs made, and two vertices, or a seed in place of the first, 0 if
 //!   the entry has none;
 //! * the lengths in bytes of the ten buffers: adjacency, weights, inverse,
-//!   sequence, witness, work, row, calls, answers and sheet, 0 if the entry has
-//!   none;
+//!   sequence, witness, work, row, calls, answers and sheet or text, 0 if the
+//!   entry has none;
 //! * the bytes of the ten buffers before the call;
 //! * the number expected;
 //! * the bytes of the ten buffers expected after the call;
@@ -70,6 +70,7 @@ impl<W: Write> Stream<W> {
         let numbers = match case.call.source {
             Source::Sheet(_) => [6, 0, 0, 0, 0],
             Source::Seed { n, seed } => [7, n, 0, seed.into(), 0],
+            Source::Text { seed, .. } => [8, 0, 0, seed.into(), 0],
         };
         let before = filling_buffers(&case.call);
         let after = filling_buffers(&case.after);
@@ -141,9 +142,9 @@ fn session_buffers(call: &SessionCall) -> Buffers<'_> {
 
 fn filling_buffers(call: &Filling) -> Buffers<'_> {
     let mut buffers = Buffers::default();
-    let [sheet, adjacency, weights] = call.buffers().map(|(_, bytes)| Cow::Borrowed(bytes));
+    let [source, adjacency, weights] = call.buffers().map(|(_, bytes)| Cow::Borrowed(bytes));
     buffers[0] = adjacency;
     buffers[1] = weights;
-    buffers[9] = sheet;
+    buffers[9] = source;
     buffers
 }

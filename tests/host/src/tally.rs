@@ -1,5 +1,6 @@
-//! How often session calls had which outcome.
+//! How often session calls and texts had which outcome.
 
+use crate::filling::FillingCase;
 use crate::session::SessionCase;
 
 /// Entries 1 to 5, causes 0 to 13: 0 is carried out.
@@ -50,6 +51,35 @@ impl SessionTally {
             "{name}: {} calls: {} carried out, refused with 1 to 13: {causes:?}",
             self.total(),
             self.of_cause(0)
+        );
+    }
+}
+
+/// Causes 0 to 17 of texts: 0 is read.
+#[derive(Debug, Default)]
+pub struct TextTally([usize; 18]);
+
+impl TextTally {
+    pub fn count(&mut self, case: &FillingCase) {
+        self.0[case.cause() as usize] += 1;
+    }
+
+    pub fn add(&mut self, other: &TextTally) {
+        for (count, other) in self.0.iter_mut().zip(other.0) {
+            *count += other;
+        }
+    }
+
+    /// Counts the texts that had a cause, or were read for 0.
+    pub fn of_cause(&self, cause: usize) -> usize {
+        self.0[cause]
+    }
+
+    pub fn print(&self, name: &str) {
+        let [read, refused @ ..] = &self.0;
+        println!(
+            "{name}: {} texts: {read} read, refused with 1 to 17: {refused:?}",
+            self.0.iter().sum::<usize>()
         );
     }
 }

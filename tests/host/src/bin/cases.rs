@@ -1,9 +1,11 @@
 //! Writes cases to standard output, for tests/c/replay.c to run them: every Nth
 //! of opening (`opening N`), of reading sheets and drawing weights (`sheets N`),
-//! or of the session calls (`sessions N`). The reference says what is expected.
+//! of reading texts in the DIMACS edge format (`texts N`), or of the session calls
+//! (`sessions N`). The reference says what is expected.
 
+use host_tests::filling::FillingCase;
 use host_tests::stream::Stream;
-use host_tests::{cases, filling_cases, session_cases};
+use host_tests::{cases, filling_cases, session_cases, text_cases};
 use std::env;
 use std::io::{self, BufWriter};
 use std::process::ExitCode;
@@ -19,7 +21,8 @@ fn main() -> ExitCode {
     };
     let written = match family.as_str() {
         "opening" => write_openings(stride),
-        "sheets" => write_fillings(stride),
+        "sheets" => write_fillings(filling_cases::all(), stride),
+        "texts" => write_fillings(text_cases::all(), stride),
         "sessions" => write_sessions(stride),
         _ => return usage(),
     };
@@ -33,7 +36,7 @@ fn main() -> ExitCode {
 }
 
 fn usage() -> ExitCode {
-    eprintln!("usage: cases opening N | cases sheets N | cases sessions N");
+    eprintln!("usage: cases opening N | cases sheets N | cases texts N | cases sessions N");
     ExitCode::from(2)
 }
 
@@ -45,9 +48,9 @@ fn write_openings(stride: usize) -> io::Result<()> {
     stream.end()
 }
 
-fn write_fillings(stride: usize) -> io::Result<()> {
+fn write_fillings(all: impl Iterator<Item = FillingCase>, stride: usize) -> io::Result<()> {
     let mut stream = Stream::new(BufWriter::new(io::stdout().lock()));
-    for case in filling_cases::all().step_by(stride) {
+    for case in all.step_by(stride) {
         stream.filling(&case)?;
     }
     stream.end()

@@ -1,10 +1,12 @@
 //! Runs session calls through the C entries beside the reference: `long COUNT
-//! FIRST` at least COUNT calls, with the seeds from FIRST on. Panics at the first
-//! difference, and names its seed.
+//! FIRST` at least COUNT calls, with the seeds from FIRST on, and ten texts in the
+//! DIMACS edge format with each seed. Panics at the first difference, and names
+//! its seed.
 
 use host_tests::random::Random;
 use host_tests::seeds::of_seed;
-use host_tests::tally::SessionTally;
+use host_tests::tally::{SessionTally, TextTally};
+use host_tests::text_cases;
 use std::env;
 use std::process::ExitCode;
 use std::sync::atomic::{AtomicU64, AtomicUsize, Ordering};
@@ -22,16 +24,22 @@ fn main() -> ExitCode {
     let work = || run(&seeds, &calls, *count as usize);
     let tally = thread::scope(|scope| {
         let workers: Vec<_> = (0..threads).map(|_| scope.spawn(work)).collect();
-        let mut tally = SessionTally::default();
+        let mut tally = Tally::default();
         for worker in workers {
-            tally.add(&worker.join().expect("no difference"));
+            let (sessions, texts) = worker.join().expect("no difference");
+            tally.0.add(&sessions);
+            tally.1.add(&texts);
         }
         tally
     });
-    let last = seeds.load(Ordering::Relaxed) - 1;
-    tally.print(&format!("seeds {first} to {last}"));
+    let name = format!("seeds {first} to {}", seeds.load(Ordering::Relaxed) - 1);
+    tally.0.print(&name);
+    tally.1.print(&name);
     ExitCode::SUCCESS
 }
+
+/// The outcomes of session calls, and those of texts.
+type Tally = (SessionTally, TextTally);
 
 /// Stops all threads once one has met a difference.
 struct StopOnPanic<'a>(&'a AtomicUsize);
@@ -44,17 +52,21 @@ impl Drop for StopOnPanic<'_> {
     }
 }
 
-/// Takes one seed after another until count calls were made in all.
-fn run(seeds: &AtomicU64, calls: &AtomicUsize, count: usize) -> SessionTally {
+/// Takes one seed after another until count session calls were made in all.
+fn run(seeds: &AtomicU64, calls: &AtomicUsize, count: usize) -> Tally {
     let _stop = StopOnPanic(calls);
-    let mut tally = SessionTally::default();
+    let mut tally = Tally::default();
     while calls.load(Ordering::Relaxed) < count {
         let seed = seeds.fetch_add(1, Ordering::Relaxed);
         let mut guards = Random::new(seed);
         let cases = of_seed(seed);
         for case in &cases {
             case.check(&mut guards);
-            tally.count(case);
+            tally.0.count(case);
+        }
+        for text in text_cases::of_seed(seed) {
+            text.check(&mut guards);
+            tally.1.count(&text);
         }
         calls.fetch_add(cases.len(), Ordering::Relaxed);
     }
