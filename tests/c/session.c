@@ -12,8 +12,6 @@
 #include <string.h>
 #include <sys/mman.h>
 
-#define COUNT(array) (sizeof(array) / sizeof(array)[0])
-
 /* The longest list of calls in these cases. */
 #define MOST_CALLS 16
 

@@ -95,15 +95,60 @@ void link_all(void)
             link_vertices(i, j);
 }
 
+void set_buffers(enum entry entry, size_t n)
+{
+    set_graph(n);
+    call.entry = entry;
+    for (size_t i = 0; i < LONGEST; i++) {
+        call.bytes[ADJACENCY][i] = guard_byte(i + 3);
+        call.bytes[WEIGHTS][i] = guard_byte(i + 5);
+    }
+}
+
 void expect_nothing_written(uint64_t number)
 {
     expected.number = number;
     memcpy(expected.bytes, call.bytes, sizeof expected.bytes);
 }
 
-void expect_refusal(unsigned cause, unsigned place)
+void expect_refusal(unsigned cause, uint64_t place)
 {
-    expect_nothing_written(cause | (uint64_t)place << 16);
+    expect_nothing_written(cause | place << 16);
+}
+
+const uint16_t draws_of_0[6] = {15471, 18257, 53709, 43770, 25171, 40751};
+
+void expect_graph(size_t n, const uint16_t *weights, size_t count)
+{
+    expect_nothing_written(0x600 | (uint64_t)n << 32);
+    memset(expected.bytes[ADJACENCY], 0, n * n);
+    for (size_t index = 0; index < count; index++)
+        saszvigom_store_word(expected.bytes[WEIGHTS], index, weights[index]);
+}
+
+void expect_edge(size_t i, size_t j)
+{
+    const size_t n = (size_t)(expected.number >> 32);
+    expected.bytes[ADJACENCY][i * n + j] = 1;
+    expected.bytes[ADJACENCY][j * n + i] = 1;
+    expected.number += 1u << 16;
+}
+
+void expect_draws(size_t count, uint32_t seed)
+{
+    uint64_t state = seed;
+    for (size_t index = 0; index < count; index++) {
+        state = (1664525 * state + 1013904223) % 4294967296;
+        saszvigom_store_word(expected.bytes[WEIGHTS], index, (uint16_t)(1 + state / 65536 % 65520));
+    }
+}
+
+void expect_listed(void)
+{
+    expect_graph(4, draws_of_0, COUNT(draws_of_0));
+    expect_edge(0, 1);
+    expect_edge(0, 2);
+    expect_edge(1, 3);
 }
 
 void run_on_small_stack(void *(*work)(void *))

@@ -6,6 +6,8 @@
 
 #include "compare.h"
 
+#define COUNT(array) (sizeof(array) / sizeof(array)[0])
+
 /* The call that is set up, what is expected of it, and how many were run. */
 extern struct call call;
 extern struct outcome expected;
@@ -34,11 +36,31 @@ void set_weight(size_t index, uint16_t weight);
 void link_vertices(size_t i, size_t j);
 void link_all(void);
 
+/* Sets up a call that reads or draws for n vertices, with buffers that hold
+   arbitrary bytes and are longer than needed by an odd number of them. */
+void set_buffers(enum entry entry, size_t n);
+
 /* Expects a number, and that nothing is written. */
 void expect_nothing_written(uint64_t number);
 
 /* Expects a refusal. */
-void expect_refusal(unsigned cause, unsigned place);
+void expect_refusal(unsigned cause, uint64_t place);
+
+/* The first draws of seed 0. */
+extern const uint16_t draws_of_0[6];
+
+/* Expects that a graph without edges is read, with weights that begin with
+   these. */
+void expect_graph(size_t n, const uint16_t *weights, size_t count);
+
+/* Expects one edge more of the graph that is read. */
+void expect_edge(size_t i, size_t j);
+
+/* Expects the draws of a seed, one state after another. */
+void expect_draws(size_t count, uint32_t seed);
+
+/* Expects the graph that document 01 lists, with the weights of seed 0. */
+void expect_listed(void);
 
 /* Runs something on a thread with a small stack, 128 KiB in all, and 144 with
    sanitizers. If that is too small, the program ends by a signal, and the line

@@ -10,23 +10,8 @@
 #include <stdlib.h>
 #include <string.h>
 
-#define COUNT(array) (sizeof(array) / sizeof(array)[0])
-
-/* The sheet that document 01 lists, and the first draws of its seed. */
+/* The sheet that document 01 lists. */
 static const uint8_t listed[] = {1, 4, 3, 0, 0, 0, 0, 2, 0, 1, 2, 0, 2, 2, 1, 3, 4};
-static const uint16_t draws_of_0[] = {15471, 18257, 53709, 43770, 25171, 40751};
-
-/* Sets up a call for n vertices, with buffers that hold arbitrary bytes and are
-   longer than needed by an odd number of them. */
-static void set_buffers(enum entry entry, size_t n)
-{
-    set_graph(n);
-    call.entry = entry;
-    for (size_t i = 0; i < LONGEST; i++) {
-        call.bytes[ADJACENCY][i] = guard_byte(i + 3);
-        call.bytes[WEIGHTS][i] = guard_byte(i + 5);
-    }
-}
 
 static void set_sheet(size_t n, const uint8_t *sheet, size_t length)
 {
@@ -41,41 +26,6 @@ static void set_draws(uint64_t n, uint32_t seed)
     set_buffers(DRAW, n <= SASZVIGOM_MAX_VERTICES ? (size_t)n : 4);
     call.n = n;
     call.a = seed;
-}
-
-/* Expects a graph without edges, and weights that begin with these. */
-static void expect_graph(size_t n, const uint16_t *weights, size_t count)
-{
-    expect_nothing_written(0x600 | (uint64_t)n << 32);
-    memset(expected.bytes[ADJACENCY], 0, n * n);
-    for (size_t index = 0; index < count; index++)
-        saszvigom_store_word(expected.bytes[WEIGHTS], index, weights[index]);
-}
-
-static void expect_edge(size_t i, size_t j)
-{
-    const size_t n = (size_t)(expected.number >> 32);
-    expected.bytes[ADJACENCY][i * n + j] = 1;
-    expected.bytes[ADJACENCY][j * n + i] = 1;
-    expected.number += 1u << 16;
-}
-
-/* Expects the draws of a seed, one state after another. */
-static void expect_draws(size_t count, uint32_t seed)
-{
-    uint64_t state = seed;
-    for (size_t index = 0; index < count; index++) {
-        state = (1664525 * state + 1013904223) % 4294967296;
-        saszvigom_store_word(expected.bytes[WEIGHTS], index, (uint16_t)(1 + state / 65536 % 65520));
-    }
-}
-
-static void expect_listed(void)
-{
-    expect_graph(4, draws_of_0, COUNT(draws_of_0));
-    expect_edge(0, 1);
-    expect_edge(0, 2);
-    expect_edge(1, 3);
 }
 
 static void good_sheets(void)

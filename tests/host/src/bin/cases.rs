@@ -1,6 +1,6 @@
 //! Writes cases to standard output, for tests/c/replay.c to run them: every Nth
 //! of opening (`opening N`), of reading sheets and drawing weights (`sheets N`),
-//! of reading texts in the DIMACS edge format (`texts N`), or of the session calls
+//! of reading texts in the DIMACS edge format (`dimacs N`), or of the session calls
 //! (`sessions N`). The reference says what is expected.
 
 use host_tests::filling::FillingCase;
@@ -22,7 +22,7 @@ fn main() -> ExitCode {
     let written = match family.as_str() {
         "opening" => write_openings(stride),
         "sheets" => write_fillings(filling_cases::all(), stride),
-        "texts" => write_fillings(text_cases::all(), stride),
+        "dimacs" => write_fillings(text_cases::all(), stride),
         "sessions" => write_sessions(stride),
         _ => return usage(),
     };
@@ -36,7 +36,7 @@ fn main() -> ExitCode {
 }
 
 fn usage() -> ExitCode {
-    eprintln!("usage: cases opening N | cases sheets N | cases texts N | cases sessions N");
+    eprintln!("usage: cases opening N | cases sheets N | cases dimacs N | cases sessions N");
     ExitCode::from(2)
 }
 
