@@ -213,7 +213,12 @@ static const struct {
     {"p edge 4 18446744073709551616\n", SASZVIGOM_LINE_COUNT_WRONG, 0},
     {"p edge 4 18446744073709551617\ne 1 2\n", SASZVIGOM_LINE_COUNT_WRONG, 0},
     {"p edge 4 340282366920938463463374607431768211457\ne 1 2\n", SASZVIGOM_LINE_COUNT_WRONG, 0},
+
+    /* A line at fault comes first, also after too many lines e. */
     {"p edge 4 2\ne 1 2\ne 1 5\n", SASZVIGOM_LINE_VERTEX_INVALID, 3},
+    {"p edge 4 0\ne 1 2\ne 1 5\n", SASZVIGOM_LINE_VERTEX_INVALID, 3},
+    {"p edge 4 0\ne 1 2\ne 1 3\nnonsense\n", SASZVIGOM_LINE_INVALID, 4},
+    {"p edge 4 0\ne 1 2\ne 1 3", SASZVIGOM_LINE_INVALID, 3},
 };
 
 /* Names a case by its text, in which control characters are shown as points. */
@@ -400,6 +405,28 @@ static void late_lines(void)
     }
 }
 
+/* One edge in 70000 lines, and M right, or as if it were counted in 16 bits. */
+static void many_lines(void)
+{
+    static const unsigned counts[] = {70000, 70000 - 65536, 65535, 69999, 70001};
+    static char text[70000 * 6 + 20];
+    for (size_t i = 0; i < COUNT(counts); i++) {
+        char name[64];
+        size_t length = (size_t)snprintf(text, sizeof text, "p edge 4 %u\n", counts[i]);
+        for (size_t line = 0; line < 70000; line++, length += 6)
+            memcpy(text + length, line % 2 == 0 ? "e 1 4\n" : "e 4 1\n", 6);
+        set_text(4, "", 0);
+        if (counts[i] == 70000) {
+            expect_graph(4, draws_of_0, COUNT(draws_of_0));
+            expect_edge(0, 3);
+        } else {
+            expect_refusal(SASZVIGOM_LINE_COUNT_WRONG, 0);
+        }
+        (void)snprintf(name, sizeof name, "70000 lines of an edge, M is %u", counts[i]);
+        (void)run_long(name, text, length);
+    }
+}
+
 /* The accessors, on numbers that a call returns, and on lines that no text can
    have in memory. */
 static void accessors(void)
@@ -461,6 +488,7 @@ int main(void)
     lengths();
     largest_text();
     late_lines();
+    many_lines();
     accessors();
     run_on_small_stack(run_largest);
     printf("%zu cases\n", cases);

@@ -1,7 +1,7 @@
 //! Seeded random and damaged calls of the C entries, with what the reference
 //! expects of them. The program `cases` writes them out for tests/c/replay.c,
 //! which runs and compares them. The tests judge them by themselves, and the
-//! program `long` runs any number of session calls.
+//! program `long` runs any number of session calls and texts.
 
 pub mod call;
 pub mod cases;
