@@ -31,10 +31,11 @@
  * unmatched have a perfect matching. A refusal with SASZVIGOM_REST_SINGULAR is
  * about these weights, as a singular graph is: they may still have one.
  *
- * saszvigom_read reads a graph from the bytes of a sheet, and saszvigom_draws
- * draws weights. saszvigom_open finds the inverse or a witness. With an inverse
- * it begins a session, in which vertices are matched: saszvigom_pick matches
- * two vertices, saszvigom_automatic matches the lowest unmatched vertex,
+ * saszvigom_read reads a graph from the bytes of a sheet, saszvigom_read_dimacs
+ * reads one from a text in the DIMACS edge format, and saszvigom_draws draws
+ * weights. saszvigom_open finds the inverse or a witness. With an inverse it
+ * begins a session, in which vertices are matched: saszvigom_pick matches two
+ * vertices, saszvigom_automatic matches the lowest unmatched vertex,
  * saszvigom_undo removes the last pair, saszvigom_row finds the vertices that
  * may be matched with a vertex, and saszvigom_replay makes a whole list of
  * calls. A pick is accepted only if the vertices that it leaves unmatched have
@@ -65,9 +66,9 @@ extern "C" {
    minor number changes, as CHANGES.md says, but not when the patch number
    does. */
 #define SASZVIGOM_VERSION_MAJOR 0
-#define SASZVIGOM_VERSION_MINOR 5
+#define SASZVIGOM_VERSION_MINOR 6
 #define SASZVIGOM_VERSION_PATCH 0
-#define SASZVIGOM_VERSION "0.5.0"
+#define SASZVIGOM_VERSION "0.6.0"
 
 /* The version as a number, also for #if: the patch number in bits 0 to 7, the
    minor one in 8 to 15 and the major one in 16 to 23. */
@@ -124,14 +125,17 @@ uint64_t saszvigom_version(void);
 
 /* Why a call was refused: bits 0 to 7 of the number returned. No number is 0,
    so test saszvigom_cause_of(number) and never the number. The place, in bits
-   16 to 31, says where. 12 and 13 have two names each: one for the list of
-   saszvigom_replay and one for the sheet of saszvigom_read, the only calls that
-   return them. Use one of the two in a switch. */
+   16 to 62, says where; only the line of a text can be above 65535.
+
+   12 to 17 are faults of a list, a sheet or a text, and only saszvigom_replay,
+   saszvigom_read and saszvigom_read_dimacs return them. 12 and 13 have two
+   names each, one for a list and one for a sheet, and so has 14, one for a
+   sheet and one for a text. Use one of the two in a switch. */
 enum saszvigom_cause SASZVIGOM_ENUM_TYPE {
     /* The call was carried out. */
     SASZVIGOM_NO_CAUSE = 0,
     /* n is above 96. The place is 0, which is also the offset of a sheet's size
-       record. */
+       record; of a text it is the line. */
     SASZVIGOM_SIZE_TOO_LARGE = 1,
     /* A buffer is too short. The place is the number of the first such buffer,
        one of enum saszvigom_buffer. */
@@ -184,9 +188,21 @@ enum saszvigom_cause SASZVIGOM_ENUM_TYPE {
     /* A record of an edge has a vertex of n or more, or the same vertex twice.
        The place is the offset of the record. */
     SASZVIGOM_RECORD_VERTEX_INVALID = 14,
+    /* A line 'e u v' of a text has a vertex that is 0 or above N, or the same
+       vertex twice. The place is the line, counted from 1. */
+    SASZVIGOM_LINE_VERTEX_INVALID = 14,
     /* A record names the same two vertices as an earlier one, in either order.
-       The place is the offset of the later record. */
-    SASZVIGOM_EDGE_REPEATED = 15
+       The place is the offset of the later record. A text may repeat an
+       edge. */
+    SASZVIGOM_EDGE_REPEATED = 15,
+    /* A line of a text is not 'c ..', 'p edge N M' or 'e u v' with a line feed
+       after it, or it is a second 'p', or an 'e' before the 'p'. The place is
+       the line, counted from 1. It is 0 if no line is at fault but there is no
+       'p' at all. */
+    SASZVIGOM_LINE_INVALID = 16,
+    /* The lines 'e u v' of a text are fewer or more than the M of its line
+       'p edge N M'. The place is 0. */
+    SASZVIGOM_LINE_COUNT_WRONG = 17
 };
 
 /* The buffers, as the place of SASZVIGOM_BUFFER_TOO_SHORT names them. */
@@ -216,7 +232,7 @@ enum saszvigom_kind SASZVIGOM_ENUM_TYPE {
     SASZVIGOM_ROW = 4,
     /* The calls of a list were made. */
     SASZVIGOM_REPLAYED = 5,
-    /* A sheet, which was read. */
+    /* A graph, which was read from a sheet or from a text. */
     SASZVIGOM_SHEET = 6,
     /* Weights, which were drawn. */
     SASZVIGOM_DRAWS = 7
@@ -327,7 +343,7 @@ uint64_t saszvigom_open(uint64_t n,
  * The number, by its bits; all others are 0:
  *
  *                 0 to 7   8 to 15   16 to 31   32 to 39
- *     sheet       0        6         edges      n
+ *     graph       0        6         edges      n
  *     refused     cause    0         place      0
  */
 SASZVIGOM_NOT_NULL
@@ -336,8 +352,69 @@ uint64_t saszvigom_read(const uint8_t *sheet, size_t sheet_len,
                         uint8_t *weights, size_t weights_len);
 
 /*
+ * Reads a graph from a text in the DIMACS edge format. The weights are the
+ * draws of a seed, which is given beside the text.
+ *
+ *   text       read; lines, each ended by a line feed (byte 10), the last one
+ *              too
+ *   seed       any number
+ *   adjacency  written; n * n bytes, as for saszvigom_open
+ *   weights    written; n * (n - 1) / 2 words, those of saszvigom_draws
+ *
+ * Each line is one of these:
+ *
+ *     c ..          a comment: whatever begins with c
+ *     p edge N M    there is one: n is N, and there are M lines e
+ *     e u v         an edge, after the line p: two different vertices from 1 to
+ *                   N
+ *
+ * Comments may stand anywhere. The other two have exactly this form: N, M, u
+ * and v are one decimal digit or more each, with zeros in front or not, and
+ * single spaces part the fields. A space at the end, a tab, a carriage return,
+ * a sign and an empty line are faults, and so are bytes after the last line
+ * feed. A number may have any number of digits and is taken at its full value.
+ * The same edge may be there several times, in either order: it is one edge,
+ * and each of its lines counts towards M.
+ *
+ * A text counts vertices from 1, the library from 0: vertex u of the text is
+ * vertex u - 1. The text may have any length, and the time is linear in it.
+ * Lengths, alignment, overlap, null and the bytes past those needed are as for
+ * saszvigom_open, for all three buffers; those of saszvigom_read are long
+ * enough here too.
+ *
+ * The number returned, and what is written:
+ *
+ *   The text is in order and the buffers are long enough: kind
+ *       SASZVIGOM_SHEET, with the number of different edges and n, as from
+ *       saszvigom_read. Opening does not refuse this graph.
+ *   Else the call is refused, and nothing is written. The lines are taken in
+ *       order, and the first one that is at fault counts:
+ *       SASZVIGOM_LINE_INVALID, SASZVIGOM_SIZE_TOO_LARGE if N is above 96, or
+ *       SASZVIGOM_LINE_VERTEX_INVALID, each with the line as its place. Only
+ *       if no line is at fault: SASZVIGOM_LINE_INVALID at 0 if there is no line
+ *       p, then SASZVIGOM_LINE_COUNT_WRONG at 0, then
+ *       SASZVIGOM_BUFFER_TOO_SHORT, at SASZVIGOM_BUFFER_ADJACENCY or else at
+ *       SASZVIGOM_BUFFER_WEIGHTS.
+ *
+ * The number, by its bits; all others are 0:
+ *
+ *                 0 to 7   8 to 15   16 to 31   32 to 39
+ *     graph       0        6         edges      n
+ *     refused     cause    0         place, 16 to 62
+ *
+ * Lines are counted from 1, comments included. A line of 140737488355327 or
+ * later is given as this number, the largest of 47 bits: so many lines have
+ * more bytes than a process can address.
+ */
+SASZVIGOM_NOT_NULL
+uint64_t saszvigom_read_dimacs(const uint8_t *text, size_t text_len, uint32_t seed,
+                               uint8_t *adjacency, size_t adjacency_len,
+                               uint8_t *weights, size_t weights_len);
+
+/*
  * Draws the weights of a graph of n vertices from a seed: those that
- * saszvigom_read gives a sheet with that size and seed.
+ * saszvigom_read gives a sheet with that size and seed, and
+ * saszvigom_read_dimacs a text with that seed.
  *
  *   n          the number of vertices, 0 to 96
  *   seed       any number
@@ -536,11 +613,20 @@ static inline enum saszvigom_kind saszvigom_kind_of(uint64_t number)
     return (enum saszvigom_kind)(number >> 8 & 0xFFu);
 }
 
-/* Returns the place of the cause. It means nothing if the call was not
-   refused. */
+/* Returns the place of the cause in full: the line of a text. It means nothing
+   if the call was not refused. */
+static inline uint64_t saszvigom_line_of(uint64_t number)
+{
+    return number >> 16 & 0x7FFFFFFFFFFFu;
+}
+
+/* Returns the place of the cause, or 4294967295 if it is that or larger, as only
+   the line of a text can be: saszvigom_line_of returns that in full. It means
+   nothing if the call was not refused. */
 static inline unsigned saszvigom_place_of(uint64_t number)
 {
-    return (unsigned)(number >> 16 & 0xFFFFu);
+    const uint64_t place = saszvigom_line_of(number);
+    return place < 0xFFFFFFFFu ? (unsigned)place : 0xFFFFFFFFu;
 }
 
 /* Returns the first buffer that is too short: the place as an enum. It means
@@ -579,15 +665,15 @@ static inline unsigned saszvigom_made_of(uint64_t number)
     return (unsigned)(number >> 32 & 0xFFu);
 }
 
-/* Returns the number of edges of a sheet. It means nothing for a kind other
-   than SASZVIGOM_SHEET. */
+/* Returns the number of edges of a graph that was read. It means nothing for a
+   kind other than SASZVIGOM_SHEET. */
 static inline unsigned saszvigom_edges_of(uint64_t number)
 {
     return (unsigned)(number >> 16 & 0xFFFFu);
 }
 
-/* Returns the number of vertices of a sheet. It means nothing for a kind other
-   than SASZVIGOM_SHEET. */
+/* Returns the number of vertices of a graph that was read. It means nothing for
+   a kind other than SASZVIGOM_SHEET. */
 static inline unsigned saszvigom_size_of(uint64_t number)
 {
     return (unsigned)(number >> 32 & 0xFFu);

@@ -20,8 +20,8 @@
  *
  * These mistakes do no harm: a vertex that is not there or is given twice, a
  * weight out of range, more than 96 vertices, a session call before opening or
- * after a graph that is singular or was changed, and null for a list or a sheet.
- * Not guarded: null for the graph, a graph whose bytes were never set, by
+ * after a graph that is singular or was changed, and null for a list, a sheet or
+ * a text. Not guarded: null for the graph, a graph whose bytes were never set, by
  * saszvigom_graph_init or from a copy, and lists that overlap each other or the
  * graph.
  *
@@ -80,8 +80,8 @@ static inline void saszvigom_graph_forget(struct saszvigom_graph *graph)
 /* Makes a graph of n vertices without edges. Its weights are 0, so that opening
    it, if n is 2 or more, is refused with SASZVIGOM_WEIGHT_OUT_OF_RANGE until
    they are drawn or all set. Returns false if n is above 96: then every call of
-   the library except saszvigom_graph_read is refused with
-   SASZVIGOM_SIZE_TOO_LARGE. */
+   the library except saszvigom_graph_read and saszvigom_graph_read_dimacs is
+   refused with SASZVIGOM_SIZE_TOO_LARGE. */
 static inline bool saszvigom_graph_init(struct saszvigom_graph *graph, uint64_t n)
 {
     memset(graph, 0, sizeof *graph);
@@ -158,6 +158,17 @@ static inline uint64_t saszvigom_graph_draw(struct saszvigom_graph *graph, uint3
     return saszvigom_draws(graph->n, seed, graph->weights, sizeof graph->weights);
 }
 
+/* Clears the session and takes the number of vertices from the number of a
+   reader, if that was carried out. Only for this header. */
+static inline uint64_t saszvigom_graph_take(struct saszvigom_graph *graph, uint64_t number)
+{
+    if (saszvigom_kind_of(number) == SASZVIGOM_SHEET) {
+        saszvigom_graph_forget(graph);
+        graph->n = saszvigom_size_of(number);
+    }
+    return number;
+}
+
 /* Reads the graph from a sheet, with its number of vertices, edges and weights:
    saszvigom_read. There is then no session: open the graph. If the sheet is
    refused, the graph and its session stay as they were. Null is a sheet of no
@@ -166,15 +177,25 @@ static inline uint64_t saszvigom_graph_read(struct saszvigom_graph *graph, const
                                             size_t sheet_len)
 {
     const uint8_t none = 0;
-    const uint64_t number = saszvigom_read(sheet != NULL ? sheet : &none,
-                                           sheet != NULL ? sheet_len : 0, graph->adjacency,
-                                           sizeof graph->adjacency, graph->weights,
-                                           sizeof graph->weights);
-    if (saszvigom_kind_of(number) == SASZVIGOM_SHEET) {
-        saszvigom_graph_forget(graph);
-        graph->n = saszvigom_size_of(number);
-    }
-    return number;
+    return saszvigom_graph_take(
+        graph, saszvigom_read(sheet != NULL ? sheet : &none, sheet != NULL ? sheet_len : 0,
+                              graph->adjacency, sizeof graph->adjacency, graph->weights,
+                              sizeof graph->weights));
+}
+
+/* Reads the graph from a text in the DIMACS edge format, a string or any bytes,
+   and draws its weights from a seed: saszvigom_read_dimacs. The length of a
+   string is its strlen. Session, refusal and null are as for
+   saszvigom_graph_read. */
+static inline uint64_t saszvigom_graph_read_dimacs(struct saszvigom_graph *graph, const void *text,
+                                                   size_t text_len, uint32_t seed)
+{
+    const uint8_t none = 0;
+    return saszvigom_graph_take(
+        graph, saszvigom_read_dimacs(text != NULL ? (const uint8_t *)text : &none,
+                                     text != NULL ? text_len : 0, seed, graph->adjacency,
+                                     sizeof graph->adjacency, graph->weights,
+                                     sizeof graph->weights));
 }
 
 /* Keeps the pairs made of a call that was carried out. Only for this header. */

@@ -15,7 +15,8 @@
 extern "C" {
 #endif
 
-/* Which call returned a number: causes 12 and 13 have two meanings. */
+/* Which call returned a number: causes 12 to 14 have two meanings each, and the
+   place is a line for some. */
 enum saszvigom_from SASZVIGOM_ENUM_TYPE {
     /* saszvigom_open, saszvigom_draws or a session call other than
        saszvigom_replay; also an answer that saszvigom_replay wrote. */
@@ -23,12 +24,14 @@ enum saszvigom_from SASZVIGOM_ENUM_TYPE {
     /* saszvigom_replay. */
     SASZVIGOM_FROM_LIST = 1,
     /* saszvigom_read. */
-    SASZVIGOM_FROM_SHEET = 2
+    SASZVIGOM_FROM_SHEET = 2,
+    /* saszvigom_read_dimacs. */
+    SASZVIGOM_FROM_DIMACS = 3
 };
 
-/* Returns a cause as text, without its place. The text is "a fault of a list or
-   of a sheet" for 12 to 15 if such a call does not return them, and "an unknown
-   cause" above 15. */
+/* Returns a cause as text, without its place. The text is "a fault of a list, a
+   sheet or a text" for 12 to 17 if such a call does not return them, and "an
+   unknown cause" above 17. */
 static inline const char *saszvigom_cause_text(enum saszvigom_cause cause,
                                                enum saszvigom_from from)
 {
@@ -71,16 +74,28 @@ static inline const char *saszvigom_cause_text(enum saszvigom_cause cause,
         if (from == SASZVIGOM_FROM_SHEET)
             return "the sheet ends within a record, or before its end record";
         break;
-    case SASZVIGOM_RECORD_VERTEX_INVALID:
+    case SASZVIGOM_RECORD_VERTEX_INVALID: /* and SASZVIGOM_LINE_VERTEX_INVALID */
         if (from == SASZVIGOM_FROM_SHEET)
             return "a record has a vertex that is not there, or the same vertex twice";
+        if (from == SASZVIGOM_FROM_DIMACS)
+            return "a line has a vertex that is 0 or above N, or the same vertex twice";
         break;
     case SASZVIGOM_EDGE_REPEATED:
         if (from == SASZVIGOM_FROM_SHEET)
             return "an earlier record has the same edge";
         break;
+    case SASZVIGOM_LINE_INVALID:
+        if (from == SASZVIGOM_FROM_DIMACS)
+            return "a line is not 'c ..', 'p edge N M' or 'e u v', or stands where it may not, or "
+                   "there is no 'p'";
+        break;
+    case SASZVIGOM_LINE_COUNT_WRONG:
+        if (from == SASZVIGOM_FROM_DIMACS)
+            return "the lines 'e u v' are not as many as the line 'p edge N M' says";
+        break;
     }
-    return cause <= SASZVIGOM_EDGE_REPEATED ? "a fault of a list or of a sheet" : "an unknown cause";
+    return cause <= SASZVIGOM_LINE_COUNT_WRONG ? "a fault of a list, a sheet or a text"
+                                               : "an unknown cause";
 }
 
 /* Returns the name of a buffer, or "unknown". */
@@ -124,7 +139,7 @@ static inline const char *saszvigom_kind_text(enum saszvigom_kind kind)
     case SASZVIGOM_REPLAYED:
         return "replayed";
     case SASZVIGOM_SHEET:
-        return "sheet";
+        return "graph";
     case SASZVIGOM_DRAWS:
         return "draws";
     }
@@ -202,14 +217,18 @@ static inline unsigned saszvigom_fault_row(uint64_t number, uint64_t n)
 {
     if ((number >> 32 & 0xFFu) != 0)
         return (unsigned)(number >> 16 & 0xFFu);
-    return n == 0 || n > SASZVIGOM_MAX_VERTICES ? 0 : saszvigom_place_of(number) / (unsigned)n;
+    if (n == 0 || n > SASZVIGOM_MAX_VERTICES)
+        return 0;
+    return (unsigned)(number >> 16 & 0xFFFFu) / (unsigned)n;
 }
 
 static inline unsigned saszvigom_fault_column(uint64_t number, uint64_t n)
 {
     if ((number >> 32 & 0xFFu) != 0)
         return (unsigned)(number >> 24 & 0xFFu);
-    return n == 0 || n > SASZVIGOM_MAX_VERTICES ? 0 : saszvigom_place_of(number) % (unsigned)n;
+    if (n == 0 || n > SASZVIGOM_MAX_VERTICES)
+        return 0;
+    return (unsigned)(number >> 16 & 0xFFFFu) % (unsigned)n;
 }
 
 static inline enum saszvigom_fault saszvigom_fault_of(uint64_t number, uint64_t n,
@@ -245,9 +264,9 @@ static inline void saszvigom_line_text(struct saszvigom_line *line, const char *
 }
 
 static inline void saszvigom_line_number(struct saszvigom_line *line, const char *before,
-                                         unsigned number)
+                                         uint64_t number)
 {
-    unsigned power = 1;
+    uint64_t power = 1;
     saszvigom_line_text(line, before);
     while (number / power >= 10u)
         power *= 10u;
@@ -342,9 +361,32 @@ static inline void saszvigom_line_refusal(struct saszvigom_line *line, uint64_t 
     } else if (cause == SASZVIGOM_WEIGHT_OUT_OF_RANGE &&
                saszvigom_weight_vertices(n, saszvigom_place_of(number), &i, &j)) {
         saszvigom_line_weight(line, number, n, weights, weights_len, i, j);
+    } else if (cause == SASZVIGOM_LINE_INVALID && from == SASZVIGOM_FROM_DIMACS) {
+        saszvigom_line_text(line, saszvigom_line_of(number) == 0
+                                      ? "there is no line 'p edge N M'"
+                                      : "a line is not 'c ..', 'p edge N M' or 'e u v', or stands "
+                                        "where it may not");
     } else {
         saszvigom_line_text(line, saszvigom_cause_text(cause, from));
     }
+}
+
+/* Writes the place of a cause that has one, after the cause's number. A list or
+   a text may go on past the largest place. Only for this header. */
+static inline void saszvigom_line_place(struct saszvigom_line *line, uint64_t number,
+                                        enum saszvigom_from from)
+{
+    const enum saszvigom_cause cause = saszvigom_cause_of(number);
+    const uint64_t place = saszvigom_line_of(number);
+    const bool in_text = from == SASZVIGOM_FROM_DIMACS && cause != SASZVIGOM_BUFFER_TOO_SHORT;
+
+    if (cause != SASZVIGOM_BUFFER_TOO_SHORT && cause != SASZVIGOM_WEIGHT_OUT_OF_RANGE &&
+        cause <= SASZVIGOM_NOTHING_LEFT && !(in_text && cause == SASZVIGOM_SIZE_TOO_LARGE))
+        return;
+    saszvigom_line_number(line, in_text && place != 0 ? " at line " : " at ", place);
+    if ((from == SASZVIGOM_FROM_LIST && cause > SASZVIGOM_NOTHING_LEFT && place == 0xFFFFu) ||
+        (in_text && place == 0x7FFFFFFFFFFFu))
+        saszvigom_line_text(line, " or later");
 }
 
 /*
@@ -360,7 +402,8 @@ static inline void saszvigom_line_refusal(struct saszvigom_line *line, uint64_t 
  *           and a 0 after it. Null only with size 0: then nothing is written
  *   size    the bytes of text
  *   number  what a call returned
- *   n       the vertices that the call was for; any number for saszvigom_read
+ *   n       the vertices that the call was for; any number for saszvigom_read and
+ *           saszvigom_read_dimacs
  *   from    which call it was
  *   adjacency, weights
  *           read; the graph of the call, each with its length. A buffer that is
@@ -379,7 +422,6 @@ static inline size_t saszvigom_explain_with(char *text, size_t size, uint64_t nu
 {
     const enum saszvigom_cause cause = saszvigom_cause_of(number);
     const enum saszvigom_kind kind = saszvigom_kind_of(number);
-    const unsigned place = saszvigom_place_of(number);
     struct saszvigom_line line;
     line.text = text;
     line.size = size;
@@ -390,12 +432,7 @@ static inline size_t saszvigom_explain_with(char *text, size_t size, uint64_t nu
         saszvigom_line_refusal(&line, number, n, from, adjacency, adjacency_len, weights,
                                weights_len);
         saszvigom_line_number(&line, " (cause ", cause);
-        if (cause == SASZVIGOM_BUFFER_TOO_SHORT || cause == SASZVIGOM_WEIGHT_OUT_OF_RANGE ||
-            cause > SASZVIGOM_NOTHING_LEFT) {
-            saszvigom_line_number(&line, " at ", place);
-            if (from == SASZVIGOM_FROM_LIST && cause > SASZVIGOM_NOTHING_LEFT && place == 65535u)
-                saszvigom_line_text(&line, " or later");
-        }
+        saszvigom_line_place(&line, number, from);
         saszvigom_line_char(&line, ')');
     } else if (cause != SASZVIGOM_NO_CAUSE) {
         saszvigom_line_text(&line, "no answer: both a cause and a kind");
@@ -425,7 +462,7 @@ static inline size_t saszvigom_explain_with(char *text, size_t size, uint64_t nu
                                   saszvigom_made_of(number));
             break;
         case SASZVIGOM_SHEET:
-            saszvigom_line_number(&line, "sheet: vertices ", saszvigom_size_of(number));
+            saszvigom_line_number(&line, "graph: vertices ", saszvigom_size_of(number));
             saszvigom_line_number(&line, ", edges ", saszvigom_edges_of(number));
             break;
         case SASZVIGOM_DRAWS:
