@@ -6,6 +6,7 @@
 #include "saszvigom_graph.h"
 
 #include <stdio.h>
+#include <string.h>
 
 static struct saszvigom_graph graph; /* large, so not on the stack */
 
@@ -104,6 +105,22 @@ static void of_the_sheet(void)
              SASZVIGOM_FROM_SHEET);
 }
 
+static void say_text(const char *what, const char *text)
+{
+    say_from(what, saszvigom_graph_read_dimacs(&graph, text, strlen(text), 1),
+             SASZVIGOM_FROM_DIMACS);
+}
+
+/* 1, 14, 16 and 17 of a text: the graph is as it was. */
+static void of_the_text(void)
+{
+    say_text("read a text of 97 vertices", "c too large\np edge 97 0\n");
+    say_text("read an edge of vertex 0", "p edge 4 2\ne 1 2\ne 0 1\n");
+    say_text("read a text with Windows line ends", "p edge 4 1\r\ne 1 2\r\n");
+    say_text("read a text of comments", "c p edge 4 1\nc e 1 2\n");
+    say_text("read one edge of two", "p edge 4 2\ne 1 2\n");
+}
+
 int main(void)
 {
     of_the_graph();
@@ -111,6 +128,7 @@ int main(void)
     of_the_call();
     of_the_list();
     of_the_sheet();
+    of_the_text();
     say("and the session goes on: automatic", saszvigom_graph_automatic(&graph));
     return 0;
 }

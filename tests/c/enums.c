@@ -48,6 +48,8 @@ static void cause(enum saszvigom_cause value, enum saszvigom_from from)
     case SASZVIGOM_SHEET_CUT:
     case SASZVIGOM_RECORD_VERTEX_INVALID:
     case SASZVIGOM_EDGE_REPEATED:
+    case SASZVIGOM_LINE_INVALID:
+    case SASZVIGOM_LINE_COUNT_WRONG:
         known++;
     }
 }
@@ -100,7 +102,7 @@ int main(void)
 {
     uint64_t value;
     unsigned from;
-    for (from = 0; from <= 3; from++)
+    for (from = 0; from <= 4; from++)
         for (value = 0; value < 65536; value++) {
             char line[SASZVIGOM_LINE_BYTES];
             const size_t length = saszvigom_explain(line, sizeof line, value, value % 101,
@@ -109,10 +111,10 @@ int main(void)
                 return 1;
             count(line);
         }
-    for (from = 0; from <= 3; from++) {
+    for (from = 0; from <= 4; from++) {
         for (value = 0; value < 256; value++)
             cause(saszvigom_cause_of(value), (enum saszvigom_from)from);
-        expect("causes", 16);
+        expect("causes", 18);
     }
     for (value = 0; value < 256; value++)
         kind(saszvigom_kind_of(value << 8));

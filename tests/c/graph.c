@@ -212,6 +212,64 @@ static void sheets(void)
     check_number("opened", saszvigom_graph_open(&graph), 0x100);
 }
 
+/* Reads a text with seed 0. */
+static uint64_t read_text(const char *text)
+{
+    return saszvigom_graph_read_dimacs(&graph, text, strlen(text), 0);
+}
+
+static void dimacs(void)
+{
+    const char *const text = "c a path\np edge 4 4\ne 1 2\ne 1 3\ne 4 2\ne 2 4\n";
+    const uint8_t sheet[] = {1, 4, 3, 0, 0, 0, 0, 2, 0, 1, 2, 0, 2, 2, 1, 3, 4};
+    uint8_t bytes[64];
+    open_ring(6);
+    check_number("a pair", saszvigom_graph_automatic(&graph), 0x101000300);
+    before = graph;
+    check_number("null text", saszvigom_graph_read_dimacs(&graph, NULL, 0, 0), 16);
+    check_number("null text with a length", saszvigom_graph_read_dimacs(&graph, NULL, 17, 0), 16);
+    check_number("no text", read_text(""), 16);
+    check_number("comments only", read_text("c\ncc\n"), 16);
+    check_number("a text that is cut", saszvigom_graph_read_dimacs(&graph, text, 13, 0), 0x20010);
+    check_number("too few lines", saszvigom_graph_read_dimacs(&graph, text, strlen(text) - 6, 0), 17);
+    check_number("a text of too many", read_text("c\np edge 97 0\n"), 0x20001);
+    check_number("no such vertex", read_text("p edge 4 2\ne 1 2\ne 0 1\n"), 0x3000E);
+    check_number("a second p", read_text("p edge 4 0\np edge 4 0\n"), 0x20010);
+    check("refused texts, unchanged", unchanged());
+    check_number("and the session goes on", saszvigom_graph_automatic(&graph), 0x203020300);
+    check_number("a row of it", saszvigom_graph_row(&graph, 4), 0x200000400);
+
+    check_number("text", read_text(text), 0x400030600);
+    check("size", graph.n == 4 && graph.made == 0);
+    check("no session", all(graph.inverse, sizeof graph.inverse, 0) &&
+                            all(graph.sequence, sizeof graph.sequence, SASZVIGOM_UNUSED) &&
+                            all(graph.row, sizeof graph.row, 0));
+    before = graph;
+    check_number("the same graph from a sheet",
+                 saszvigom_graph_read(&graph, sheet, sizeof sheet), 0x400030600);
+    check("from either", unchanged());
+    memcpy(bytes, text, strlen(text));
+    check_number("the same from bytes",
+                 saszvigom_graph_read_dimacs(&graph, bytes, strlen(text), 0), 0x400030600);
+    check("from bytes", unchanged());
+    check_number("pick before opening", saszvigom_graph_pick(&graph, 0, 2), 6);
+    check_number("opening", saszvigom_graph_open(&graph), 0x100);
+    check_number("automatic", saszvigom_graph_automatic(&graph), 0x102000300);
+
+    check_number("another seed", saszvigom_graph_read_dimacs(&graph, text, strlen(text), 4294967295u),
+                 0x400030600);
+    check("other weights", saszvigom_graph_weight(&graph, 0, 1) != saszvigom_word(before.weights, 0));
+    before = graph;
+    check_number("drawn", saszvigom_graph_draw(&graph, 4294967295u), 0x60700);
+    check("the draws of that seed", unchanged());
+
+    check("init of too many", !saszvigom_graph_init(&graph, 97));
+    check_number("text after too many", read_text(text), 0x400030600);
+    check_number("opened", saszvigom_graph_open(&graph), 0x100);
+    check_number("text of no vertices", read_text("p edge 0 0\n"), 0x600);
+    check_number("opened without vertices", saszvigom_graph_open(&graph), 0x100);
+}
+
 static void session(void)
 {
     make_ring(6);
@@ -379,6 +437,12 @@ static void explained(void)
                saszvigom_graph_replay(&graph, NULL, 1, NULL, 0), SASZVIGOM_FROM_LIST);
     check_line("refused: the sheet ends within a record, or before its end record (cause 13 at 0)",
                saszvigom_graph_read(&graph, NULL, 0), SASZVIGOM_FROM_SHEET);
+    check_line("refused: there is no line 'p edge N M' (cause 16 at 0)",
+               saszvigom_graph_read_dimacs(&graph, NULL, 0, 0), SASZVIGOM_FROM_DIMACS);
+    check_line("refused: a line is not 'c ..', 'p edge N M' or 'e u v', or stands where it may not "
+               "(cause 16 at line 2)",
+               read_text("c\r\np edge 4 0\r\n"), SASZVIGOM_FROM_DIMACS);
+    check_line("graph: vertices 4, edges 0", read_text("p edge 4 0\n"), SASZVIGOM_FROM_DIMACS);
     make_ring(3);
     check_line("singular: there is no inverse, first dependent column 2; n is odd: no perfect "
                "matching",
@@ -434,6 +498,7 @@ int main(void)
     edges();
     weights();
     sheets();
+    dimacs();
     session();
     replays();
     explained();

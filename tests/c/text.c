@@ -48,7 +48,7 @@ static void check_text(const char *what, const char *text, const char *expected)
 /* The texts of the causes, buffers and kinds, from 0 on; the last ones are those
    of unknown numbers. */
 static const char *const unknown = "an unknown cause";
-static const char *const other = "a fault of a list or of a sheet";
+static const char *const other = "a fault of a list, a sheet or a text";
 
 static const char *const causes[] = {
     "the call was carried out",
@@ -76,25 +76,26 @@ static void texts(void)
                                    "witness", "work",      "row",     "unknown", "unknown",
                                    "answers", "unknown"};
     const char *const kinds[] = {"refused", "opened", "singular", "pair",   "row",
-                                 "replayed", "sheet", "draws",    "unknown"};
+                                 "replayed", "graph", "draws",    "unknown"};
     const enum saszvigom_from froms[] = {SASZVIGOM_FROM_CALL, SASZVIGOM_FROM_LIST,
-                                         SASZVIGOM_FROM_SHEET};
+                                         SASZVIGOM_FROM_SHEET, SASZVIGOM_FROM_DIMACS};
     for (size_t from = 0; from < COUNT(froms); from++) {
         for (unsigned cause = 0; cause < COUNT(causes); cause++)
             check_text("cause", cause_text(cause, froms[from]), causes[cause]);
-        check_text("cause 16", cause_text(16, froms[from]), unknown);
+        check_text("cause 18", cause_text(18, froms[from]), unknown);
         check_text("cause 255", cause_text(255, froms[from]), unknown);
         check_text("largest cause", cause_text(~0u, froms[from]), unknown);
     }
-    for (unsigned cause = 12; cause < 16; cause++)
+    for (unsigned cause = 12; cause < 18; cause++) {
         check_text("no cause of a call", cause_text(cause, SASZVIGOM_FROM_CALL), other);
-    check_text("12 of an unknown call", cause_text(12, (enum saszvigom_from)9), other);
+        check_text("of an unknown call", cause_text(cause, (enum saszvigom_from)9), other);
+    }
+    for (unsigned cause = 14; cause < 18; cause++)
+        check_text("no cause of a list", cause_text(cause, SASZVIGOM_FROM_LIST), other);
     check_text("12 of a list", cause_text(12, SASZVIGOM_FROM_LIST),
                "a call of the list is of no known kind");
     check_text("13 of a list", cause_text(13, SASZVIGOM_FROM_LIST),
                "the list ends within a call");
-    check_text("14 of a list", cause_text(14, SASZVIGOM_FROM_LIST), other);
-    check_text("15 of a list", cause_text(15, SASZVIGOM_FROM_LIST), other);
     check_text("12 of a sheet", cause_text(12, SASZVIGOM_FROM_SHEET),
                "a byte of the sheet is no record that may stand there");
     check_text("13 of a sheet", cause_text(13, SASZVIGOM_FROM_SHEET),
@@ -103,6 +104,18 @@ static void texts(void)
                "a record has a vertex that is not there, or the same vertex twice");
     check_text("15 of a sheet", cause_text(15, SASZVIGOM_FROM_SHEET),
                "an earlier record has the same edge");
+    check_text("16 of a sheet", cause_text(16, SASZVIGOM_FROM_SHEET), other);
+    check_text("17 of a sheet", cause_text(17, SASZVIGOM_FROM_SHEET), other);
+    check_text("12 of a text", cause_text(12, SASZVIGOM_FROM_DIMACS), other);
+    check_text("13 of a text", cause_text(13, SASZVIGOM_FROM_DIMACS), other);
+    check_text("14 of a text", cause_text(14, SASZVIGOM_FROM_DIMACS),
+               "a line has a vertex that is 0 or above N, or the same vertex twice");
+    check_text("15 of a text", cause_text(15, SASZVIGOM_FROM_DIMACS), other);
+    check_text("16 of a text", cause_text(16, SASZVIGOM_FROM_DIMACS),
+               "a line is not 'c ..', 'p edge N M' or 'e u v', or stands where it may not, or "
+               "there is no 'p'");
+    check_text("17 of a text", cause_text(17, SASZVIGOM_FROM_DIMACS),
+               "the lines 'e u v' are not as many as the line 'p edge N M' says");
 
     for (unsigned buffer = 0; buffer < COUNT(buffers); buffer++)
         check_text("buffer", saszvigom_buffer_text((enum saszvigom_buffer)buffer), buffers[buffer]);
@@ -110,6 +123,32 @@ static void texts(void)
     for (unsigned kind = 0; kind < COUNT(kinds); kind++)
         check_text("kind", saszvigom_kind_text((enum saszvigom_kind)kind), kinds[kind]);
     check_text("largest kind", saszvigom_kind_text((enum saszvigom_kind)~0u), "unknown");
+}
+
+/* Checks the place of refusals: 47 bits, of which saszvigom_place_of returns what
+   an unsigned holds, and never another place. */
+static void places(void)
+{
+    const uint64_t most = 140737488355327;
+    const uint64_t rest[] = {16, 0x8000000000000010}; /* bits 0 to 15 and 63 make no difference */
+    for (size_t k = 0; k < COUNT(rest); k++) {
+        for (unsigned bit = 0; bit < 47; bit++) {
+            const uint64_t place = (uint64_t)1 << bit;
+            const uint64_t number = place << 16 | rest[k];
+            check("the line of a bit", saszvigom_line_of(number) == place);
+            check("the place of a bit",
+                  saszvigom_place_of(number) == (bit < 32 ? place : 4294967295u));
+        }
+        check("no place", saszvigom_line_of(rest[k]) == 0 && saszvigom_place_of(rest[k]) == 0);
+        check("the last line", saszvigom_line_of(most << 16 | rest[k]) == most);
+        check("its place", saszvigom_place_of(most << 16 | rest[k]) == 4294967295u);
+        for (uint64_t place = 4294967290u; place < 4294967300u; place++) {
+            const uint64_t number = place << 16 | rest[k];
+            check("the line there", saszvigom_line_of(number) == place);
+            check("the place there",
+                  saszvigom_place_of(number) == (place < 4294967295u ? place : 4294967295u));
+        }
+    }
 }
 
 /* Tells whether n vertices have no weight at an index, and the outputs are
@@ -184,6 +223,8 @@ static void places_of_faults(void)
             }
         check("row and column", same);
     }
+    check("row by its own bits", saszvigom_fault_row(0x7FFFFF0000090003, 4) == 2);
+    check("column by its own bits", saszvigom_fault_column(0x7FFFFF0000090003, 4) == 1);
     check("row of no vertices", saszvigom_fault_row(0x90003, 0) == 0);
     check("column of no vertices", saszvigom_fault_column(0x90003, 0) == 0);
 }
@@ -239,6 +280,7 @@ static void faults(void)
 #define CALL SASZVIGOM_FROM_CALL
 #define LIST SASZVIGOM_FROM_LIST
 #define SHEET SASZVIGOM_FROM_SHEET
+#define TEXT SASZVIGOM_FROM_DIMACS
 
 static const struct {
     uint64_t number, n;
@@ -255,8 +297,8 @@ static const struct {
     {0x305F5E0300, 96, CALL, "pair: 94 and 95, pairs made 48"},
     {0x100000400, 4, CALL, "row: written, pairs made 1"},
     {0x200000500, 4, LIST, "replayed: all calls made, pairs made 2"},
-    {0x400030600, 0, SHEET, "sheet: vertices 4, edges 3"},
-    {0x6011D00600, 0, SHEET, "sheet: vertices 96, edges 4560"},
+    {0x400030600, 0, SHEET, "graph: vertices 4, edges 3"},
+    {0x6011D00600, 0, TEXT, "graph: vertices 96, edges 4560"},
     {0x60700, 4, CALL, "draws: weights drawn 6"},
     {0x000001, 97, CALL, "refused: there are more than 96 vertices (cause 1)"},
     {0x000001, 0, SHEET, "refused: there are more than 96 vertices (cause 1)"},
@@ -311,8 +353,37 @@ static const struct {
     {0x7000E, 4, SHEET,
      "refused: a record has a vertex that is not there, or the same vertex twice (cause 14 at 7)"},
     {0xD000F, 4, SHEET, "refused: an earlier record has the same edge (cause 15 at 13)"},
-    {0x7000C, 4, CALL, "refused: a fault of a list or of a sheet (cause 12 at 7)"},
+    {0x20001, 0, TEXT, "refused: there are more than 96 vertices (cause 1 at line 2)"},
+    {0x10002, 4, TEXT, "refused: the adjacency buffer is too short (cause 2 at 1)"},
+    {0x20002, 4, TEXT, "refused: the weights buffer is too short (cause 2 at 2)"},
+    {0x7000E, 4, TEXT,
+     "refused: a line has a vertex that is 0 or above N, or the same vertex twice (cause 14 at "
+     "line 7)"},
+    {0x50010, 4, TEXT,
+     "refused: a line is not 'c ..', 'p edge N M' or 'e u v', or stands where it may not (cause 16 "
+     "at line 5)"},
+    {0xFFFF0010, 4, TEXT,
+     "refused: a line is not 'c ..', 'p edge N M' or 'e u v', or stands where it may not (cause 16 "
+     "at line 65535)"},
+    {0x3039FFFF0010, 4, TEXT,
+     "refused: a line is not 'c ..', 'p edge N M' or 'e u v', or stands where it may not (cause 16 "
+     "at line 809107455)"},
+    {0x1000000000010, 4, TEXT,
+     "refused: a line is not 'c ..', 'p edge N M' or 'e u v', or stands where it may not (cause 16 "
+     "at line 4294967296)"},
+    {0x7FFFFFFFFFFE000E, 4, TEXT,
+     "refused: a line has a vertex that is 0 or above N, or the same vertex twice (cause 14 at "
+     "line 140737488355326)"},
+    {0x7FFFFFFFFFFF0010, 4, TEXT,
+     "refused: a line is not 'c ..', 'p edge N M' or 'e u v', or stands where it may not (cause 16 "
+     "at line 140737488355327 or later)"},
+    {0x10, 4, TEXT, "refused: there is no line 'p edge N M' (cause 16 at 0)"},
+    {0x11, 4, TEXT,
+     "refused: the lines 'e u v' are not as many as the line 'p edge N M' says (cause 17 at 0)"},
+    {0x7000C, 4, CALL, "refused: a fault of a list, a sheet or a text (cause 12 at 7)"},
+    {0x70010, 4, SHEET, "refused: a fault of a list, a sheet or a text (cause 16 at 7)"},
     {0xFF, 4, CALL, "refused: an unknown cause (cause 255 at 0)"},
+    {0x7FFFFFFFFFFF00FF, 4, CALL, "refused: an unknown cause (cause 255 at 140737488355327)"},
     {0, 4, CALL, "no answer: neither a cause nor a kind"},
     {0x800, 4, CALL, "no answer: unknown kind 8"},
     {0x101, 4, CALL, "no answer: both a cause and a kind"},
@@ -588,11 +659,12 @@ static void any_number(void)
     for (int k = 0; k < 20000; k++) {
         char text[SASZVIGOM_LINE_BYTES];
         state = state * 6364136223846793005u + 1442695040888963407u;
-        const uint64_t values = state >> 24 & (k % 4 < 2 ? 0xFFFF0000u : 0xFFFFFF0000u);
-        const uint64_t number = values | (state >> 20 & (k % 2 ? 0xFu : 0x700u));
+        const uint64_t places[] = {0xFFFF0000u, 0xFFFFFF0000u, 0xFFFFFFFFFFFF0000u};
+        const uint64_t values = (state ^ state << 24) & places[k / 4 % 3];
+        const uint64_t number = values | (state >> 20 & (k % 2 ? 0x1Fu : 0x700u));
         const uint64_t n = state >> 57;
         const size_t length =
-            saszvigom_explain(text, sizeof text, number, n, (enum saszvigom_from)(k % 3));
+            saszvigom_explain(text, sizeof text, number, n, (enum saszvigom_from)(k / 12 % 4));
         if (length >= sizeof text || strlen(text) != length)
             fail("any number");
         longest = length > longest ? length : longest;
@@ -603,6 +675,7 @@ static void any_number(void)
 int main(void)
 {
     texts();
+    places();
     indices();
     faults();
     explanations();
