@@ -1,7 +1,8 @@
 /*
- * A desk to teach on: opens the sheet of a file and carries out the commands of
- * standard input. What it prints is in the words of the trade: sleeves are
- * vertices, boxes matched pairs, links edges, draws weights.
+ * A desk to teach on: opens the sheet of a file, or a graph in the DIMACS edge
+ * format with the draws of a seed, and carries out the commands of standard
+ * input. What it prints is in the words of the trade: sleeves are vertices, boxes
+ * matched pairs, links edges, draws weights; a sheet is what was opened.
  */
 #define _XOPEN_SOURCE 700
 
@@ -15,6 +16,7 @@
 #include <fcntl.h>
 #include <inttypes.h>
 #include <signal.h>
+#include <stdlib.h>
 #include <string.h>
 #include <termios.h>
 #include <time.h>
@@ -469,10 +471,15 @@ static void carry_out(struct line *line)
     explain_unknown(&words[0]);
 }
 
-static void print_start_failure(const char *what, const char *name)
+/* Says that the file of a sheet or a graph cannot be opened or read, and closes
+   it. */
+static int fail_start(const char *verb, const char *what, const char *name, FILE *file)
 {
-    fprintf(stderr, "desk: cannot %s the sheet %s: %s\n", what, name, strerror(errno));
-    fprintf(stderr, "what to do: name the file of a sheet; ls lists the files that there are\n");
+    fprintf(stderr, "desk: cannot %s the %s %s: %s\n", verb, what, name, strerror(errno));
+    fprintf(stderr, "what to do: name the file of a %s; ls lists the files that there are\n", what);
+    if (file != NULL)
+        fclose(file);
+    return 0;
 }
 
 /* Reads the sheet of a file and opens it; returns 0 if it cannot start. */
@@ -481,16 +488,11 @@ static int start(const char *name)
     static uint8_t sheet[SASZVIGOM_SHEET_BYTES_MAX];
     errno = 0;
     FILE *file = fopen(name, "rb");
-    if (file == NULL) {
-        print_start_failure("open", name);
-        return 0;
-    }
+    if (file == NULL)
+        return fail_start("open", "sheet", name, file);
     const size_t length = fread(sheet, 1, sizeof sheet, file);
-    if (ferror(file)) {
-        print_start_failure("read", name);
-        fclose(file);
-        return 0;
-    }
+    if (ferror(file))
+        return fail_start("read", "sheet", name, file);
     fclose(file);
     const uint64_t number = session_read(&session, sheet, length);
     if (saszvigom_cause_of(number) != SASZVIGOM_NO_CAUSE) {
@@ -501,6 +503,33 @@ static int start(const char *name)
     printf("sleeves %u links %u\n", session.n, session.edges);
     explain_opening(&session);
     return 1;
+}
+
+/* Reads the graph of a file and opens it with the draws of a seed; returns 0 if
+   it cannot start. */
+static int start_graph(const char *name, uint32_t seed)
+{
+    struct text text;
+    errno = 0;
+    FILE *file = fopen(name, "rb");
+    if (file == NULL)
+        return fail_start("open", "graph", name, file);
+    if (!text_read(&text, file))
+        return fail_start("read", "graph", name, file);
+    fclose(file);
+    const uint64_t number = session_read_text(&session, &text, seed);
+    const int accepted = saszvigom_cause_of(number) == SASZVIGOM_NO_CAUSE;
+    if (accepted) {
+        printf("sleeves %u links %u\n", session.n, session.edges);
+        if (session.n > 0)
+            printf("  The graph counts from 1, and the desk from 0: its 1 is sleeve 0 here.\n");
+        explain_opening(&session);
+    } else {
+        printf("the graph is refused\n");
+        explain_text(name, &text, number);
+    }
+    free(text.bytes);
+    return accepted;
 }
 
 /* Makes sure that no file that is opened later takes the place of a standard
@@ -609,8 +638,13 @@ static int serve(void)
 
 int main(int argc, char **argv)
 {
-    if (argc != 2) {
-        fprintf(stderr, "usage: desk SHEET\n");
+    uint32_t seed = 0;
+    if (argc != 2 && argc != 3) {
+        fprintf(stderr, "usage: desk SHEET, or desk GRAPH SEED\n");
+        return 2;
+    }
+    if (argc == 3 && !is_seed(argv[2], &seed)) {
+        fprintf(stderr, "desk: " SEED_RULE "\n");
         return 2;
     }
     if (!hold_streams())
@@ -618,7 +652,8 @@ int main(int argc, char **argv)
     person = isatty(STDIN_FILENO);
     typed = person && isatty(STDOUT_FILENO);
     set_signals();
-    const int done = start(argv[1]) && serve();
+    const int started = argc == 3 ? start_graph(argv[1], seed) : start(argv[1]);
+    const int done = started && serve();
     const int kept = end_log();
     return written() && done && kept ? 0 : 1;
 }

@@ -20,4 +20,7 @@ void explain_opening(const struct session *s);
 /* Says why a sheet was refused, where, and what to do. */
 void explain_sheet(const char *name, const uint8_t *sheet, size_t length, uint64_t number);
 
+/* Says why a text in the DIMACS edge format was refused, where, and what to do. */
+void explain_text(const char *name, const struct text *text, uint64_t number);
+
 #endif

@@ -85,6 +85,13 @@ static int is_text(const uint8_t *bytes, size_t length)
     return 1;
 }
 
+/* Tells whether a text is a graph in the DIMACS edge format, by its first line.
+   No text of ./sheet make begins so. */
+static int is_graph(const uint8_t *text, size_t length)
+{
+    return (length >= 1 && text[0] == 'c') || (length >= 2 && memcmp(text, "p ", 2) == 0);
+}
+
 static void explain_cut(const uint8_t *sheet, size_t length)
 {
     const struct record r = find(sheet, length, length);
@@ -130,13 +137,6 @@ static void explain_repeated(const uint8_t *sheet, struct record r)
     printf("  what to do: take one of the two records out.\n");
 }
 
-/* Prints the name of a file as it can be typed in a command, or else FILE. */
-static void print_argument(const char *name)
-{
-    const char *const plain = "ABCDEFGHIJKLMNOPQRSTUVWXYZabcdefghijklmnopqrstuvwxyz0123456789._/-";
-    printf("%s", strspn(name, plain) == strlen(name) ? name : "FILE");
-}
-
 void explain_sheet(const char *name, const uint8_t *sheet, size_t length, uint64_t number)
 {
     const unsigned place = saszvigom_place_of(number);
@@ -152,6 +152,13 @@ void explain_sheet(const char *name, const uint8_t *sheet, size_t length, uint64
         if (length >= 8 && memcmp(sheet, "sleeves ", 8) == 0) {
             printf("no record begins there; the file is a log or a listing.\n"
                    "  what to do: open the sheet that it is of; a log is replayed there.\n");
+            return;
+        }
+        if (is_text(sheet, length) && is_graph(sheet, length)) {
+            printf("no record begins there; the file is a graph, and no sheet.\n"
+                   "  what to do: open it with a seed, such as 1:\n    ./desk ");
+            print_argument(name);
+            printf(" 1\n");
             return;
         }
         if (is_text(sheet, length)) {

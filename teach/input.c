@@ -11,6 +11,7 @@
 
 #define LINE_COLUMNS 160
 #define WORD_COLUMNS 30
+#define HALF_COLUMNS 40
 
 static int interruptible; /* whether a line of stdin can be given up */
 static volatile sig_atomic_t interrupted;
@@ -120,9 +121,20 @@ void print_word(const char *word, size_t length)
     print_bytes(word, length, WORD_COLUMNS);
 }
 
+void print_half(const char *bytes, size_t length)
+{
+    print_bytes(bytes, length, HALF_COLUMNS);
+}
+
 void print_name(const char *name)
 {
     print_bytes(name, strlen(name), SIZE_MAX);
+}
+
+void print_argument(const char *name)
+{
+    const char *const plain = "ABCDEFGHIJKLMNOPQRSTUVWXYZabcdefghijklmnopqrstuvwxyz0123456789._/-";
+    printf("%s", strspn(name, plain) == strlen(name) ? name : "FILE");
 }
 
 void print_line(const struct line *line)

@@ -34,8 +34,14 @@ void print_line(const struct line *line);
 /* Prints a word as print_line prints a line, in less than half a row. */
 void print_word(const char *word, size_t length);
 
+/* Prints bytes as print_line prints a line, in about half a row. */
+void print_half(const char *bytes, size_t length);
+
 /* Prints the name of a file as print_line prints a line, whole. */
 void print_name(const char *name);
+
+/* Prints the name of a file as it can be typed in a command, or else FILE. */
+void print_argument(const char *name);
 
 struct word {
     char *text; /* ends with a 0 byte, and may have others */

@@ -27,6 +27,18 @@ uint64_t session_read(struct session *s, const uint8_t *sheet, size_t length)
     return number;
 }
 
+uint64_t session_read_text(struct session *s, const struct text *text, uint32_t seed)
+{
+    const uint64_t number =
+        saszvigom_graph_read_dimacs(&s->graph, text->bytes, text->length, seed);
+    if (saszvigom_kind_of(number) == SASZVIGOM_SHEET) {
+        s->edges = saszvigom_edges_of(number);
+        s->seed = seed;
+        open_graph(s);
+    }
+    return number;
+}
+
 void session_redraw(struct session *s, uint32_t seed)
 {
     saszvigom_graph_draw(&s->graph, seed);

@@ -3,6 +3,7 @@
 #define TEACH_SESSION_H
 
 #include "saszvigom_graph.h"
+#include "text.h"
 
 #define MOST SASZVIGOM_MAX_VERTICES
 
@@ -23,6 +24,10 @@ struct call {
 
 /* Reads a sheet and opens its graph; returns the number of saszvigom_read. */
 uint64_t session_read(struct session *s, const uint8_t *sheet, size_t length);
+
+/* Reads a text in the DIMACS edge format with a seed, and opens its graph;
+   returns the number of saszvigom_read_dimacs. */
+uint64_t session_read_text(struct session *s, const struct text *text, uint32_t seed);
 
 /* Opens the graph again with the weights of a seed. */
 void session_redraw(struct session *s, uint32_t seed);
