@@ -85,6 +85,10 @@ void with_struct()
                                    SASZVIGOM_FROM_SHEET) ==
                              "refused: the sheet ends within a record, or before its end record "
                              "(cause 13 at 0)");
+    check("empty text",
+          explained(saszvigom_graph_read_dimacs(graph, no_sheet.data(), no_sheet.size(), 1), 0,
+                    SASZVIGOM_FROM_DIMACS) ==
+              "refused: there is no line 'p edge N M' (cause 16 at 0)");
 
     check("row", carried_out(saszvigom_graph_row(graph, 0)));
     check("partners", saszvigom_graph_in_row(graph, 5) && !saszvigom_graph_in_row(graph, 2));
@@ -95,6 +99,14 @@ void with_struct()
     while (carried_out(saszvigom_graph_automatic(graph)))
         continue;
     check("all matched", graph->made == 3 && saszvigom_graph_partner(graph, 0) == 1);
+
+    const std::string text = "c two\np edge 2 1\ne 2 1\n", cut = text + "c";
+    const uint64_t number = saszvigom_graph_read_dimacs(graph, cut.data(), cut.size(), 1);
+    check("a text that is cut", saszvigom_cause_of(number) == SASZVIGOM_LINE_INVALID &&
+                                    saszvigom_line_of(number) == 4 && graph->made == 3);
+    check("a text", explained(saszvigom_graph_read_dimacs(graph, text.data(), text.size(), 1), 0,
+                              SASZVIGOM_FROM_DIMACS) == "graph: vertices 2, edges 1");
+    check("open a text", std::string(opening(saszvigom_graph_open(graph))) == "opened");
 }
 
 void with_vectors()
