@@ -209,7 +209,7 @@ static void say_no_p(const struct text *text)
                "  what to do: get the file again, whole.\n");
 }
 
-/* Says which sleeve of a line e is at fault. */
+/* Says which vertex of a line e is at fault. */
 static void say_vertices(const struct fault *fault)
 {
     const struct part n = field(fault->p, 2);
