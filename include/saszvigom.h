@@ -364,7 +364,7 @@ uint64_t saszvigom_read(const uint8_t *sheet, size_t sheet_len,
  * Each line is one of these:
  *
  *     c ..          a comment: whatever begins with c
- *     p edge N M    there is one: n is N, and there are M lines e
+ *     p edge N M    exactly one: N is n, and M the number of lines e
  *     e u v         an edge, after the line p: two different vertices from 1 to
  *                   N
  *
@@ -377,10 +377,12 @@ uint64_t saszvigom_read(const uint8_t *sheet, size_t sheet_len,
  * and each of its lines counts towards M.
  *
  * A text counts vertices from 1, the library from 0: vertex u of the text is
- * vertex u - 1. The text may have any length, and the time is linear in it.
- * Lengths, alignment, overlap, null and the bytes past those needed are as for
- * saszvigom_open, for all three buffers; those of saszvigom_read are long
- * enough here too.
+ * vertex u - 1. The text may have any length, all its bytes count, and the time
+ * is linear in it; the 0 that ends a C string is not part of it. Buffers for
+ * any text have SASZVIGOM_ADJACENCY_BYTES(96) and SASZVIGOM_WEIGHTS_BYTES(96)
+ * bytes. Lengths, alignment, overlap and null are as for saszvigom_open, for all
+ * three buffers, and so are the bytes past those needed of the two that are
+ * written.
  *
  * The number returned, and what is written:
  *
@@ -403,8 +405,8 @@ uint64_t saszvigom_read(const uint8_t *sheet, size_t sheet_len,
  *     refused     cause    0         place, 16 to 62
  *
  * Lines are counted from 1, comments included. A line of 140737488355327 or
- * later is given as this number, the largest of 47 bits: so many lines have
- * more bytes than a process can address.
+ * later is given as this number, the largest of 47 bits: a text with so many
+ * lines has more than 281 million megabytes.
  */
 SASZVIGOM_NOT_NULL
 uint64_t saszvigom_read_dimacs(const uint8_t *text, size_t text_len, uint32_t seed,
@@ -613,8 +615,9 @@ static inline enum saszvigom_kind saszvigom_kind_of(uint64_t number)
     return (enum saszvigom_kind)(number >> 8 & 0xFFu);
 }
 
-/* Returns the place of the cause in full: the line of a text. It means nothing
-   if the call was not refused. */
+/* Returns the place of the cause in full. It is the line of a text for the
+   causes 14 and 16, and for SASZVIGOM_SIZE_TOO_LARGE of a text, unless it is 0:
+   then no line is at fault. It means nothing if the call was not refused. */
 static inline uint64_t saszvigom_line_of(uint64_t number)
 {
     return number >> 16 & 0x7FFFFFFFFFFFu;

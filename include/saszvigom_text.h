@@ -30,8 +30,8 @@ enum saszvigom_from SASZVIGOM_ENUM_TYPE {
 };
 
 /* Returns a cause as text, without its place. The text is "a fault of a list, a
-   sheet or a text" for 12 to 17 if such a call does not return them, and "an
-   unknown cause" above 17. */
+   sheet or a text" for 12 to 17 if a call of this kind never returns them, and
+   "an unknown cause" above 17. */
 static inline const char *saszvigom_cause_text(enum saszvigom_cause cause,
                                                enum saszvigom_from from)
 {
@@ -86,8 +86,8 @@ static inline const char *saszvigom_cause_text(enum saszvigom_cause cause,
         break;
     case SASZVIGOM_LINE_INVALID:
         if (from == SASZVIGOM_FROM_DIMACS)
-            return "a line is not 'c ..', 'p edge N M' or 'e u v', or stands where it may not, or "
-                   "there is no 'p'";
+            return "a line is not just 'c ..', 'p edge N M' or 'e u v' and a line feed, or stands "
+                   "where it may not, or there is no 'p'";
         break;
     case SASZVIGOM_LINE_COUNT_WRONG:
         if (from == SASZVIGOM_FROM_DIMACS)
@@ -364,8 +364,8 @@ static inline void saszvigom_line_refusal(struct saszvigom_line *line, uint64_t 
     } else if (cause == SASZVIGOM_LINE_INVALID && from == SASZVIGOM_FROM_DIMACS) {
         saszvigom_line_text(line, saszvigom_line_of(number) == 0
                                       ? "there is no line 'p edge N M'"
-                                      : "a line is not 'c ..', 'p edge N M' or 'e u v', or stands "
-                                        "where it may not");
+                                      : "a line is not just 'c ..', 'p edge N M' or 'e u v' and a "
+                                        "line feed, or stands where it may not");
     } else {
         saszvigom_line_text(line, saszvigom_cause_text(cause, from));
     }

@@ -439,8 +439,8 @@ static void explained(void)
                saszvigom_graph_read(&graph, NULL, 0), SASZVIGOM_FROM_SHEET);
     check_line("refused: there is no line 'p edge N M' (cause 16 at 0)",
                saszvigom_graph_read_dimacs(&graph, NULL, 0, 0), SASZVIGOM_FROM_DIMACS);
-    check_line("refused: a line is not 'c ..', 'p edge N M' or 'e u v', or stands where it may not "
-               "(cause 16 at line 2)",
+    check_line("refused: a line is not just 'c ..', 'p edge N M' or 'e u v' and a line feed, or "
+               "stands where it may not (cause 16 at line 2)",
                read_text("c\r\np edge 4 0\r\n"), SASZVIGOM_FROM_DIMACS);
     check_line("graph: vertices 4, edges 0", read_text("p edge 4 0\n"), SASZVIGOM_FROM_DIMACS);
     make_ring(3);

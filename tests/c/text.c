@@ -112,8 +112,8 @@ static void texts(void)
                "a line has a vertex that is 0 or above N, or the same vertex twice");
     check_text("15 of a text", cause_text(15, SASZVIGOM_FROM_DIMACS), other);
     check_text("16 of a text", cause_text(16, SASZVIGOM_FROM_DIMACS),
-               "a line is not 'c ..', 'p edge N M' or 'e u v', or stands where it may not, or "
-               "there is no 'p'");
+               "a line is not just 'c ..', 'p edge N M' or 'e u v' and a line feed, or stands "
+               "where it may not, or there is no 'p'");
     check_text("17 of a text", cause_text(17, SASZVIGOM_FROM_DIMACS),
                "the lines 'e u v' are not as many as the line 'p edge N M' says");
 
@@ -360,23 +360,23 @@ static const struct {
      "refused: a line has a vertex that is 0 or above N, or the same vertex twice (cause 14 at "
      "line 7)"},
     {0x50010, 4, TEXT,
-     "refused: a line is not 'c ..', 'p edge N M' or 'e u v', or stands where it may not (cause 16 "
-     "at line 5)"},
+     "refused: a line is not just 'c ..', 'p edge N M' or 'e u v' and a line feed, or stands "
+     "where it may not (cause 16 at line 5)"},
     {0xFFFF0010, 4, TEXT,
-     "refused: a line is not 'c ..', 'p edge N M' or 'e u v', or stands where it may not (cause 16 "
-     "at line 65535)"},
+     "refused: a line is not just 'c ..', 'p edge N M' or 'e u v' and a line feed, or stands "
+     "where it may not (cause 16 at line 65535)"},
     {0x3039FFFF0010, 4, TEXT,
-     "refused: a line is not 'c ..', 'p edge N M' or 'e u v', or stands where it may not (cause 16 "
-     "at line 809107455)"},
+     "refused: a line is not just 'c ..', 'p edge N M' or 'e u v' and a line feed, or stands "
+     "where it may not (cause 16 at line 809107455)"},
     {0x1000000000010, 4, TEXT,
-     "refused: a line is not 'c ..', 'p edge N M' or 'e u v', or stands where it may not (cause 16 "
-     "at line 4294967296)"},
+     "refused: a line is not just 'c ..', 'p edge N M' or 'e u v' and a line feed, or stands "
+     "where it may not (cause 16 at line 4294967296)"},
     {0x7FFFFFFFFFFE000E, 4, TEXT,
      "refused: a line has a vertex that is 0 or above N, or the same vertex twice (cause 14 at "
      "line 140737488355326)"},
     {0x7FFFFFFFFFFF0010, 4, TEXT,
-     "refused: a line is not 'c ..', 'p edge N M' or 'e u v', or stands where it may not (cause 16 "
-     "at line 140737488355327 or later)"},
+     "refused: a line is not just 'c ..', 'p edge N M' or 'e u v' and a line feed, or stands "
+     "where it may not (cause 16 at line 140737488355327 or later)"},
     {0x10, 4, TEXT, "refused: there is no line 'p edge N M' (cause 16 at 0)"},
     {0x11, 4, TEXT,
      "refused: the lines 'e u v' are not as many as the line 'p edge N M' says (cause 17 at 0)"},

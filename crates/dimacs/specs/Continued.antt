@@ -1,14 +1,11 @@
 -- What reading comes to after the `p` line. Assumes nothing.
-use mathlib.Core.Path.{_≡_, refl}
+use mathlib.Core.Path.{_≡_}
 use mathlib.Core.Logic.{_≢_}
 use mathlib.Core.List.{List, []}
-use Prim.Native.Nat.{ℕ, _+_, _≤_, _<_}
+use Prim.Native.Nat.{ℕ}
 use native.Mathlib.Omega.{arith}
-use lib.ListN.{length}
-use Rattle.draws.specs.Draws.{draws}
 use Rattle.matching.specs.Decision.{Refusal, because}
 use Rattle.matching.specs.Edition.{Edition}
-use Rattle.matching.specs.Graph.{pair-count}
 use Rattle.matching.specs.Filling.{Read, not-read}
 use Rattle.matching.specs.Dimacs.{before, past, not-announced, whole, refuses-lines, reads-lines, FillsText}
 use Rattle.lines.specs.Near.{Near, near-equal, near-back}

@@ -9,7 +9,7 @@ use Rattle.matching.specs.Edition.{first-edition}
 use Rattle.matching.specs.Graph.{largest}
 use Rattle.matching.specs.Filling.{Read, graph-read, not-read}
 use Rattle.matching.specs.Dimacs.{FillsText, refuses-lines, reads-lines}
-use Rattle.matching.specs.Host.{words, Bytes, bytes-of, read-number, in-lines, HostReadsText}
+use Rattle.matching.specs.Host.{words, Bytes, bytes-of, read-number, capped, HostReadsText}
 use Rattle.laws.specs.Filling.{AnswerBounds}
 use Rattle.laws.specs.Texts.{text-fit, text-answer}
 use Rattle.sheet_bytes.specs.Stored as weights-left
@@ -35,7 +35,7 @@ module _ {seed : ℕ} {bytes values weights : List ℕ} (R : StoreRoom values we
 
   -- through the host
   pub host-reads-text : {adjacency adjacency′ left weights′ : List ℕ} {given : Read} {answer : ℕ} → Bytes weights
-      → FillsText first-edition seed bytes adjacency values given adjacency′ left → answer ≡ read-number (in-lines given)
+      → FillsText first-edition seed bytes adjacency values given adjacency′ left → answer ≡ read-number (capped given)
       → weights′ ≡ onto (bytes-of 2 (take (stored-of given) left)) weights → HostReadsText first-edition seed bytes adjacency weights answer adjacency′ weights′
   unfolding bytes-of
   host-reads-text B (refuses-lines {why = why} T) a w = record { given = not-read why; left = words 2 weights; outcome = refuses-lines T; numbered = a; stored = w }

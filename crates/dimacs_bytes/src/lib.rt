@@ -3,7 +3,7 @@
 use filling::Read;
 ghost use mathlib.Core.Path.{_≡_};
 ghost use Rattle.matching.specs.Edition.{first-edition};
-ghost use Rattle.matching.specs.Host.{read-number, in-lines, HostReadsText};
+ghost use Rattle.matching.specs.Host.{read-number, capped, HostReadsText};
 ghost use Rattle.filling.specs.Meaning.{read-of};
 ghost use Rattle.sheet_bytes.specs.Stored.{StoreRoom};
 ghost use Rattle.dimacs_bytes.specs.Texts.{Fits};
@@ -11,7 +11,7 @@ ghost use Rattle.dimacs_bytes.specs.Texts.{Fits};
 // Returns the host's number for read.
 fn number(read: Read) -> u64
     requires { ⌜ Fits (read-of read) ⌝ }
-    ensures { λ r. ⌜ r ≡ read-number (in-lines (read-of read)) ⌝ }
+    ensures { λ r. ⌜ r ≡ read-number (capped (read-of read)) ⌝ }
 {
     match read {
         Read::Graph(extent) => numbers::carried(6, extent.edges as u64, extent.size as u64),

@@ -1,12 +1,12 @@
 -- The `p` line. Assumes nothing.
-use mathlib.Core.Path.{_≡_, refl}
+use mathlib.Core.Path.{_≡_}
 use mathlib.Core.List.{List, []}
 use Prim.Native.Nat.{ℕ, _+_, _≤_, _<_}
 use native.Mathlib.Omega.{arith}
-use lib.ListN.{length, drop, drop-of-length-le}
+use lib.ListN.{length, drop-of-length-le}
 use Rattle.matching.specs.Decision.{Refusal, because}
 use Rattle.matching.specs.Graph.{largest}
-use Rattle.matching.specs.Dimacs.{problem, edge, before, past, takes-problem, too-large-size, edge-too-early, Reading, unread, Reads, no-problem, rejected, goes-on, ReadsText}
+use Rattle.matching.specs.Dimacs.{problem, edge, before, past, takes-problem, too-large-size, edge-too-early, Reading, unread, no-problem, rejected, goes-on, ReadsText}
 use Rattle.lines.specs.Near.{Near, near-below, near-above}
 use Rattle.lines.specs.Lines.{Stands, Remark, Formless}
 use Rattle.lines.specs.declared.Two.{Two}

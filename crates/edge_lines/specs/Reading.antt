@@ -1,11 +1,10 @@
 -- Reading a text from an offset on: what the line that stands there comes to. Assumes nothing.
-use mathlib.Core.Path.{_≡_, refl}
-use mathlib.Core.List.{List, [], _∷_}
-use Prim.Native.Nat.{ℕ, _+_, _≤_, _<_}
-use native.Mathlib.Omega.{arith}
-use lib.ListN.{length, getD, drop, drop-of-length-le}
+use mathlib.Core.Path.{refl}
+use mathlib.Core.List.{List}
+use Prim.Native.Nat.{ℕ, _+_}
+use lib.ListN.{drop}
 use Rattle.matching.specs.Decision.{because}
-use Rattle.matching.specs.Dimacs.{Line, Progress, Begins, Takes, takes-comment, Rejects, Reading, unread, Reads, no-form, rejected, goes-on}
+use Rattle.matching.specs.Dimacs.{Progress, takes-comment, Reading, unread, Reads, no-form, goes-on}
 use Rattle.lines.specs.Fields.{next-byte}
 use Rattle.lines.specs.Lines.{Remark, Formless}
 

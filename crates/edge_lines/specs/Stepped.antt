@@ -1,15 +1,15 @@
 -- One line after the `p` line, and all of them to the end. Assumes nothing.
 use mathlib.Core.Path.{_≡_, refl, ap, _∙_}
 use mathlib.Core.List.{List, [], _∷_}
-use Prim.Native.Nat.{ℕ, _+_, _*_, _-_, _^_, _≤_, _<_}
+use Prim.Native.Nat.{ℕ, _+_, _-_, _^_, _≤_, _<_}
 use native.Mathlib.Numerals.{add-one}
 use native.Mathlib.Omega.{arith}
-use lib.ListN.{length, drop, drop-of-length-le}
+use lib.ListN.{length, drop-of-length-le}
 use Rattle.matching.specs.Decision.{Refusal, because}
 use Rattle.matching.specs.Graph.{largest}
 use Rattle.matching.specs.Pairs.{Pair}
 use Rattle.matching.specs.Filling.{cells}
-use Rattle.matching.specs.Dimacs.{problem, edge, past, Joins, joined, Takes, takes-edge, takes-repeated, second-problem, not-two, Reading, unread, Reads, rejected, goes-on}
+use Rattle.matching.specs.Dimacs.{problem, edge, past, Joins, joined, takes-edge, takes-repeated, second-problem, not-two, Reading, unread, Reads, rejected, goes-on}
 use Rattle.lines.specs.Near.{Near, near-below, near-back}
 use Rattle.lines.specs.Lines.{Stands, Remark, Formless}
 use Rattle.lines.specs.declared.Two.{Two}

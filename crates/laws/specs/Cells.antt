@@ -7,7 +7,7 @@ use native.Mathlib.Omega.{arith}
 use native.Mathlib.Decide.{ℕ-discrete, decLt}
 use lib.ListN.{length, getD, set, replicate, length-set}
 use lib.Seq.{ext-getD, getD-set-same, getD-set-other}
-use Rattle.lists.specs.Values.{length-list-of, getD-list-of, list-of-constant}
+use Rattle.lists.specs.Values.{length-list-of, list-of-same, getD-list-of, list-of-constant}
 use Rattle.lists.specs.Table.{index-of, index-row, index-column, index-below}
 use Rattle.lists.specs.Choose.{choose-yes, choose-no}
 use Rattle.matching.specs.Pairs.{Pair, pair-of}
@@ -116,3 +116,8 @@ module _ (n : ℕ) where
           other : Either (x / n) (x % n) a b → ⊥
           other (straight p q) = f (sym (index-of n x) ∙ ap₂ (λ i j. i * n + j) p q)
           other (crossed p q) = d (sym (index-of n x) ∙ ap₂ (λ i j. i * n + j) p q)
+
+-- the table depends only on which edges there are
+pub cells-same : (n : ℕ) (edges edges′ : List Pair) → ((e : Pair) → among e edges ≡ among e edges′) → cells n edges ≡ cells n edges′
+unfolding cells
+cells-same n edges edges′ h = list-of-same (n * n) _ _ (λ x _. h (pair-of (x / n) (x % n)))

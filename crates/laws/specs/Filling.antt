@@ -1,6 +1,6 @@
 -- A graph that a reader fills is in order, whichever reader it is, so opening does not refuse it; and it is filled in exactly one way.
 -- Assumes nothing.
-use mathlib.Core.Path.{_≡_, refl, ap, ap₂, _∙_}
+use mathlib.Core.Path.{_≡_, refl, sym, ap, ap₂, _∙_}
 use mathlib.Core.List.{List, [], _∷_}
 use Prim.Native.Nat.{ℕ, _+_, _*_, _/_, _%_, _^_, _≤_, _<_}
 use native.Mathlib.Omega.{arith}
@@ -17,7 +17,7 @@ use Rattle.matching.specs.Graph.{Graph, over, largest, pair-count, cell, cell-f
 use Rattle.matching.specs.Pairs.{Pair, pair-of}
 use Rattle.matching.specs.Causes.{opening-ruling, lent-inverse, lent-sequence, lent-witness, lent-work, LongEnough}
 use Rattle.matching.specs.Filling.{among, cells, Read, graph-read, not-read, room, Filled, lacks-room, fills}
-use Rattle.laws.specs.Cells.{pair-of-swap, cells-length, cells-at}
+use Rattle.laws.specs.Cells.{pair-of-swap, cells-length, cells-at, cells-same}
 use Rattle.laws.specs.Faults.{fault-of-cell, fault-diagonal-zero, fault-equal}
 use Rattle.laws.specs.Sound.{GraphFits, opening-accepted}
 use Rattle.laws.specs.Edges.{EdgesFit, Different, among-small, among-ordered, pair-of-same, few-edges}
@@ -127,20 +127,29 @@ pub more-bounds : {k most : ℕ} (o : Read) → k ≤ most → AnswerBounds o k 
 more-bounds (graph-read n m) h b = b
 more-bounds (not-read why) h b = more-within h b
 
+-- cause 2, at the first buffer or the second
+pub room-refused : (n : ℕ) (adjacency weights : List ℕ) {why : Refusal} → room n adjacency weights ≡ refused why → (why .cause ≡ 2) × (why .place ≤ 2)
+room-refused n adjacency weights {why} = go (decLt (length adjacency) (n * n)) (decLt (length weights) (pair-count n))
+  where
+    is : (k : ℕ) → refused (because 2 k) ≡ refused why → k ≤ 2 → (why .cause ≡ 2) × (why .place ≤ 2)
+    is k e h = let w : because 2 k ≡ why = cc in (sym (ap (λ (r : Refusal). r .cause) w), omega (arith, ap (λ (r : Refusal). r .place) w))
+
+    go : (c : Dec (length adjacency < n * n)) (d : Dec (length weights < pair-count n))
+        → unless (choose c (at 1) (choose d (at 2) absent)) 2 accepted ≡ refused why → (why .cause ≡ 2) × (why .place ≤ 2)
+    go (yes _) _ e = is 1 e (omega arith)
+    go (no _) (yes _) e = is 2 e (omega arith)
+    go (no _) (no _) e = never (cc)
+
 pub filled-answer : {E : Edition} {n : ℕ} {drawn : List ℕ} {edges : List Pair} {adjacency weights a w : List ℕ} {o : Read} → Fit E n drawn edges
     → Filled n drawn edges adjacency weights o a w → AnswerBounds o 2
 filled-answer {n = n} {edges = edges} F (fills e) = (F .small, few-edges n edges (F .small) (F .edges-fit) (F .different))
-filled-answer {n = n} {adjacency = adjacency} {weights = weights} F (lacks-room {why = why} e) =
-    go (decLt (length adjacency) (n * n)) (decLt (length weights) (pair-count n)) e
-  where
-    is : (k : ℕ) → refused (because 2 k) ≡ refused why → k ≤ 2 → Within 2 why
-    is k e h =
-        let w : because 2 k ≡ why = cc in
-        let b : Within 2 (because 2 k) = record { cause-from = omega arith; cause-below = omega arith; place-within = h } in
-        rw w at b
+filled-answer {n = n} {adjacency = adjacency} {weights = weights} F (lacks-room e) =
+    let h = room-refused n adjacency weights e in
+    record { cause-from = omega (arith, h .0); cause-below = omega (arith, h .0); place-within = h .1 }
 
-    go : (c : Dec (length adjacency < n * n)) (d : Dec (length weights < pair-count n))
-        → unless (choose c (at 1) (choose d (at 2) absent)) 2 accepted ≡ refused why → Within 2 why
-    go (yes _) _ e = is 1 e (omega arith)
-    go (no _) (yes _) e = is 2 e (omega arith)
-    go (no _) (no _) e = absurd (let z : _≡_ {A = ℕ} 0 1 = cc in omega arith)
+-- the same edges in another order, with the same weights, fill the same tables
+pub filled-same : {n k k′ m m′ : ℕ} {drawn : List ℕ} {edges edges′ : List Pair} {adjacency weights a a′ w w′ : List ℕ} → ((e : Pair) → among e edges ≡ among e edges′)
+    → Filled n drawn edges adjacency weights (graph-read k m) a w → Filled n drawn edges′ adjacency weights (graph-read k′ m′) a′ w′
+    → (k ≡ k′) × (a ≡ a′) × (w ≡ w′)
+filled-same {n = n} {edges = edges} {edges′ = edges′} {adjacency = adjacency} h (fills _) (fills _) =
+    (refl, ap (λ table. onto table adjacency) (cells-same n edges edges′ h), refl)

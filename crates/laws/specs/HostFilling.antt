@@ -13,7 +13,7 @@ use Rattle.matching.specs.Pairs.{Pair}
 use Rattle.matching.specs.Causes.{lent-graph, lent-inverse, lent-sequence, lent-witness, lent-work, too-short, LongEnough, opening-ruling}
 use Rattle.matching.specs.Opening.{Opening, opened, singular, not-opened, Buffers, players, Opens, refuses-opening}
 use Rattle.matching.specs.Filling.{Read, graph-read, not-read, Filled, fills}
-use Rattle.matching.specs.Host.{words, Bytes, bytes-of, cause-in, made-in, unpacked, read-number, weights-stored, opening-number, HostOpens}
+use Rattle.matching.specs.Host.{words, Bytes, bytes-of, cause-in, size-in, unpacked, read-number, weights-stored, opening-number, HostOpens}
 use Rattle.laws.specs.Judge.{judge-accepted}
 use Rattle.laws.specs.Sound.{short-absent, graph-fits}
 use Rattle.laws.specs.Filling.{Fit, in-range, filled-accepted, Within, AnswerBounds, filled-answer}
@@ -58,8 +58,8 @@ pub record ReadIn (E : Edition) (k : ℕ) (adjacency weights a w : List ℕ) : T
   drawn : List ℕ
   edges : List Pair
   count : ℕ
-  fit : Fit E (made-in k) drawn edges
-  filled : Filled (made-in k) drawn edges adjacency (words (E .width) weights) (graph-read (made-in k) count) a (words (E .width) w)
+  fit : Fit E (size-in k) drawn edges
+  filled : Filled (size-in k) drawn edges adjacency (words (E .width) weights) (graph-read (size-in k) count) a (words (E .width) w)
 
 -- the weights that were stored are read back
 stored-back : {E : Edition} {adjacency a left drawn : List ℕ} {edges : List Pair} {n k m : ℕ} (weights : List ℕ) → Bytes weights → Fit E n drawn edges
@@ -82,21 +82,21 @@ pub filled-in : {E : Edition} {adjacency weights a w left drawn : List ℕ} {edg
     → w ≡ weights-stored E (graph-read size m) left weights → ReadIn E k adjacency weights a w
 filled-in {E} {adjacency} {weights} {a} {w} {left = left} {drawn = drawn} {edges = edges} {n = n} {k = k} {size = size} {m = m} B F X e s =
     let h = filled-answer F X in
-    let q : made-in k ≡ size = ap made-in e ∙ made-field 0 6 m size (omega arith) (omega arith) (omega (arith, h .1)) (omega (arith, h .0)) in
-    let same : n ≡ made-in k = filled-size X ∙ sym q in
+    let q : size-in k ≡ size = ap size-in e ∙ made-field 0 6 m size (omega arith) (omega arith) (omega (arith, h .1)) (omega (arith, h .0)) in
+    let same : n ≡ size-in k = filled-size X ∙ sym q in
     let v : words (E .width) w ≡ left = ap (words (E .width)) s ∙ stored-back weights B F X in
-    let Y : Filled n drawn edges adjacency (words (E .width) weights) (graph-read (made-in k) m) a (words (E .width) w) = rw (q, v) X in
+    let Y : Filled n drawn edges adjacency (words (E .width) weights) (graph-read (size-in k) m) a (words (E .width) w) = rw (q, v) X in
     record { drawn = drawn; edges = edges; count = m; fit = rw same at F; filled = rw same at Y }
 
 -- opening through the host finds an inverse or a witness: no cause applies
 pub read-opens : {E : Edition} {k : ℕ} {adjacency weights a w : List ℕ} → ReadIn E k adjacency weights a w
-    → {b after : Buffers} {answer : ℕ} → LongBytes E (made-in k) b → HostOpens E (made-in k) a w b answer after → cause-in answer ≡ 0
+    → {b after : Buffers} {answer : ℕ} → LongBytes E (size-in k) b → HostOpens E (size-in k) a w b answer after → cause-in answer ≡ 0
 read-opens {E} {k} {a = a} {w = w} R {b = b} long O = ap cause-in (O .numbered) ∙ go (O .opening) (O .outcome)
   where
-    ok : opening-ruling (E .modulus) (over (made-in k) a (words (E .width) w)) (length (words (E .width) (b .inverse))) (length (b .sequence)) (length (words (E .width) (b .witness))) (length (words (E .width) (b .work))) ≡ accepted
+    ok : opening-ruling (E .modulus) (over (size-in k) a (words (E .width) w)) (length (words (E .width) (b .inverse))) (length (b .sequence)) (length (words (E .width) (b .witness))) (length (words (E .width) (b .work))) ≡ accepted
     ok = filled-accepted _ _ _ _ (R .fit) (R .filled) long
 
-    go : (o : Opening) {left : Buffers} → Opens (E .modulus) (over (made-in k) a (words (E .width) w)) (players (made-in k) (unpacked E b)) (unpacked E b) o left → cause-in (opening-number o) ≡ 0
-    go (opened s) X = opening-low-byte (made-in k) (opened s) (opens-small X)
-    go (singular f) X = opening-low-byte (made-in k) (singular f) (opens-small X)
+    go : (o : Opening) {left : Buffers} → Opens (E .modulus) (over (size-in k) a (words (E .width) w)) (players (size-in k) (unpacked E b)) (unpacked E b) o left → cause-in (opening-number o) ≡ 0
+    go (opened s) X = opening-low-byte (size-in k) (opened s) (opens-small X)
+    go (singular f) X = opening-low-byte (size-in k) (singular f) (opens-small X)
     go (not-opened r) (refuses-opening _ e) = let a = ok in absurd (let z : _≡_ {A = ℕ} 0 1 = cc in omega arith)

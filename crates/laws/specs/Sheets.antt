@@ -11,7 +11,7 @@ use Rattle.matching.specs.Opening.{Buffers}
 use Rattle.matching.specs.Filling.{Read, graph-read, not-read}
 use Rattle.matching.specs.Records.{FillsFrom, reads-records}
 use Rattle.matching.specs.Listing.{input-limit, text-room, Listed, ListsInto, lists-into, lacks-text-room}
-use Rattle.matching.specs.Host.{words, Bytes, cause-in, made-in, read-number, weights-stored, HostReads, HostOpens}
+use Rattle.matching.specs.Host.{words, Bytes, cause-in, size-in, read-number, weights-stored, HostReads, HostOpens}
 use Rattle.laws.specs.Reading.{reads-fit}
 use Rattle.laws.specs.Bounds.{fills-answer}
 use Rattle.laws.specs.Outcomes.{fills-some, fills-unique, lists-some, lists-unique}
@@ -54,5 +54,5 @@ module _ {E : Edition} {sheet adjacency weights a w : List ℕ} {k : ℕ} (B : B
       go (not-read why) F e s = absurd (refusal-numbered why (fills-answer F) e none)
       go (graph-read n m) (reads-records R F) e s = filled-in B (reads-fit R refl tt) F e s
 
-  pub host-read-opens : {b after : Buffers} {answer : ℕ} → LongBytes E (made-in k) b → HostOpens E (made-in k) a w b answer after → cause-in answer ≡ 0
+  pub host-read-opens : {b after : Buffers} {answer : ℕ} → LongBytes E (size-in k) b → HostOpens E (size-in k) a w b answer after → cause-in answer ≡ 0
   host-read-opens = read-opens read-in

@@ -2,7 +2,7 @@
 -- read. Assumes nothing.
 use mathlib.Core.Path.{_≡_, refl, sym, ap, ap₂, _∙_}
 use mathlib.Core.List.{List, [], _∷_}
-use Prim.Native.Nat.{ℕ, _+_, _-_, _/_, _%_, _^_, _≤_, _<_}
+use Prim.Native.Nat.{ℕ, _+_, _-_, _^_, _≤_, _<_}
 use native.Mathlib.Omega.{arith}
 use native.Mathlib.Decide.{decLt}
 use lib.ListN.{length}
@@ -14,13 +14,13 @@ use Rattle.matching.specs.Graph.{over, largest, pair-count}
 use Rattle.matching.specs.Pairs.{Pair}
 use Rattle.matching.specs.Causes.{opening-ruling, lent-inverse, lent-sequence, lent-witness, lent-work, LongEnough}
 use Rattle.matching.specs.Opening.{Buffers}
-use Rattle.matching.specs.Filling.{Read, graph-read, not-read}
-use Rattle.matching.specs.Dimacs.{Line, comment, problem, edge, Begins, begins-comment, begins-problem, begins-edge, Progress, before, past, Joins, joined, Takes, takes-comment, takes-problem, takes-edge, takes-repeated, Rejects, second-problem, edge-too-early, too-large-size, not-two, Reading, text, unread, Reads, no-problem, not-announced, whole, no-form, rejected, goes-on, ReadsText, FillsText, refuses-lines, reads-lines}
+use Rattle.matching.specs.Filling.{Read, graph-read, not-read, lacks-room}
+use Rattle.matching.specs.Dimacs.{Line, Begins, begins-comment, begins-problem, begins-edge, Progress, before, past, Takes, takes-comment, takes-problem, takes-edge, takes-repeated, Rejects, second-problem, edge-too-early, too-large-size, not-two, Reading, text, unread, Reads, no-problem, not-announced, whole, no-form, rejected, goes-on, ReadsText, FillsText, refuses-lines, reads-lines}
 use Rattle.matching.specs.DimacsComputed.{field-unique, space-no-digit, line-feed-no-digit, skips-unique, line-shorter, read-text}
-use Rattle.matching.specs.Host.{words, Bytes, cause-in, made-in, line-in, read-number, weights-stored, line-place, in-lines, HostReadsText, HostOpens}
+use Rattle.matching.specs.Host.{words, Bytes, cause-in, size-in, line-in, read-number, weights-stored, line-place, capped, HostReadsText, HostOpens}
 use Rattle.laws.specs.Edges.{EdgesFit, Different, fit-more}
-use Rattle.laws.specs.Filling.{Fit, draws-fit, filled-accepted, filled-some, filled-unique, Within, AnswerBounds, more-within, more-bounds, filled-answer}
-use Rattle.laws.specs.HostFilling.{ReadIn, LongBytes, read-numbers, refusal-numbered, filled-in, read-opens}
+use Rattle.laws.specs.Filling.{Fit, draws-fit, filled-accepted, filled-some, filled-unique, Within, AnswerBounds, more-bounds, room-refused, filled-answer}
+use Rattle.laws.specs.HostFilling.{ReadIn, LongBytes, read-cause, read-numbers, refusal-numbered, filled-in, read-opens}
 
 no-bytes : {A : Type 0} {l : Line} {rest : List ℕ} → Begins l [] rest → A
 no-bytes = elim [ ]
@@ -179,6 +179,37 @@ pub text-answer : {E : Edition} {seed : ℕ} {bytes adjacency weights a w : List
 text-answer (refuses-lines R) = reads-within R refl (omega arith)
 text-answer {E} {seed} {given = given} (reads-lines R F) = more-bounds given (omega arith) (filled-answer (text-fit E seed R) F)
 
+-- the causes of a text: 15 is not among them
+pub data TextCause : ℕ → Type 0 where
+  size-too-large : TextCause 1
+  buffer-too-short : TextCause 2
+  not-two-vertices : TextCause 14
+  line-invalid : TextCause 16
+  lines-miscounted : TextCause 17
+
+given-cause : (given : Refusal) {why : Refusal} → unread given ≡ unread why → TextCause (given .cause) → TextCause (why .cause)
+given-cause given {why} e h = let w : given ≡ why = cc in rw w at h
+
+rejects-cause : {q : Progress} {l : Line} {k : ℕ} → Rejects q l k → TextCause k
+rejects-cause second-problem = line-invalid
+rejects-cause edge-too-early = line-invalid
+rejects-cause (too-large-size _) = size-too-large
+rejects-cause (not-two _) = not-two-vertices
+
+reads-cause : {q : Progress} {line : ℕ} {bytes : List ℕ} {r : Reading} {why : Refusal} → Reads q line bytes r → r ≡ unread why → TextCause (why .cause)
+reads-cause no-problem e = given-cause (because 16 0) e line-invalid
+reads-cause (not-announced _) e = given-cause (because 17 0) e lines-miscounted
+reads-cause (whole _) e = never (cc)
+reads-cause {line = line} (no-form _) e = given-cause (because 16 line) e line-invalid
+reads-cause {line = line} (rejected {cause = k} b j) e = given-cause (because k line) e (rejects-cause j)
+reads-cause (goes-on b t R) e = reads-cause R e
+
+pub text-cause : {E : Edition} {seed : ℕ} {bytes adjacency weights a w : List ℕ} {why : Refusal} → FillsText E seed bytes adjacency weights (not-read why) a w
+    → TextCause (why .cause)
+text-cause (refuses-lines R) = reads-cause R refl
+text-cause {adjacency = adjacency} {weights = weights} (reads-lines {n = n} R (lacks-room e)) =
+    rw (room-refused n adjacency weights e .0) buffer-too-short
+
 -- through the host it has exactly one outcome
 pub host-text-some : (E : Edition) (seed : ℕ) (bytes adjacency weights : List ℕ) → (k : ℕ) × (a : List ℕ) × (w : List ℕ) × HostReadsText E seed bytes adjacency weights k a w
 host-text-some E seed bytes adjacency weights =
@@ -189,10 +220,19 @@ pub host-text-unique : {E : Edition} {seed : ℕ} {bytes adjacency weights a a�
     → HostReadsText E seed bytes adjacency weights k′ a′ w′ → (k ≡ k′) × (a ≡ a′) × (w ≡ w′)
 host-text-unique {E} {weights = weights} H H′ =
     let u = text-unique (H .outcome) (H′ .outcome) in (
-      H .numbered ∙ ap (λ o. read-number (in-lines o)) (u .0) ∙ sym (H′ .numbered),
+      H .numbered ∙ ap (λ o. read-number (capped o)) (u .0) ∙ sym (H′ .numbered),
       u .1,
       H .stored ∙ ap₂ (λ o left. weights-stored E o left weights) (u .0) (u .2) ∙ sym (H′ .stored),
     )
+
+-- the low byte is the cause, 0 if there is none, whatever the length of the text
+pub host-text-cause : {E : Edition} {seed : ℕ} {bytes adjacency weights a w : List ℕ} {k : ℕ} (H : HostReadsText E seed bytes adjacency weights k a w)
+    → cause-in k ≡ read-cause (H .given)
+host-text-cause {E} {seed} {bytes} {adjacency} {weights} {a} {k = k} H = go (H .given) (H .outcome) (H .numbered)
+  where
+    go : (o : Read) → FillsText E seed bytes adjacency (words (E .width) weights) o a (H .left) → k ≡ read-number (capped o) → cause-in k ≡ read-cause o
+    go (graph-read n m) F e = ap cause-in e ∙ omega arith
+    go (not-read why) F e = let h = text-answer F in ap cause-in e ∙ omega (arith, h .cause-below)
 
 -- the place of a line: itself below 2 ^ 47 - 1, which stands for every later one
 pub line-same : (line : ℕ) → line < 2 ^ 47 - 1 → line-place line ≡ line
@@ -202,24 +242,24 @@ pub line-last : (line : ℕ) → ¬ (line < 2 ^ 47 - 1) → line-place line ≡ 
 line-last line l = choose-no (decLt line (2 ^ 47 - 1)) line (2 ^ 47 - 1) l
 
 -- so it comes back
-pub line-back : {most : ℕ} (r : Refusal) → most < 2 ^ 47 - 1 → Within most r → line-in (read-number (in-lines (not-read r))) ≡ r .place
+pub line-back : {most : ℕ} (r : Refusal) → most < 2 ^ 47 - 1 → Within most r → line-in (read-number (capped (not-read r))) ≡ r .place
 line-back r l h = rw (line-same (r .place) (omega (arith, h .place-within))) (omega (arith, h .cause-below, h .place-within))
 
 -- so two different answers to a text of fewer than 2 ^ 47 - 3 bytes have different numbers
-in-lines-same : {most : ℕ} (o : Read) → most < 2 ^ 47 - 1 → AnswerBounds o most → in-lines o ≡ o
-in-lines-same (graph-read n m) l h = refl
-in-lines-same (not-read r) l h = ap (λ p. not-read (because (r .cause) p)) (line-same (r .place) (omega (arith, h .place-within)))
+capped-same : {most : ℕ} (o : Read) → most < 2 ^ 47 - 1 → AnswerBounds o most → capped o ≡ o
+capped-same (graph-read n m) l h = refl
+capped-same (not-read r) l h = ap (λ p. not-read (because (r .cause) p)) (line-same (r .place) (omega (arith, h .place-within)))
 
-pub text-numbers : (most : ℕ) (o o′ : Read) → most < 2 ^ 47 - 1 → AnswerBounds o most → AnswerBounds o′ most → read-number (in-lines o) ≡ read-number (in-lines o′)
+pub text-numbers : (most : ℕ) (o o′ : Read) → most < 2 ^ 47 - 1 → AnswerBounds o most → AnswerBounds o′ most → read-number (capped o) ≡ read-number (capped o′)
     → o ≡ o′
 text-numbers most o o′ l h h′ e =
-    let a = in-lines-same o l h in
-    let b = in-lines-same o′ l h′ in
+    let a = capped-same o l h in
+    let b = capped-same o′ l h′ in
     read-numbers most o o′ (omega arith) h h′ (rw (a, b) at e)
 
 -- opening through the host does not refuse a text that was read through it
 module _ {E : Edition} {seed : ℕ} {bytes adjacency weights a w : List ℕ} {k : ℕ} (B : Bytes weights) (H : HostReadsText E seed bytes adjacency weights k a w) (none : cause-in k ≡ 0) where
-  refused-lines : {most : ℕ} (why : Refusal) → Within most why → k ≡ read-number (in-lines (not-read why)) → ⊥
+  refused-lines : {most : ℕ} (why : Refusal) → Within most why → k ≡ read-number (capped (not-read why)) → ⊥
   refused-lines why h e =
       refusal-numbered {most = line-place (why .place)} (because (why .cause) (line-place (why .place)))
       (record { cause-from = h .cause-from; cause-below = h .cause-below; place-within = omega arith }) e none
@@ -227,10 +267,10 @@ module _ {E : Edition} {seed : ℕ} {bytes adjacency weights a w : List ℕ} {k 
   text-in : ReadIn E k adjacency weights a w
   text-in = go (H .given) (H .outcome) (H .numbered) (H .stored)
     where
-      go : (o : Read) → FillsText E seed bytes adjacency (words (E .width) weights) o a (H .left) → k ≡ read-number (in-lines o) → w ≡ weights-stored E o (H .left) weights
+      go : (o : Read) → FillsText E seed bytes adjacency (words (E .width) weights) o a (H .left) → k ≡ read-number (capped o) → w ≡ weights-stored E o (H .left) weights
           → ReadIn E k adjacency weights a w
       go (not-read why) F e s = absurd (refused-lines why (text-answer F) e)
       go (graph-read n m) (reads-lines R F) e s = filled-in B (text-fit E seed R) F e s
 
-  pub host-text-opens : {b after : Buffers} {answer : ℕ} → LongBytes E (made-in k) b → HostOpens E (made-in k) a w b answer after → cause-in answer ≡ 0
+  pub host-text-opens : {b after : Buffers} {answer : ℕ} → LongBytes E (size-in k) b → HostOpens E (size-in k) a w b answer after → cause-in answer ≡ 0
   host-text-opens = read-opens text-in

@@ -10,7 +10,7 @@ use lib.ListN.{length, getD, drop, length-append, length-drop, drop-of-length-le
 use lib.Seq.{drop-cons, getD-drop}
 use Rattle.matching.specs.Dimacs as paper
 use Rattle.matching.specs.Dimacs.{line-feed, space, Digit, append, last, more, Skips, ends, skips}
-use Rattle.matching.specs.DimacsComputed.{first-digit, nothing-left, no-line-feed, not-beyond, none-behind, problem-start, edge-start}
+use Rattle.matching.specs.DimacsComputed.{first-digit, nothing-left, no-line-feed, none-behind, problem-start, edge-start}
 use Rattle.lines.specs.Near.{Near, equal}
 use Rattle.lines.specs.declared.Number.{Number}
 use Rattle.lines.specs.declared.Field.{Field}

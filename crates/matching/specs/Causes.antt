@@ -1,5 +1,5 @@
 -- Causes 1 to 6 of document 01's table, each with its place, and the order in which opening and the session calls look at them. Causes 7 to
--- 11 are in Model, 12 to 15 in Records; a replay has 12 and 13 of its own, in Replay. Assumes nothing.
+-- 11 are in Model, 12 to 15 in Records, 16 and 17 in Dimacs; a replay has 12 and 13 of its own, in Replay. Assumes nothing.
 use mathlib.Core.List.{List, [], _∷_, _++_}
 use Prim.Native.Nat.{ℕ, _*_, _/_, _%_, _≤_}
 use native.Mathlib.Decide.{ℕ-discrete, decLt}

@@ -1,4 +1,5 @@
--- What an example says, and that a claim over a list of examples is proved by computing. Assumes nothing.
+-- What an example says, and that a claim over a list of examples is proved by computing. An example says that an outcome holds; that no
+-- other does is a law for each definition (`opens-unique` and the others). Assumes nothing.
 use mathlib.Core.Path.{_≡_, refl, ap, subst}
 use mathlib.Core.List.{List, [], _∷_, _++_}
 use Prim.Native.Nat.{ℕ, _*_, _/_, _<_}
@@ -27,7 +28,7 @@ use Rattle.matching.specs.Dimacs.{ReadsText, FillsText, refuses-lines, r
 use Rattle.matching.specs.Computed.{read}
 use Rattle.matching.specs.DimacsComputed.{read-text}
 use Rattle.matching.specs.Listing.{input-limit, first-line, pair-lines, witness-lines, line-full, line-none, refused-line, Lists, refuses-sheet, pairs-up, shows-witness}
-use Rattle.matching.specs.Host.{opening-number, answer-number, row-number, words, bytes-of, unpacked-state, state-stored, HostHandles, read-number, weights-stored, HostReads, in-lines, HostReadsText, draws-ruling, draws-number, draws-stored, HostDraws}
+use Rattle.matching.specs.Host.{opening-number, answer-number, row-number, words, bytes-of, unpacked-state, state-stored, HostHandles, read-number, weights-stored, HostReads, capped, HostReadsText, draws-ruling, draws-number, draws-stored, HostDraws}
 use Rattle.matching.specs.Replay.{calls-of, numbers-of, replay-ruling, Replays, refuses-replay, replays, replay-number, replay-stored, HostReplays}
 
 -- n vertices with these edges and weights
@@ -175,7 +176,7 @@ Holds (host-handled s c e left k after) = HostHandles first-edition s c k after
 Holds (host-replayed s numbers old returned left k after new) = HostReplays first-edition s numbers old k after new
 Holds (host-reads bytes adjacency weights o left k adjacency′ weights′) = HostReads first-edition bytes adjacency weights k adjacency′ weights′
 Holds (host-reads-text seed bytes adjacency weights o left k adjacency′ weights′) = HostReadsText first-edition seed bytes adjacency weights k adjacency′ weights′
-Holds (host-text-refused r k) = read-number (in-lines (not-read r)) ≡ k
+Holds (host-text-refused r k) = read-number (capped (not-read r)) ≡ k
 Holds (host-draws n seed weights k weights′) = HostDraws first-edition n seed weights k weights′
 
 -- every claim of a list
@@ -396,9 +397,9 @@ Shown (host-reads bytes adjacency weights o left k adjacency′ weights′) =
     × (weights′ ≡ weights-stored first-edition o left weights)
 Shown (host-reads-text seed bytes adjacency weights o left k adjacency′ weights′) =
     ShownText seed (read-text bytes .reading) adjacency (words (first-edition .width) weights) o adjacency′ left
-    × (k ≡ read-number (in-lines o))
+    × (k ≡ read-number (capped o))
     × (weights′ ≡ weights-stored first-edition o left weights)
-Shown (host-text-refused r k) = read-number (in-lines (not-read r)) ≡ k
+Shown (host-text-refused r k) = read-number (capped (not-read r)) ≡ k
 Shown (host-draws n seed weights k weights′) =
     (k ≡ draws-number (draws-ruling first-edition n weights) n) × (weights′ ≡ draws-stored first-edition (draws-ruling first-edition n weights) n seed weights)
 

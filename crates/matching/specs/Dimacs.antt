@@ -39,7 +39,8 @@ Digit c = (code "0" ≤ c) × (c ≤ code "9")
 abbrev pub append : ℕ → ℕ → ℕ
 append x c = 10 * x + (c - code "0")
 
--- a field, behind digits that come to x: one digit or more, which make it y, then the byte z, and then the rest
+-- the bytes are a field, that is one digit or more, then the byte z, and then the rest; y is the number x with these digits written after it,
+-- and so their own number if x is 0
 pub data Field (z : ℕ) : (x : ℕ) (bytes : List ℕ) (y : ℕ) (rest : List ℕ) → Type 0 where
   last : {x c : ℕ} {rest : List ℕ} → Digit c → Field z x (c ∷ z ∷ rest) (append x c) rest
   more : {x c y : ℕ} {bytes rest : List ℕ} → Digit c → Field z (append x c) bytes y rest → Field z x (c ∷ bytes) y rest
@@ -57,11 +58,11 @@ pub data Begins : Line → (bytes rest : List ℕ) → Type 0 where
   begins-edge : {u v : ℕ} {bytes between rest : List ℕ} → Field space 0 bytes u between → Field line-feed 0 between v rest
       → Begins (edge u v) (ascii "e " ++ bytes) rest
 
--- how far a text has been read: before the `p` line; after it: the size, the number of `e` lines that it announces, the number of those so
--- far, and the edges so far, each once, the newest first
+-- how far a text has been read: before the `p` line; past it, which says the size n and the number m of `e` lines, with k of these so far,
+-- and the edges so far, each once, the newest first
 pub data Progress : Type 0 where
   before : Progress
-  past : (n announced lines : ℕ) (edges : List Pair) → Progress
+  past : (n m k : ℕ) (edges : List Pair) → Progress
 
 -- u and v, counted from 1, are two vertices
 abbrev pub Joins : (n u v : ℕ) → Type 0
@@ -93,9 +94,9 @@ pub data Reading : Type 0 where
   text : ℕ → List Pair → Reading
   unread : Refusal → Reading
 
--- how the bytes that are left are read, from the line of this number on: 16 at a line of no form, which a last line without its line feed
--- is too; a line's own cause at its number; else reading goes on after the line. At the end 16 at 0 without a `p` line, then 17 at 0 if the
--- `e` lines are not as many as it announces
+-- how the bytes that are left are read, from the line of this number on: 16 at a line of none of the forms, and a last line without its
+-- line feed is such a line; a line's own cause at its number; else reading goes on after the line. At the end 16 at 0 without a `p` line,
+-- and 17 at 0 if the `e` lines are not as many as it says
 pub data Reads : Progress → (line : ℕ) (bytes : List ℕ) → Reading → Type 0 where
   no-problem : {line : ℕ} → Reads before line [] (unread (because 16 0))
   not-announced : {n m k line : ℕ} {edges : List Pair} → k ≢ m → Reads (past n m k edges) line [] (unread (because 17 0))

@@ -6,9 +6,9 @@ use Prim.Native.Nat.{ℕ, zero, suc, _+_, _-_, _<_, _≤_}
 use native.Mathlib.Omega.{arith}
 use native.Mathlib.Decide.{ℕ-discrete, decLt, decLe}
 use lib.ListN.{length}
-use Rattle.matching.specs.Decision.{because, both?}
+use Rattle.matching.specs.Decision.{both?}
 use Rattle.matching.specs.Graph.{largest}
-use Rattle.matching.specs.Pairs.{Pair, pair-of}
+use Rattle.matching.specs.Pairs.{pair-of}
 use Rattle.matching.specs.Model.{Named, named?}
 use Rattle.matching.specs.Filling.{among}
 use Rattle.matching.specs.Computed.{among-bit}

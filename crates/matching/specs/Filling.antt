@@ -25,7 +25,7 @@ unfolding ℕ-discrete
 among e [] = 0
 among e (f ∷ edges) = choose (same? e f) 1 (among e edges)
 
--- the adjacency table of these edges: 1 in both cells of each edge, 0 elsewhere
+-- the adjacency table of these edges, each of two different vertices below n: 1 in both cells of an edge, 0 elsewhere
 unfoldable pub cells : ℕ → List Pair → List ℕ
 unfolding list-of among pair-of
 cells n edges = list-of (n * n) (λ x. among (pair-of (x / n) (x % n)) edges)

@@ -49,12 +49,12 @@ unfolding low-bytes
 bytes-of w [] = []
 bytes-of w (x ∷ rest) = low-bytes w x ++ bytes-of w rest
 
--- the one number of a call. Bits 0 to 7: the cause, 0 when none; 8 to 15: the answer-kind; 16 to 31: a value; 32 to 39: the pairs made, or
--- the number of vertices of a graph that was read. The place of a refusal is its value, and if it is a line it has bits 16 to 62
+-- the one number of a call that was carried out: 0 as its cause. Bits 0 to 7: the cause; 8 to 15: the answer-kind; 16 to 31: a value; 32 to
+-- 39: the pairs made, or the number of vertices of a graph that was read
 abbrev pub number : (cause kind value made : ℕ) → ℕ
 number cause kind value made = cause + 2 ^ 8 * kind + 2 ^ 16 * value + 2 ^ 32 * made
 
--- what stands in a number: the cause, the answer-kind, the number of pairs, or of the vertices of a graph, and the line of a refusal
+-- what stands in a number: the cause, the answer-kind, the number of pairs, that of the vertices of a graph, the line of a refusal
 abbrev pub cause-in : ℕ → ℕ
 cause-in answer = answer % 2 ^ 8
 
@@ -64,12 +64,15 @@ kind-in answer = answer / 2 ^ 8 % 2 ^ 8
 abbrev pub made-in : ℕ → ℕ
 made-in answer = answer / 2 ^ 32 % 2 ^ 8
 
+abbrev pub size-in : ℕ → ℕ
+size-in answer = answer / 2 ^ 32 % 2 ^ 8
+
 abbrev pub line-in : ℕ → ℕ
 line-in answer = answer / 2 ^ 16 % 2 ^ 47
 
--- the number of a refusal, with its place
+-- the number of a refusal. Bits 0 to 7: the cause; 8 to 15: 0; from 16 on the place, which takes 16 bits, or 47 if it is the line of a text
 abbrev pub refusal-number : Refusal → ℕ
-refusal-number r = number (r .cause) 0 (r .place) 0
+refusal-number r = r .cause + 2 ^ 16 * r .place
 
 -- answer-kind 1: opened, with the session's pairs; answer-kind 2: singular, with the first dependent column
 abbrev pub opening-number : Opening → ℕ
@@ -211,16 +214,17 @@ pub record HostReads (E : Edition) (sheet adjacency weights : List ℕ) (answer 
 abbrev pub line-place : ℕ → ℕ
 line-place line = choose (decLt line (2 ^ 47 - 1)) line (2 ^ 47 - 1)
 
-abbrev pub in-lines : Read → Read
-in-lines (graph-read n m) = graph-read n m
-in-lines (not-read r) = not-read (because (r .cause) (line-place (r .place)))
+-- an answer as the number carries it
+abbrev pub capped : Read → Read
+capped (graph-read n m) = graph-read n m
+capped (not-read r) = not-read (because (r .cause) (line-place (r .place)))
 
 -- reading a text with a seed beside it through the host: the number, and every byte of the adjacency table and the weights afterwards
 pub record HostReadsText (E : Edition) (seed : ℕ) (bytes adjacency weights : List ℕ) (answer : ℕ) (adjacency′ weights′ : List ℕ) : Type 0 where
   pub given : Read
   pub left : List ℕ
   pub outcome : FillsText E seed bytes adjacency (words (E .width) weights) given adjacency′ left
-  pub numbered : answer ≡ read-number (in-lines given)
+  pub numbered : answer ≡ read-number (capped given)
   pub stored : weights′ ≡ weights-stored E given left weights
 
 -- causes 1 and 2 of drawing the weights of n vertices
