@@ -15,7 +15,7 @@ use Rattle.lines.specs.Lines.{Stands, Remark, Formless}
 use Rattle.lines.specs.declared.Two.{Two}
 use Rattle.refusals.specs.Meaning.{refusal-of}
 use Rattle.edge_lines.specs.Reading.{ReadsOn, Follows, formless-here, remark-here}
-use Rattle.edge_lines.specs.Marked.{MarksNew, MarksOld, MarksNone}
+use Rattle.filling.specs.Marked.{MarksNew, MarksOld}
 use Rattle.edge_lines.specs.declared.Step.{Step}
 use Rattle.edge_lines.specs.declared.Step.the-variants as step
 use Rattle.edge_lines.specs.declared.Edges.{Edges}
@@ -84,31 +84,33 @@ module _ {bytes : List ℕ} {at n : ℕ} where
   pub step-formless : Formless bytes at → Stops bytes at n 16
   step-formless F = record { reads = λ m k line edges. formless-here F }
 
-  pub step-new : {t : Two} {table table′ : List ℕ} → n ≤ largest → Stands edge bytes at t → MarksNew n (t .first) (t .second) table table′
-      → OneMore bytes at n table (t .next) table′
-  step-new {t} l S M =
-      let e = exact t l (S .near-first) (S .near-second) (M .joins) in
-      let h : Joins n (S .exact-first) (S .exact-second) = rw (e .0, e .1) at (M .joins) in
+  pub step-new : {t : Two} {table table′ : List ℕ} → n ≤ largest → Stands edge bytes at t → 0 < t .first → 0 < t .second
+      → MarksNew n (t .first - 1) (t .second - 1) table table′ → OneMore bytes at n table (t .next) table′
+  step-new {t} l S f g M =
+      let e = exact t l (S .near-first) (S .near-second) (f, g, M .named) in
+      let h : Joins n (t .first) (t .second) = (f, g, M .named) in
+      let k : Joins n (S .exact-first) (S .exact-second) = rw (e .0, e .1) at h in
       record {
         onward = record { after = S .after; within = S .within };
         new = joined (t .first) (t .second);
         marks = M .marks;
-        follows = λ m k line edges q r later. goes-on (S .begins) (takes-edge h (rw (e .0, e .1) at (M .absent edges q))) (rw (e .0, e .1) at later);
+        follows = λ m j line edges q r later. goes-on (S .begins) (takes-edge k (rw (e .0, e .1) at (M .absent edges q))) (rw (e .0, e .1) at later);
       }
 
-  pub step-old : {t : Two} {table table′ : List ℕ} → n ≤ largest → Stands edge bytes at t → MarksOld n (t .first) (t .second) table table′
-      → OneAgain bytes at n table (t .next) table′
-  step-old {t} l S M =
-      let e = exact t l (S .near-first) (S .near-second) (M .joins) in
-      let h : Joins n (S .exact-first) (S .exact-second) = rw (e .0, e .1) at (M .joins) in
+  pub step-old : {t : Two} {table table′ : List ℕ} → n ≤ largest → Stands edge bytes at t → 0 < t .first → 0 < t .second
+      → MarksOld n (t .first - 1) (t .second - 1) table table′ → OneAgain bytes at n table (t .next) table′
+  step-old {t} l S f g M =
+      let e = exact t l (S .near-first) (S .near-second) (f, g, M .named) in
+      let h : Joins n (t .first) (t .second) = (f, g, M .named) in
+      let k : Joins n (S .exact-first) (S .exact-second) = rw (e .0, e .1) at h in
       record {
         onward = record { after = S .after; within = S .within };
         kept = M .kept;
-        follows = λ m k line edges q r later. goes-on (S .begins) (takes-repeated h (rw (e .0, e .1) at (M .present edges q))) later;
+        follows = λ m j line edges q r later. goes-on (S .begins) (takes-repeated k (rw (e .0, e .1) at (M .present edges q))) later;
       }
 
-  pub step-none : {t : Two} → n ≤ largest → Stands edge bytes at t → MarksNone n (t .first) (t .second) → Stops bytes at n 14
-  step-none {t} l S M = record { reads = λ m k line edges. rejected (S .begins) (not-two (λ h. M .none (back h))) }
+  pub step-none : {t : Two} → n ≤ largest → Stands edge bytes at t → ¬ Joins n (t .first) (t .second) → Stops bytes at n 14
+  step-none {t} l S d = record { reads = λ m k line edges. rejected (S .begins) (not-two (λ h. d (back h))) }
     where
       back : Joins n (S .exact-first) (S .exact-second) → Joins n (t .first) (t .second)
       back h =

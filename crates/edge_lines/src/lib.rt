@@ -1,5 +1,6 @@
 // The lines of a text in the DIMACS edge format, one after another: the `p` line, and the `e` lines after it, whose edges are marked in a
 // table. Causes 16, 1 and 14.
+use filling::Mark;
 use lines::Fields;
 use lines::Next;
 use lines::Two;
@@ -10,7 +11,6 @@ ghost use Prim.Native.Nat.{_+_, _≤_};
 ghost use Rattle.lists.specs.Table.{Square};
 ghost use Rattle.matching.specs.Filling.{cells};
 ghost use Rattle.edge_lines.specs.Headed.{Heads};
-ghost use Rattle.edge_lines.specs.Marked.{Marked};
 ghost use Rattle.edge_lines.specs.Stepped.{EdgeStepped, Stepped, EdgesRead};
 
 // What the `p` line says, the offset after it, and the number of the line there.
@@ -25,13 +25,6 @@ pub struct Head {
 pub enum Start {
     Headed(Head),
     Refused(Refusal),
-}
-
-// An edge is marked, was marked before, or is not one of two vertices.
-pub enum Mark {
-    New,
-    Old,
-    Refused,
 }
 
 // What the line at an offset is: a comment, a new edge or an old one, with the offset after it; the end of the text; or a cause.
@@ -86,44 +79,18 @@ pub fn read_head(bytes: &[u8]) -> Start
     }
 }
 
-// Marks u and v, counted from 1, as adjacent in both cells of table, if they are two of n vertices.
-fn mark_edge(n: usize, u: usize, v: usize, table: &mut [u8]) -> Mark
-    requires { ⌜ Square n (now table) ⌝ }
-    ensures { λ r. ⌜ Marked n u v (now (table .entry)) r (now (table .exit)) ⌝ }
-{
-    if u == 0 {
-        return Mark::Refused;
-    }
-    if v == 0 {
-        return Mark::Refused;
-    }
-    if n < u {
-        return Mark::Refused;
-    }
-    if n < v {
-        return Mark::Refused;
-    }
-    if u == v {
-        return Mark::Refused;
-    }
-    let a = u - 1;
-    let b = v - 1;
-    let cell = a * n + b;
-    let mirror = b * n + a;
-    if table[cell] != 0 {
-        return Mark::Old;
-    }
-    table[cell] = 1;
-    table[mirror] = 1;
-    Mark::New
-}
-
-// Takes an `e` line with these fields.
+// Takes an `e` line with these fields. A text counts its vertices from 1.
 fn take_edge(n: usize, two: Two, table: &mut [u8]) -> Step
     requires { ⌜ Square n (now table) ⌝ }
     ensures { λ r. ⌜ EdgeStepped two n (now (table .entry)) r (now (table .exit)) ⌝ }
 {
-    let marked = mark_edge(n, two.first, two.second, table);
+    if two.first == 0 {
+        return Step::Refused(14);
+    }
+    if two.second == 0 {
+        return Step::Refused(14);
+    }
+    let marked = filling::mark_edge(n, two.first - 1, two.second - 1, table);
     match marked {
         Mark::New => Step::New(two.next),
         Mark::Old => Step::Old(two.next),

@@ -9,7 +9,7 @@ use Rattle.matching.specs.Decision.{because}
 use Rattle.matching.specs.Edition.{Edition}
 use Rattle.matching.specs.Pairs.{Pair, pair-of}
 use Rattle.matching.specs.Filling.{cells}
-use Rattle.matching.specs.Records.{weighted, takes-end, sheet, unread}
+use Rattle.matching.specs.Records.{weighted, takes-share, takes-end, not-two, stood-already, sheet, unread}
 use Rattle.matching.specs.Computed.{only-edges}
 use Rattle.records.specs.Stands.{Stands}
 use Rattle.records.specs.declared.Ends.{Ends}
@@ -19,8 +19,7 @@ use Rattle.records.specs.declared.Next.the-variants.{Whole}
 use Rattle.refusals.specs.Meaning.{refusal-of}
 use Rattle.due.specs.Follows.{ReadsOn, Follows, stands-within, taken-here, rejected-here, undue-here, ends-here, excess-here}
 use Rattle.due.specs.Others.{Left, other-kind}
-use Rattle.edges.specs.Marked.{Marked}
-use Rattle.edges.specs.declared.Mark.the-variants as mark
+use Rattle.filling.specs.Marked.{MarksNew, MarksOld, MarksNone}
 use Rattle.edges.specs.declared.Step.{Step}
 use Rattle.edges.specs.declared.Step.the-variants as step
 use Rattle.edges.specs.declared.Edges.{Edges}
@@ -46,21 +45,25 @@ module _ {bytes : List ℕ} {at n : ℕ} where
       → ReadsOn E bytes (weighted n weights edges) at (unread (because 12 at))
   step-undue {r} S left E weights edges = undue-here S (only-edges (other-kind (2 ∷ 4 ∷ []) r 2 left tt) (other-kind (2 ∷ 4 ∷ []) r 4 left tt))
 
-  pub step-share : {table table′ : List ℕ} (e : Ends) → Stands bytes at (Whole (Share e)) → Marked n (e .a) (e .b) table mark.Made table′
+  pub step-share : {table table′ : List ℕ} (e : Ends) → Stands bytes at (Whole (Share e)) → MarksNew n (e .a) (e .b) table table′
       → Stepped bytes at n table (step.On (at + 3)) table′
   step-share e S M = (
     omega arith,
     stands-within S,
     λ E weights edges t. record {
       edge = pair-of (e .a) (e .b);
-      marks = M E weights edges t .marks;
-      follows = taken-here S (M E weights edges t .takes);
+      marks = M .marks edges t;
+      follows = taken-here S (takes-share (M .named) (M .absent edges t));
     },
   )
 
-  pub step-rejected : {table : List ℕ} {cause : ℕ} (e : Ends) → Stands bytes at (Whole (Share e)) → Marked n (e .a) (e .b) table (mark.Refused cause) table
-      → (E : Edition) (weights : List ℕ) (edges : List Pair) → table ≡ cells n edges → ReadsOn E bytes (weighted n weights edges) at (unread (because cause at))
-  step-rejected e S M E weights edges t = rejected-here S (M weights edges t)
+  pub step-repeated : {table table′ : List ℕ} (e : Ends) → Stands bytes at (Whole (Share e)) → MarksOld n (e .a) (e .b) table table′
+      → (E : Edition) (weights : List ℕ) (edges : List Pair) → table ≡ cells n edges → ReadsOn E bytes (weighted n weights edges) at (unread (because 15 at))
+  step-repeated e S M E weights edges t = rejected-here S (stood-already (M .named) (M .present edges t))
+
+  pub step-none : (e : Ends) → Stands bytes at (Whole (Share e)) → MarksNone n (e .a) (e .b)
+      → (E : Edition) (weights : List ℕ) (edges : List Pair) → ReadsOn E bytes (weighted n weights edges) at (unread (because 14 at))
+  step-none e S M E weights edges = rejected-here S (not-two (M .none))
 
   pub step-end : Stands bytes at (Whole End) → length bytes ≤ at + 1 → (E : Edition) (weights : List ℕ) (edges : List Pair)
       → ReadsOn E bytes (weighted n weights edges) at (sheet n weights edges)

@@ -1,6 +1,7 @@
 // The edges of a sheet: its share records up to the end record, marked in a table. Causes 12 to 15.
 use due::Due;
 use due::Found;
+use filling::Mark;
 use records::Record;
 use refusals::Refusal;
 ghost use mathlib.Core.Path.{_≡_};
@@ -9,14 +10,7 @@ ghost use Prim.Native.Nat.{ℕ};
 ghost use Rattle.lists.specs.Table.{Square};
 ghost use Rattle.matching.specs.Edition.{Edition};
 ghost use Rattle.matching.specs.Filling.{cells};
-ghost use Rattle.edges.specs.Marked.{Marked};
 ghost use Rattle.edges.specs.Stepped.{Stepped, EdgesRead};
-
-// An edge is marked, or refused for a cause.
-pub enum Mark {
-    Made,
-    Refused(u8),
-}
 
 // What the record at an offset is: an edge, with the offset after it; the end of the sheet; or a refusal.
 pub enum Step {
@@ -31,30 +25,6 @@ pub enum Edges {
     Refused(Refusal),
 }
 
-// Marks a and b as adjacent in both cells of table. Refuses them if they are not two vertices below n, or already marked as an edge.
-fn mark_edge(n: usize, a: usize, b: usize, table: &mut [u8]) -> Mark
-    requires { ⌜ Square n (now table) ⌝ }
-    ensures { λ r. ⌜ Marked n a b (now (table .entry)) r (now (table .exit)) ⌝ }
-{
-    if n <= a {
-        return Mark::Refused(14);
-    }
-    if n <= b {
-        return Mark::Refused(14);
-    }
-    if a == b {
-        return Mark::Refused(14);
-    }
-    let cell = a * n + b;
-    let mirror = b * n + a;
-    if table[cell] != 0 {
-        return Mark::Refused(15);
-    }
-    table[cell] = 1;
-    table[mirror] = 1;
-    Mark::Made
-}
-
 // Reads the record at offset at of bytes, where a share record or the end is due, and marks the edge of a share record in table.
 fn take_record(bytes: &[u8], at: usize, n: usize, table: &mut [u8]) -> Step
     requires { ⌜ Square n (now table) ⌝ }
@@ -65,10 +35,11 @@ fn take_record(bytes: &[u8], at: usize, n: usize, table: &mut [u8]) -> Step
         Found::Refused(why) => Step::Refused(why),
         Found::Whole(record) => match record {
             Record::Share(ends) => {
-                let marked = mark_edge(n, ends.a, ends.b, table);
+                let marked = filling::mark_edge(n, ends.a, ends.b, table);
                 match marked {
-                    Mark::Made => Step::On(at + 3),
-                    Mark::Refused(cause) => Step::Refused(refusals::because(cause, at)),
+                    Mark::New => Step::On(at + 3),
+                    Mark::Old => Step::Refused(refusals::because(15, at)),
+                    Mark::Refused => Step::Refused(refusals::because(14, at)),
                 }
             }
             Record::End => {

@@ -1,3 +1,4 @@
--- What a reader answers; what is written.
+-- An edge marked; what a reader answers; what is written.
+pub mod Marked
 pub mod Meaning
 pub mod Written

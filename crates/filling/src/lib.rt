@@ -1,7 +1,8 @@
-// Writing a graph that has been read, by whichever reader: cause 2, and the two tables.
+// What both readers do: mark an edge in a table of their own, and write a graph that has been read: cause 2, and the two tables.
 use refusals::Refusal;
 ghost use Rattle.lists.specs.Table.{Square};
 ghost use Rattle.matching.specs.Edition.{first-edition};
+ghost use Rattle.filling.specs.Marked.{Marked};
 ghost use Rattle.filling.specs.Meaning.{read-of};
 ghost use Rattle.filling.specs.Written.{Writes};
 
@@ -15,6 +16,37 @@ pub struct Extent {
 pub enum Read {
     Graph(Extent),
     Refused(Refusal),
+}
+
+// An edge is marked, was marked before, or is not one of two vertices.
+pub enum Mark {
+    New,
+    Old,
+    Refused,
+}
+
+// Marks a and b as adjacent in both cells of table, if they are two of n vertices and not yet marked.
+pub fn mark_edge(n: usize, a: usize, b: usize, table: &mut [u8]) -> Mark
+    requires { ⌜ Square n (now table) ⌝ }
+    ensures { λ r. ⌜ Marked n a b (now (table .entry)) r (now (table .exit)) ⌝ }
+{
+    if n <= a {
+        return Mark::Refused;
+    }
+    if n <= b {
+        return Mark::Refused;
+    }
+    if a == b {
+        return Mark::Refused;
+    }
+    let cell = a * n + b;
+    let mirror = b * n + a;
+    if table[cell] != 0 {
+        return Mark::Old;
+    }
+    table[cell] = 1;
+    table[mirror] = 1;
+    Mark::New
 }
 
 // Writes table to adjacency and the draws of seed to weights, if both are long enough for n vertices.
