@@ -49,8 +49,8 @@ unfolding low-bytes
 bytes-of w [] = []
 bytes-of w (x ∷ rest) = low-bytes w x ++ bytes-of w rest
 
--- the one number of a call that was carried out: 0 as its cause. Bits 0 to 7: the cause; 8 to 15: the answer-kind; 16 to 31: a value; 32 to
--- 39: the pairs made, or the number of vertices of a graph that was read
+-- the one number of a call that was carried out. Bits 0 to 7: its cause, 0; 8 to 15: the answer-kind; 16 to 31: a value; 32 to 39: the pairs
+-- made, or the number of vertices of a graph that was read
 abbrev pub number : (cause kind value made : ℕ) → ℕ
 number cause kind value made = cause + 2 ^ 8 * kind + 2 ^ 16 * value + 2 ^ 32 * made
 
