@@ -66,9 +66,9 @@ extern "C" {
    minor number changes, as CHANGES.md says, but not when the patch number
    does. */
 #define SASZVIGOM_VERSION_MAJOR 0
-#define SASZVIGOM_VERSION_MINOR 6
+#define SASZVIGOM_VERSION_MINOR 7
 #define SASZVIGOM_VERSION_PATCH 0
-#define SASZVIGOM_VERSION "0.6.0"
+#define SASZVIGOM_VERSION "0.7.0"
 
 /* The version as a number, also for #if: the patch number in bits 0 to 7, the
    minor one in 8 to 15 and the major one in 16 to 23. */
@@ -125,7 +125,8 @@ uint64_t saszvigom_version(void);
 
 /* Why a call was refused: bits 0 to 7 of the number returned. No number is 0,
    so test saszvigom_cause_of(number) and never the number. The place, in bits
-   16 to 62, says where; only the line of a text can be above 65535.
+   16 to 62, says where: for SASZVIGOM_ADJACENCY_FAULT it is a cell, and else a
+   number, of which only the line of a text can be above 65535.
 
    12 to 17 are faults of a list, a sheet or a text, and only saszvigom_replay,
    saszvigom_read and saszvigom_read_dimacs return them. 12 and 13 have two
@@ -141,10 +142,11 @@ enum saszvigom_cause SASZVIGOM_ENUM_TYPE {
        one of enum saszvigom_buffer. */
     SASZVIGOM_BUFFER_TOO_SHORT = 2,
     /* The adjacency byte of row i and column j is not 0 or 1, or is not 0 though
-       i = j, or differs from that of row j and column i. The place is i * n + j
-       for the first such byte, row by row. If two bytes differ, both are at
-       fault, so j is never below i. This place is to change: use
-       saszvigom_fault_row and saszvigom_fault_column of saszvigom_text.h. */
+       i = j, or differs from that of row j and column i. The place is the cell of
+       the first such byte, row by row: its row i, its column j, and the first of
+       the three faults that it has. saszvigom_fault_row, saszvigom_fault_column
+       and saszvigom_fault_of of saszvigom_text.h return them. If two bytes
+       differ, both are at fault, so j is never below i. */
     SASZVIGOM_ADJACENCY_FAULT = 3,
     /* A weight is 0 or above 65520, of adjacent vertices or of others. The place
        is the index of the first such weight: 0 for the first word, 1 for the
@@ -295,10 +297,11 @@ enum saszvigom_call SASZVIGOM_ENUM_TYPE {
  *
  * The number, by its bits; all others are 0:
  *
- *                 0 to 7   8 to 15   16 to 31
- *     opened      0        1         0
- *     singular    0        2         f
- *     refused     cause    0         place
+ *                 0 to 7   8 to 15   16 to 23   24 to 31   32 to 39
+ *     opened      0        1         0          0          0
+ *     singular    0        2         f          0          0
+ *     refused     3        0         row        column     fault
+ *     refused     cause    0         place, 16 to 31       0
  */
 SASZVIGOM_NOT_NULL
 uint64_t saszvigom_open(uint64_t n,
@@ -470,6 +473,7 @@ uint64_t saszvigom_draws(uint64_t n, uint32_t seed, uint8_t *weights, size_t wei
  *     undo               0        3         smaller    larger     made
  *     row                0        4         0          0          made
  *     replay             0        5         0          0          made
+ *     refused            3        0         row        column     fault
  *     refused            cause    0         place, 16 to 31       0
  *
  * Here made is the number of pairs after the call, which is the made of the
@@ -624,8 +628,10 @@ static inline uint64_t saszvigom_line_of(uint64_t number)
 }
 
 /* Returns the place of the cause, or 4294967295 if it is that or larger, as only
-   the line of a text can be: saszvigom_line_of returns that in full. It means
-   nothing if the call was not refused. */
+   the line of a text can be: saszvigom_line_of returns that in full. For
+   SASZVIGOM_ADJACENCY_FAULT it is row + 256 * column + 65536 * fault, and not an
+   index: use saszvigom_fault_row, saszvigom_fault_column and saszvigom_fault_of
+   of saszvigom_text.h. It means nothing if the call was not refused. */
 static inline unsigned saszvigom_place_of(uint64_t number)
 {
     const uint64_t place = saszvigom_line_of(number);

@@ -171,10 +171,11 @@ static inline bool saszvigom_weight_vertices(uint64_t n, uint64_t index, unsigne
     return true;
 }
 
-/* What is wrong with an adjacency byte that is at fault: the first of these that
-   applies. */
+/* What is wrong with the adjacency byte of SASZVIGOM_ADJACENCY_FAULT: bits 32 to
+   39 of the number returned. It is the first of the three that applies to that
+   byte. */
 enum saszvigom_fault SASZVIGOM_ENUM_TYPE {
-    /* Nothing, as far as is known. */
+    /* Nothing: the cause is another one, or there is none. */
     SASZVIGOM_NO_FAULT = 0,
     /* It is not 0 or 1. */
     SASZVIGOM_FAULT_VALUE = 1,
@@ -184,9 +185,38 @@ enum saszvigom_fault SASZVIGOM_ENUM_TYPE {
     SASZVIGOM_FAULT_MIRROR = 3
 };
 
-/* Returns the fault of the byte at row i and column j of a table of n vertices,
-   or SASZVIGOM_NO_FAULT if the byte is in order or not there, or the table is
-   null or has less than n * n bytes. Only for this header. */
+/* Return the row, the column and the fault of the adjacency byte at fault. Row
+   and column count from 0, and mean nothing for a cause other than
+   SASZVIGOM_ADJACENCY_FAULT; saszvigom_fault_of returns SASZVIGOM_NO_FAULT for
+   another cause. They answer from the number alone: n and the table, which may
+   be null, make no difference. */
+static inline unsigned saszvigom_fault_row(uint64_t number, uint64_t n)
+{
+    (void)n;
+    return (unsigned)(number >> 16 & 0xFFu);
+}
+
+static inline unsigned saszvigom_fault_column(uint64_t number, uint64_t n)
+{
+    (void)n;
+    return (unsigned)(number >> 24 & 0xFFu);
+}
+
+static inline enum saszvigom_fault saszvigom_fault_of(uint64_t number, uint64_t n,
+                                                      const uint8_t *adjacency,
+                                                      size_t adjacency_len)
+{
+    (void)n;
+    (void)adjacency;
+    (void)adjacency_len;
+    if (saszvigom_cause_of(number) != SASZVIGOM_ADJACENCY_FAULT)
+        return SASZVIGOM_NO_FAULT;
+    return (enum saszvigom_fault)(number >> 32 & 0xFFu);
+}
+
+/* Returns the fault that the byte at row i and column j of a table of n vertices
+   has, or SASZVIGOM_NO_FAULT if the byte is in order or not there, or the table
+   is null or has less than n * n bytes. Only for this header. */
 static inline enum saszvigom_fault saszvigom_fault_in(const uint8_t *adjacency,
                                                       size_t adjacency_len, uint64_t n, unsigned i,
                                                       unsigned j)
@@ -200,47 +230,6 @@ static inline enum saszvigom_fault saszvigom_fault_in(const uint8_t *adjacency,
         return SASZVIGOM_FAULT_DIAGONAL;
     return adjacency[i * n + j] != adjacency[j * n + i] ? SASZVIGOM_FAULT_MIRROR
                                                         : SASZVIGOM_NO_FAULT;
-}
-
-/* Return the row, the column and the fault of the adjacency byte at fault, for
-   the number of a call with n vertices. Row and column mean nothing for a cause
-   other than SASZVIGOM_ADJACENCY_FAULT.
-
-   They take a number of either layout: the present one, whose place is row * n
-   + column, and the announced one, which has the row in bits 16 to 23, the
-   column in 24 to 31 and the fault, which is never 0, in 32 to 39. In the
-   present layout, row and column are 0 for n = 0 and n above 96, and the fault
-   is looked up in the table that the call was lent, if that has n * n bytes;
-   null is a table of no bytes. saszvigom_fault_of returns SASZVIGOM_NO_FAULT
-   for another cause, and if the fault is not there. */
-static inline unsigned saszvigom_fault_row(uint64_t number, uint64_t n)
-{
-    if ((number >> 32 & 0xFFu) != 0)
-        return (unsigned)(number >> 16 & 0xFFu);
-    if (n == 0 || n > SASZVIGOM_MAX_VERTICES)
-        return 0;
-    return (unsigned)(number >> 16 & 0xFFFFu) / (unsigned)n;
-}
-
-static inline unsigned saszvigom_fault_column(uint64_t number, uint64_t n)
-{
-    if ((number >> 32 & 0xFFu) != 0)
-        return (unsigned)(number >> 24 & 0xFFu);
-    if (n == 0 || n > SASZVIGOM_MAX_VERTICES)
-        return 0;
-    return (unsigned)(number >> 16 & 0xFFFFu) % (unsigned)n;
-}
-
-static inline enum saszvigom_fault saszvigom_fault_of(uint64_t number, uint64_t n,
-                                                      const uint8_t *adjacency,
-                                                      size_t adjacency_len)
-{
-    if (saszvigom_cause_of(number) != SASZVIGOM_ADJACENCY_FAULT)
-        return SASZVIGOM_NO_FAULT;
-    if ((number >> 32 & 0xFFu) != 0)
-        return (enum saszvigom_fault)(number >> 32 & 0xFFu);
-    return saszvigom_fault_in(adjacency, adjacency_len, n, saszvigom_fault_row(number, n),
-                              saszvigom_fault_column(number, n));
 }
 
 /* A text that is being written: size bytes of room, and the length so far,
@@ -274,49 +263,36 @@ static inline void saszvigom_line_number(struct saszvigom_line *line, const char
         saszvigom_line_char(line, (char)('0' + (int)(number / power % 10u)));
 }
 
-/* Writes which adjacency byte is at fault, at row i and column j, and what is
-   wrong with it: the fault of the number or of the table, with the bytes if the
-   table shows them. */
+/* Writes which adjacency byte is at fault and what is wrong with it, as the
+   number says; with the bytes, if the table shows that fault there. */
 static inline void saszvigom_line_fault(struct saszvigom_line *line, uint64_t number, uint64_t n,
-                                        const uint8_t *adjacency, size_t adjacency_len, unsigned i,
-                                        unsigned j)
+                                        const uint8_t *adjacency, size_t adjacency_len)
 {
+    const unsigned i = saszvigom_fault_row(number, n), j = saszvigom_fault_column(number, n);
     const enum saszvigom_fault fault = saszvigom_fault_of(number, n, adjacency, adjacency_len);
-    const bool shown = fault != SASZVIGOM_NO_FAULT &&
-                       saszvigom_fault_in(adjacency, adjacency_len, n, i, j) == fault;
-    saszvigom_line_number(line, "the adjacency byte of row ", i);
-    saszvigom_line_number(line, " and column ", j);
+    const bool shown = saszvigom_fault_in(adjacency, adjacency_len, n, i, j) == fault;
+    saszvigom_line_number(line, "row ", i);
+    saszvigom_line_number(line, ", column ", j);
+    saszvigom_line_text(line, ": the adjacency byte");
     switch (fault) {
     case SASZVIGOM_FAULT_VALUE:
-        if (shown) {
-            saszvigom_line_number(line, " is ", adjacency[i * n + j]);
-            saszvigom_line_text(line, i == j ? ", not 0" : ", not 0 or 1");
-        } else {
-            saszvigom_line_text(line, " is not 0 or 1");
-        }
-        return;
     case SASZVIGOM_FAULT_DIAGONAL:
-        saszvigom_line_text(line, " is not 0");
+        if (shown)
+            saszvigom_line_number(line, " is ", adjacency[i * n + j]);
+        saszvigom_line_text(line, shown ? ", not 0" : " is not 0");
+        saszvigom_line_text(line, fault == SASZVIGOM_FAULT_VALUE ? " or 1" : " on the diagonal");
         return;
     case SASZVIGOM_FAULT_MIRROR:
-        if (shown) {
+        if (shown)
             saszvigom_line_number(line, " is ", adjacency[i * n + j]);
-            saszvigom_line_number(line, ", and that of row ", j);
-            saszvigom_line_number(line, " and column ", i);
+        saszvigom_line_text(line, shown ? ", and that of" : " differs from that of");
+        saszvigom_line_number(line, " row ", j);
+        saszvigom_line_number(line, ", column ", i);
+        if (shown)
             saszvigom_line_number(line, " is ", adjacency[j * n + i]);
-        } else {
-            saszvigom_line_number(line, " differs from that of row ", j);
-            saszvigom_line_number(line, " and column ", i);
-        }
         return;
-    case SASZVIGOM_NO_FAULT:
-        if (i == j) {
-            saszvigom_line_text(line, " is not 0");
-        } else {
-            saszvigom_line_number(line, " is not 0 or 1, or differs from that of row ", j);
-            saszvigom_line_number(line, " and column ", i);
-        }
-        return;
+    case SASZVIGOM_NO_FAULT: /* then nothing is at fault, and this is not called */
+        break;
     }
     saszvigom_line_text(line, " has an unknown fault");
 }
@@ -349,15 +325,14 @@ static inline void saszvigom_line_refusal(struct saszvigom_line *line, uint64_t 
                                           size_t weights_len)
 {
     const enum saszvigom_cause cause = saszvigom_cause_of(number);
-    unsigned i = saszvigom_fault_row(number, n), j = saszvigom_fault_column(number, n);
+    unsigned i = 0, j = 0;
 
     if (cause == SASZVIGOM_BUFFER_TOO_SHORT) {
         saszvigom_line_text(line, "the ");
         saszvigom_line_text(line, saszvigom_buffer_text(saszvigom_buffer_of(number)));
         saszvigom_line_text(line, " buffer is too short");
-    } else if (cause == SASZVIGOM_ADJACENCY_FAULT && n <= SASZVIGOM_MAX_VERTICES && i < n &&
-               j < n) {
-        saszvigom_line_fault(line, number, n, adjacency, adjacency_len, i, j);
+    } else if (saszvigom_fault_of(number, n, adjacency, adjacency_len) != SASZVIGOM_NO_FAULT) {
+        saszvigom_line_fault(line, number, n, adjacency, adjacency_len);
     } else if (cause == SASZVIGOM_WEIGHT_OUT_OF_RANGE &&
                saszvigom_weight_vertices(n, saszvigom_place_of(number), &i, &j)) {
         saszvigom_line_weight(line, number, n, weights, weights_len, i, j);
@@ -395,6 +370,8 @@ static inline void saszvigom_line_place(struct saszvigom_line *line, uint64_t nu
  * saszvigom_explain has only the number; saszvigom_explain_with also looks at
  * the graph that the call was lent, and says what is wrong there. Examples:
  *
+ *     refused: row 0, column 1: the adjacency byte is not 0 or 1 (cause 3)
+ *     refused: row 0, column 1: the adjacency byte is 7, not 0 or 1 (cause 3)
  *     refused: the weight of 3 and 7 is 0 or above 65520 (cause 4 at 21)
  *     refused: the weight of 3 and 7 is 0 (cause 4 at 21)
  *
