@@ -86,10 +86,13 @@ static void buffer(enum saszvigom_buffer value)
     }
 }
 
-static void fault(enum saszvigom_fault value)
+static void fault(uint64_t number)
 {
-    count("fault");
-    switch (value) {
+    char line[SASZVIGOM_LINE_BYTES];
+    if (saszvigom_explain(line, sizeof line, number, 0, SASZVIGOM_FROM_CALL) >= sizeof line)
+        exit(1);
+    count(line);
+    switch (saszvigom_fault_of(number, 0, NULL, 0)) {
     case SASZVIGOM_NO_FAULT:
     case SASZVIGOM_FAULT_VALUE:
     case SASZVIGOM_FAULT_DIAGONAL:
@@ -123,7 +126,7 @@ int main(void)
         buffer(saszvigom_buffer_of(value << 16));
     expect("buffers", 8);
     for (value = 0; value < 256; value++)
-        fault(saszvigom_fault_of(value << 32 | SASZVIGOM_ADJACENCY_FAULT, 0, NULL, 0));
+        fault(value << 32 | SASZVIGOM_ADJACENCY_FAULT);
     expect("faults", 4);
     printf("%u cases\n", values);
     return 0;

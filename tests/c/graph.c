@@ -336,6 +336,52 @@ static void session(void)
     check("partner that is no vertex", saszvigom_graph_partner(&graph, 2) == SASZVIGOM_UNUSED);
 }
 
+/* Checks that every call of the session is refused with a number, and changes
+   nothing. */
+static void check_refused(uint64_t expected)
+{
+    const uint64_t calls[] = {SASZVIGOM_CALL_AUTOMATIC, 0, 0, SASZVIGOM_CALL_UNDO, 0, 0};
+    uint64_t answers[2] = {7, 7};
+    memset(graph.row, 0, sizeof graph.row);
+    before = graph;
+    check_number("open at fault", saszvigom_graph_open(&graph), expected);
+    check_number("pick at fault", saszvigom_graph_pick(&graph, 2, 3), expected);
+    check_number("automatic at fault", saszvigom_graph_automatic(&graph), expected);
+    check_number("undo at fault", saszvigom_graph_undo(&graph), expected);
+    check_number("row at fault", saszvigom_graph_row(&graph, 2), expected);
+    check_number("list at fault", saszvigom_graph_replay(&graph, calls, 6, answers, 2), expected);
+    check_number("empty list at fault", saszvigom_graph_replay(&graph, NULL, 0, NULL, 0), expected);
+    check("at fault, unchanged", unchanged() && answers[0] == 7 && answers[1] == 7);
+}
+
+/* A table that is typed wrong in mid-session, and mended. */
+static void faulty(void)
+{
+    open_ring(6);
+    check_number("a pair", saszvigom_graph_automatic(&graph), 0x101000300);
+    graph.adjacency[5 * 6 + 0] = 0;
+    check_refused(0x305000003);
+    graph.adjacency[5 * 6 + 0] = 2;
+    check_refused(0x305000003);
+    graph.adjacency[0 * 6 + 5] = 2;
+    check_refused(0x105000003);
+    check("mended", saszvigom_graph_set_edge(&graph, 0, 5));
+    graph.adjacency[5 * 6 + 5] = 1;
+    check_refused(0x205050003);
+    graph.adjacency[5 * 6 + 5] = 255;
+    check_refused(0x105050003);
+    graph.adjacency[5 * 6 + 4] = 0;
+    check_refused(0x305040003);
+    graph.adjacency[0 * 6 + 0] = 1;
+    check_refused(0x200000003);
+    graph.adjacency[0 * 6 + 0] = 2;
+    check_refused(0x100000003);
+    graph.adjacency[0 * 6 + 0] = graph.adjacency[5 * 6 + 5] = 0;
+    check("mended", saszvigom_graph_set_edge(&graph, 4, 5));
+    check("one pair", graph.made == 1);
+    check_number("and the session goes on", saszvigom_graph_automatic(&graph), 0x203020300);
+}
+
 static void replays(void)
 {
     const uint64_t calls[] = {SASZVIGOM_CALL_PICK, 1, 0, SASZVIGOM_CALL_PICK, 2, 4,
@@ -412,19 +458,29 @@ static void explained(void)
 
     graph.adjacency[1 * 8 + 2] = 7;
     number = saszvigom_graph_pick(&graph, 0, 1);
-    check_line("refused: the adjacency byte of row 1 and column 2 is 7, not 0 or 1 (cause 3)",
-               number, call);
+    check_line("refused: row 1, column 2: the adjacency byte is 7, not 0 or 1 (cause 3)", number,
+               call);
     graph.adjacency[1 * 8 + 2] = 1;
-    check_line("refused: the adjacency byte of row 1 and column 2 is 1, and that of row 2 and "
-               "column 1 is 0 (cause 3)",
+    check_line("refused: row 1, column 2: the adjacency byte is not 0 or 1 (cause 3)", number,
+               call);
+    number = saszvigom_graph_open(&graph);
+    check_line("refused: row 1, column 2: the adjacency byte is 1, and that of row 2, column 1 is "
+               "0 (cause 3)",
                number, call);
     check("the edge", saszvigom_graph_set_edge(&graph, 1, 2));
-    check_line("refused: the adjacency byte of row 1 and column 2 is not 0 or 1, or differs from "
-               "that of row 2 and column 1 (cause 3)",
+    check_line("refused: row 1, column 2: the adjacency byte differs from that of row 2, column 1 "
+               "(cause 3)",
                number, call);
-    graph.adjacency[2 * 8 + 2] = 1;
-    check_line("refused: the adjacency byte of row 2 and column 2 is not 0 (cause 3)",
+    graph.adjacency[2 * 8 + 2] = 7;
+    check_line("refused: row 2, column 2: the adjacency byte is 7, not 0 or 1 (cause 3)",
                saszvigom_graph_automatic(&graph), call);
+    graph.adjacency[2 * 8 + 2] = 1;
+    number = saszvigom_graph_undo(&graph);
+    check_line("refused: row 2, column 2: the adjacency byte is 1, not 0 on the diagonal (cause 3)",
+               number, call);
+    graph.n = 2;
+    check_line("refused: row 2, column 2: the adjacency byte is not 0 on the diagonal (cause 3)",
+               number, call);
 
     open_ring(6);
     check_line("opened: there is an inverse, and a perfect matching", 0x100, call);
@@ -500,6 +556,7 @@ int main(void)
     sheets();
     dimacs();
     session();
+    faulty();
     replays();
     explained();
     largest();

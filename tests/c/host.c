@@ -180,31 +180,56 @@ static void adjacency_faults(void)
     set_graph(4);
     link_all();
     set_cell(1, 3, 2);
-    expect_refusal(SASZVIGOM_ADJACENCY_FAULT, 7);
+    expect_fault(1, 3, SASZVIGOM_FAULT_VALUE);
     run("a cell of 2");
 
     set_graph(4);
     set_cell(1, 0, 2);
-    expect_refusal(SASZVIGOM_ADJACENCY_FAULT, 1);
+    expect_fault(0, 1, SASZVIGOM_FAULT_MIRROR);
     run("a cell of 2 below the diagonal");
 
     set_graph(4);
     set_cell(3, 2, 1);
-    expect_refusal(SASZVIGOM_ADJACENCY_FAULT, 11);
+    expect_fault(2, 3, SASZVIGOM_FAULT_MIRROR);
     run("a cell unlike its mirror");
 
     set_graph(4);
     set_cell(2, 2, 1);
     set_cell(2, 3, 255);
     set_weight(0, 0);
-    expect_refusal(SASZVIGOM_ADJACENCY_FAULT, 10);
+    expect_fault(2, 2, SASZVIGOM_FAULT_DIAGONAL);
     run("a cell on the diagonal, a later cell and a weight");
 
     set_graph(96);
     link_all();
     set_cell(95, 95, 1);
-    expect_refusal(SASZVIGOM_ADJACENCY_FAULT, 9215);
+    expect_nothing_written(0x25F5F0003);
     run("the last cell of 96 vertices");
+
+    set_graph(96);
+    memset(call.bytes[ADJACENCY], 1, SASZVIGOM_ADJACENCY_BYTES(96));
+    expect_fault(0, 0, SASZVIGOM_FAULT_DIAGONAL);
+    run("1 in every cell of 96 vertices");
+    memset(call.bytes[ADJACENCY], 255, SASZVIGOM_ADJACENCY_BYTES(96));
+    expect_fault(0, 0, SASZVIGOM_FAULT_VALUE);
+    run("255 in every cell of 96 vertices");
+}
+
+/* Every table at fault, for no more vertices than it needs and for as many as
+   there can be. */
+static void faulty(void)
+{
+    const size_t sizes[] = {1, 2, 3, 96};
+    for (size_t k = 0; k < COUNT(sizes); k++)
+        for (size_t t = 0; t < COUNT(faulty_tables); t++)
+            if (faulty_tables[t].least <= sizes[k]) {
+                char name[96];
+                set_graph(sizes[k]);
+                link_all();
+                set_faulty(&faulty_tables[t]);
+                (void)snprintf(name, sizeof name, "size %zu, %s", sizes[k], faulty_tables[t].what);
+                run(name);
+            }
 }
 
 static void weight_faults(void)
@@ -246,7 +271,7 @@ static void check_that(const char *name, bool right)
 static void accessors(void)
 {
     const uint64_t singular = 131584;
-    const uint64_t refused = 3 | (uint64_t)9215 << 16;
+    const uint64_t refused = 0x25F5F0003;
     const bool right = saszvigom_cause_of(256) == SASZVIGOM_NO_CAUSE
                        && saszvigom_kind_of(256) == SASZVIGOM_OPENED
                        && saszvigom_cause_of(singular) == SASZVIGOM_NO_CAUSE
@@ -254,7 +279,10 @@ static void accessors(void)
                        && saszvigom_column_of(singular) == 2
                        && saszvigom_cause_of(refused) == SASZVIGOM_ADJACENCY_FAULT
                        && saszvigom_kind_of(refused) == SASZVIGOM_REFUSED
-                       && saszvigom_place_of(refused) == 9215
+                       && saszvigom_place_of(refused) == 95 + 256 * 95 + 65536 * 2
+                       && saszvigom_fault_row(refused, 96) == 95
+                       && saszvigom_fault_column(refused, 96) == 95
+                       && saszvigom_fault_of(refused, 96, NULL, 0) == SASZVIGOM_FAULT_DIAGONAL
                        && saszvigom_buffer_of(0xA0002) == SASZVIGOM_BUFFER_ANSWERS
                        && saszvigom_weight_index(96, 94, 95) == 4559
                        && saszvigom_weight_index(96, 95, 94) == 4559;
@@ -304,6 +332,7 @@ int main(void)
     sizes();
     lengths();
     adjacency_faults();
+    faulty();
     weight_faults();
     accessors();
     words();

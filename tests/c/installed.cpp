@@ -127,6 +127,17 @@ void with_vectors()
         n, 0, adjacency.data(), adjacency.size(), weights.data(), weights.size(), inverse.data(),
         inverse.size(), sequence.data(), sequence.size() - 1);
     check("short", saszvigom_buffer_of(number) == SASZVIGOM_BUFFER_SEQUENCE);
+
+    const bytes one_way{0, 1, 0, 0}, none;
+    const uint64_t refused = saszvigom_automatic(
+        n, 0, one_way.data(), one_way.size(), weights.data(), weights.size(), inverse.data(),
+        inverse.size(), sequence.data(), sequence.size());
+    check("an edge in one direction",
+          refused == 0x301000003 && saszvigom_fault_row(refused, n) == 0 &&
+              saszvigom_fault_column(refused, n) == 1 &&
+              saszvigom_fault_of(refused, n, none.data(), none.size()) == SASZVIGOM_FAULT_MIRROR);
+    check("explained", explained(refused, n) == "refused: row 0, column 1: the adjacency byte "
+                                                "differs from that of row 1, column 0 (cause 3)");
 }
 
 } // namespace

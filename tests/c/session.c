@@ -31,6 +31,20 @@ static void open_session(void)
     }
 }
 
+/* Makes the first pair of a session by an automatic pick. */
+static void make_pair(void)
+{
+    const uint64_t number = saszvigom_automatic(
+        call.n, 0, call.bytes[ADJACENCY], call.length[ADJACENCY], call.bytes[WEIGHTS],
+        call.length[WEIGHTS], call.bytes[INVERSE], call.length[INVERSE], call.bytes[SEQUENCE],
+        call.length[SEQUENCE]);
+    call.made = 1;
+    if (saszvigom_kind_of(number) != SASZVIGOM_PAIR) {
+        printf("FAIL first pair: number %#llx\n", (unsigned long long)number);
+        exit(1);
+    }
+}
+
 /* Opens a session with all edges of four vertices. */
 static void open_four(void)
 {
@@ -298,7 +312,40 @@ static void faulty_graphs(void)
         set_weight(5, 65521);
         run_refused(session_entries[e], SASZVIGOM_WEIGHT_OUT_OF_RANGE, 5, "last weight");
         set_cell(3, 2, 0);
-        run_refused(session_entries[e], SASZVIGOM_ADJACENCY_FAULT, 11, "cell unlike its mirror");
+        run_refused(session_entries[e], SASZVIGOM_ADJACENCY_FAULT, 0x30302,
+                    "cell unlike its mirror");
+    }
+}
+
+/* Every table at fault, through every entry. A pair is made; only one vertex has
+   no session. With its table in order, the session is sound. */
+static void faulty(void)
+{
+    const size_t sizes[] = {1, 2, 4, 96};
+    for (size_t k = 0; k < COUNT(sizes); k++) {
+        char name[96];
+        set_graph(sizes[k]);
+        link_all();
+        if (sizes[k] > 1) {
+            open_session();
+            make_pair();
+        }
+        for (size_t t = 0; t < COUNT(faulty_tables); t++)
+            for (size_t e = 0; e < COUNT(session_entries); e++)
+                if (faulty_tables[t].least <= sizes[k]) {
+                    call_entry(session_entries[e]);
+                    set_faulty(&faulty_tables[t]);
+                    (void)snprintf(name, sizeof name, "%s, size %zu, %s",
+                                   entry_names[session_entries[e]], sizes[k],
+                                   faulty_tables[t].what);
+                    run(name);
+                    set_back(&faulty_tables[t]);
+                }
+        if (sizes[k] > 1) {
+            replay(NULL, 0, 0);
+            expect_nothing_written(0x100000500);
+            run("with the table in order the session is sound");
+        }
     }
 }
 
@@ -460,7 +507,7 @@ static void several_causes(void)
     expect_refusal(SASZVIGOM_WEIGHT_OUT_OF_RANGE, 3);
     run("and a weight of 0");
     set_cell(1, 1, 1);
-    expect_refusal(SASZVIGOM_ADJACENCY_FAULT, 5);
+    expect_fault(1, 1, SASZVIGOM_FAULT_DIAGONAL);
     run("and a loop");
     replay(list, 10, 2);
     expect_refusal(SASZVIGOM_BUFFER_TOO_SHORT, SASZVIGOM_BUFFER_ANSWERS);
@@ -552,6 +599,21 @@ static void read_only_sessions(void)
     check_number("refused pick, read only", saszvigom_pick(4, 0, 1, 1, SESSION), 7);
     check_number("refused undo, read only", saszvigom_undo(4, 0, SESSION), 11);
     check_number("row, read only", saszvigom_row(4, 0, 0, SESSION, partners, 4), 0x400);
+
+    protect(page[ADJACENCY], true);
+    page[ADJACENCY][3 * 4 + 2] = 0;
+    protect(page[ADJACENCY], false);
+    check_number("faulty table in a list, read only",
+                 saszvigom_replay(4, 0, SESSION, refused, 9, answers, 3), 0x303020003);
+    check_number("faulty table, pick, read only", saszvigom_pick(4, 0, 0, 1, SESSION), 0x303020003);
+    check_number("faulty table, automatic, read only", saszvigom_automatic(4, 0, SESSION),
+                 0x303020003);
+    check_number("faulty table, undo, read only", saszvigom_undo(4, 0, SESSION), 0x303020003);
+    check_number("faulty table, row, read only", saszvigom_row(4, 0, 0, SESSION, page[LENT - 1], 4),
+                 0x303020003);
+    protect(page[ADJACENCY], true);
+    page[ADJACENCY][3 * 4 + 2] = 1;
+    protect(page[ADJACENCY], false);
 
     protect(answers, true);
     check_number("refused calls, read only",
@@ -695,6 +757,7 @@ int main(void)
     large_numbers();
     short_buffers();
     faulty_graphs();
+    faulty();
     faulty_sequences();
     faulty_inverses();
     inverses_of_others();

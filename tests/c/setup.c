@@ -116,6 +116,77 @@ void expect_refusal(unsigned cause, uint64_t place)
     expect_nothing_written(cause | place << 16);
 }
 
+void expect_fault(size_t i, size_t j, enum saszvigom_fault fault)
+{
+    expect_refusal(SASZVIGOM_ADJACENCY_FAULT, i | j << 8 | (uint64_t)fault << 16);
+}
+
+#define VALUE SASZVIGOM_FAULT_VALUE
+#define DIAGONAL SASZVIGOM_FAULT_DIAGONAL
+#define MIRROR SASZVIGOM_FAULT_MIRROR
+
+const struct faulty faulty_tables[34] = {
+    {"1 in the first cell", 1, 1, {{0, 0, 1}}, 0, 0, DIAGONAL},
+    {"2 in the first cell", 1, 1, {{0, 0, 2}}, 0, 0, VALUE},
+    {"255 in the first cell", 1, 1, {{0, 0, 255}}, 0, 0, VALUE},
+    {"1 in the last cell", 1, 1, {{-1, -1, 1}}, -1, -1, DIAGONAL},
+    {"2 in the last cell", 1, 1, {{-1, -1, 2}}, -1, -1, VALUE},
+    {"255 in the last cell", 1, 1, {{-1, -1, 255}}, -1, -1, VALUE},
+    {"1 on the diagonal", 2, 1, {{1, 1, 1}}, 1, 1, DIAGONAL},
+    {"2 on the diagonal", 2, 1, {{1, 1, 2}}, 1, 1, VALUE},
+    {"255 on the diagonal", 2, 1, {{-2, -2, 255}}, -2, -2, VALUE},
+
+    {"0 at the end of row 0", 2, 1, {{0, -1, 0}}, 0, -1, MIRROR},
+    {"2 at the end of row 0", 2, 1, {{0, -1, 2}}, 0, -1, VALUE},
+    {"255 at the end of row 0", 2, 1, {{0, -1, 255}}, 0, -1, VALUE},
+    {"2 at the end of row 0 and of column 0", 2, 2, {{0, -1, 2}, {-1, 0, 2}}, 0, -1, VALUE},
+    {"255 at the end of row 0, 2 of column 0", 2, 2, {{0, -1, 255}, {-1, 0, 2}}, 0, -1, VALUE},
+    {"0 at the end of row 0, 2 of column 0", 2, 2, {{0, -1, 0}, {-1, 0, 2}}, 0, -1, MIRROR},
+    {"0 at the end of column 0", 2, 1, {{-1, 0, 0}}, 0, -1, MIRROR},
+    {"2 at the end of column 0", 2, 1, {{-1, 0, 2}}, 0, -1, MIRROR},
+    {"255 at the end of column 0", 2, 1, {{-1, 0, 255}}, 0, -1, MIRROR},
+
+    {"0 after the first cell", 2, 1, {{0, 1, 0}}, 0, 1, MIRROR},
+    {"2 after the first cell", 2, 1, {{0, 1, 2}}, 0, 1, VALUE},
+    {"0 below the first cell", 2, 1, {{1, 0, 0}}, 0, 1, MIRROR},
+    {"2 below the first cell", 2, 1, {{1, 0, 2}}, 0, 1, MIRROR},
+    {"0 above the last cell", 2, 1, {{-2, -1, 0}}, -2, -1, MIRROR},
+    {"255 above the last cell", 2, 1, {{-2, -1, 255}}, -2, -1, VALUE},
+    {"2 above and before the last cell", 2, 2, {{-2, -1, 2}, {-1, -2, 2}}, -2, -1, VALUE},
+    {"0 before the last cell", 2, 1, {{-1, -2, 0}}, -2, -1, MIRROR},
+    {"255 before the last cell", 2, 1, {{-1, -2, 255}}, -2, -1, MIRROR},
+
+    {"two cells of row 0", 2, 2, {{0, -1, 2}, {0, 0, 1}}, 0, 0, DIAGONAL},
+    {"row 0 before row 1", 2, 2, {{1, 1, 2}, {0, -1, 0}}, 0, -1, MIRROR},
+    {"mirror in row 0 before row 1", 2, 2, {{1, 1, 1}, {-1, 0, 2}}, 0, -1, MIRROR},
+    {"mirror before the last row", 2, 2, {{-1, -1, 1}, {-1, -2, 2}}, -2, -1, MIRROR},
+    {"first cell of three", 3, 3, {{-1, -1, 255}, {1, 2, 2}, {1, 1, 1}}, 1, 1, DIAGONAL},
+    {"first row of three", 3, 3, {{2, 2, 1}, {1, 1, 2}, {0, 2, 0}}, 0, 2, MIRROR},
+    {"first mirror of three", 3, 3, {{1, 1, 2}, {2, 1, 255}, {2, 0, 2}}, 0, 2, MIRROR},
+};
+
+/* Returns a row or column that may count back from n. */
+static size_t from_first(int position)
+{
+    return position < 0 ? (size_t)call.n - (size_t)-position : (size_t)position;
+}
+
+void set_faulty(const struct faulty *table)
+{
+    for (size_t k = 0; k < table->count; k++)
+        set_cell(from_first(table->cells[k].i), from_first(table->cells[k].j),
+                 table->cells[k].value);
+    expect_fault(from_first(table->i), from_first(table->j), table->fault);
+}
+
+void set_back(const struct faulty *table)
+{
+    for (size_t k = 0; k < table->count; k++) {
+        const size_t i = from_first(table->cells[k].i), j = from_first(table->cells[k].j);
+        set_cell(i, j, i != j);
+    }
+}
+
 const uint16_t draws_of_0[6] = {15471, 18257, 53709, 43770, 25171, 40751};
 
 void expect_graph(size_t n, const uint16_t *weights, size_t count)

@@ -5,6 +5,7 @@
 #define SETUP_H
 
 #include "compare.h"
+#include "saszvigom_text.h"
 
 #define COUNT(array) (sizeof(array) / sizeof(array)[0])
 
@@ -45,6 +46,35 @@ void expect_nothing_written(uint64_t number);
 
 /* Expects a refusal. */
 void expect_refusal(unsigned cause, uint64_t place);
+
+/* Expects a refusal at an adjacency byte. */
+void expect_fault(size_t i, size_t j, enum saszvigom_fault fault);
+
+/* A table at fault, for graphs of `least` vertices or more: up to three cells in
+   which it differs from that of a graph with all edges, and the cell and the
+   fault with which it is refused. A negative row or column counts back from n:
+   -1 is the last. */
+struct faulty {
+    const char *what;
+    size_t least, count;
+    struct {
+        int i, j;
+        uint8_t value;
+    } cells[3];
+    int i, j;
+    enum saszvigom_fault fault;
+};
+
+/* Every fault in the corners, on and next to the diagonal and below it, several
+   faults of one cell, and several cells at fault. */
+extern const struct faulty faulty_tables[34];
+
+/* Sets the cells of a table at fault in a graph with all edges, and expects its
+   refusal. */
+void set_faulty(const struct faulty *table);
+
+/* Sets these cells back. */
+void set_back(const struct faulty *table);
 
 /* The first draws of seed 0. */
 extern const uint16_t draws_of_0[6];

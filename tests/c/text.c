@@ -193,43 +193,64 @@ static void indices(void)
         check("large index", no_vertices(96, 4560 + large[k] % 4294967296u));
         check("large vertex", no_index(4, 1, large[k]));
         check("large vertex first", no_index(4, large[k], 1));
-        check("row of too many", saszvigom_fault_row(0x50003, large[k]) == 0);
-        check("column of too many", saszvigom_fault_column(0x50003, large[k]) == 0);
     }
 }
 
-/* Return the number of a fault in the present layout, and in the announced
-   one. */
-static uint64_t fault_now(unsigned n, unsigned i, unsigned j)
-{
-    return 3 | (uint64_t)(i * n + j) << 16;
-}
-
-static uint64_t fault_later(unsigned i, unsigned j, unsigned fault)
+/* Returns the number of a refusal at row i and column j. */
+static uint64_t fault_at(unsigned i, unsigned j, unsigned fault)
 {
     return 3 | i << 16 | (uint64_t)j << 24 | (uint64_t)fault << 32;
 }
 
-static void places_of_faults(void)
+/* Checks that row, column and fault are those of the number, for every n and
+   every table: n may be none or too many, and the table none, short, in order, or
+   at fault in another cell. */
+static void check_cell(uint64_t number, unsigned i, unsigned j, enum saszvigom_fault fault)
 {
-    for (unsigned n = 1; n <= SASZVIGOM_MAX_VERTICES; n++) {
-        bool same = true;
-        for (unsigned i = 0; i < n; i++)
-            for (unsigned j = 0; j < n; j++) {
-                const uint64_t now = fault_now(n, i, j), later = fault_later(i, j, 1 + (i + j) % 3);
-                same = same && saszvigom_fault_row(now, n) == i &&
-                       saszvigom_fault_column(now, n) == j && saszvigom_fault_row(later, n) == i &&
-                       saszvigom_fault_column(later, n) == j;
-            }
-        check("row and column", same);
+    static const uint8_t good[9] = {0, 1, 0, 1, 0, 1, 0, 1, 0},
+                         other[9] = {1, 9, 0, 1, 255, 0, 1, 1, 2};
+    const uint64_t sizes[] = {0, 1, 3, 96, 97, 255, 256, 4294967296u + 3, UINT64_MAX};
+    bool same = saszvigom_cause_of(number) == SASZVIGOM_ADJACENCY_FAULT;
+    for (size_t k = 0; k < COUNT(sizes); k++) {
+        const uint64_t n = sizes[k];
+        same = same && saszvigom_fault_row(number, n) == i &&
+               saszvigom_fault_column(number, n) == j &&
+               saszvigom_fault_of(number, n, NULL, 0) == fault &&
+               saszvigom_fault_of(number, n, NULL, SIZE_MAX) == fault &&
+               saszvigom_fault_of(number, n, good, 0) == fault &&
+               saszvigom_fault_of(number, n, good, 8) == fault &&
+               saszvigom_fault_of(number, n, good, 9) == fault &&
+               saszvigom_fault_of(number, n, other, 8) == fault &&
+               saszvigom_fault_of(number, n, other, 9) == fault;
     }
-    check("row by its own bits", saszvigom_fault_row(0x7FFFFF0000090003, 4) == 2);
-    check("column by its own bits", saszvigom_fault_column(0x7FFFFF0000090003, 4) == 1);
-    check("row of no vertices", saszvigom_fault_row(0x90003, 0) == 0);
-    check("column of no vertices", saszvigom_fault_column(0x90003, 0) == 0);
+    check("the cell of a number", same);
 }
 
-/* Checks the place at which opening refuses a table of three vertices, and the
+/* Every row, column and fault that a number has room for, by its own bits, and the
+   place that they make up. */
+static void cells(void)
+{
+    const uint64_t rest = 0xFFFFFF0000000000; /* bits 40 to 63 make no difference */
+    for (unsigned i = 0; i < 256; i++)
+        for (unsigned k = 0; k < 256; k += 17) {
+            check_cell(fault_at(i, k, 1 + k % 3), i, k, (enum saszvigom_fault)(1 + k % 3));
+            check_cell(fault_at(k, i, 3) | rest, k, i, SASZVIGOM_FAULT_MIRROR);
+            check_cell(fault_at(k, 255 - k, i), k, 255 - k, (enum saszvigom_fault)i);
+        }
+    for (unsigned i = 0; i < SASZVIGOM_MAX_VERTICES; i++)
+        for (unsigned j = i; j < SASZVIGOM_MAX_VERTICES; j++)
+            for (unsigned fault = 1; fault <= 3; fault++) {
+                const uint64_t number = fault_at(i, j, fault);
+                if (saszvigom_place_of(number) != i + 256 * j + 65536 * fault ||
+                    saszvigom_line_of(number) != i + 256 * j + 65536 * fault)
+                    fail("the place of a cell");
+            }
+    check_number("2, 3 and fault 3", fault_at(2, 3, SASZVIGOM_FAULT_MIRROR), 0x303020003);
+    check_number("the last cell and fault 2", fault_at(95, 95, SASZVIGOM_FAULT_DIAGONAL),
+                 0x25F5F0003);
+}
+
+/* Checks the cell at which opening refuses a table of three vertices, and the
    fault. */
 static void check_fault(const char *what, const uint8_t table[9], unsigned i, unsigned j,
                         enum saszvigom_fault fault)
@@ -238,20 +259,18 @@ static void check_fault(const char *what, const uint8_t table[9], unsigned i, un
     uint8_t inverse[18], sequence[3], witness[6], work[18];
     const uint64_t number = saszvigom_open(3, table, 9, weights, 6, inverse, 18, sequence, 3,
                                            witness, 6, work, 18);
-    check(what, saszvigom_cause_of(number) == SASZVIGOM_ADJACENCY_FAULT &&
-                    saszvigom_fault_row(number, 3) == i && saszvigom_fault_column(number, 3) == j);
+    check_number(what, number, fault_at(i, j, fault));
     check(what, saszvigom_fault_of(number, 3, table, 9) == fault);
-    check("a short table", saszvigom_fault_of(number, 3, table, 8) == SASZVIGOM_NO_FAULT);
-    check("no table", saszvigom_fault_of(number, 3, NULL, 9) == SASZVIGOM_NO_FAULT);
-    check("the fault in the number",
-          saszvigom_fault_of(fault_later(i, j, fault), 3, NULL, 0) == fault);
+    check("a short table", saszvigom_fault_of(number, 3, table, 8) == fault);
+    check_cell(number, i, j, fault);
 }
 
 static void faults(void)
 {
-    const uint8_t good[9] = {0, 1, 0, 1, 0, 1, 0, 1, 0};
-    const uint64_t none[] = {0, 0x100, 0x102000300, 0x10002, 0x10004, 0x100000004, UINT64_MAX};
-    places_of_faults();
+    const uint8_t good[9] = {0, 1, 0, 1, 0, 1, 0, 1, 0}, bad[9] = {9, 9, 9, 9, 9, 9, 9, 9, 9};
+    const uint64_t none[] = {0,           0x100,       0x102000300, 0x10002,   0x10004,
+                             0x100000004, 0x102010005, 0x2020200FF, UINT64_MAX};
+    cells();
     check_fault("2 above the diagonal", (const uint8_t[9]){0, 1, 2, 1, 0, 1, 0, 1, 0}, 0, 2,
                 SASZVIGOM_FAULT_VALUE);
     check_fault("2 on both sides", (const uint8_t[9]){0, 2, 0, 2, 0, 1, 0, 1, 0}, 0, 1,
@@ -265,16 +284,13 @@ static void faults(void)
     check_fault("2 below the diagonal", (const uint8_t[9]){0, 1, 0, 1, 0, 1, 0, 2, 0}, 1, 2,
                 SASZVIGOM_FAULT_MIRROR);
 
-    for (size_t k = 0; k < COUNT(none); k++)
+    for (size_t k = 0; k < COUNT(none); k++) {
         check("no fault", saszvigom_fault_of(none[k], 3, good, 9) == SASZVIGOM_NO_FAULT);
+        check("no fault", saszvigom_fault_of(none[k], 3, bad, 9) == SASZVIGOM_NO_FAULT);
+    }
     for (unsigned place = 0; place < 65536; place += 5)
-        if (saszvigom_fault_of(3 | (uint64_t)place << 16, 3, good, 9) != SASZVIGOM_NO_FAULT)
-            fail("the fault of a table that is in order");
-    check("a fault of no vertices", saszvigom_fault_of(3, 0, good, 9) == SASZVIGOM_NO_FAULT);
-    check("a fault of too many", saszvigom_fault_of(3, 97, good, 9) == SASZVIGOM_NO_FAULT);
-    check("far too many", saszvigom_fault_of(3, UINT64_MAX, good, 9) == SASZVIGOM_NO_FAULT);
-    check("an unknown fault",
-          saszvigom_fault_of(0xFF00000003, 3, good, 9) == (enum saszvigom_fault)255);
+        if (saszvigom_fault_of(3 | (uint64_t)place << 16, 3, bad, 9) != SASZVIGOM_NO_FAULT)
+            fail("a cell without a fault");
 }
 
 #define CALL SASZVIGOM_FROM_CALL
@@ -306,25 +322,32 @@ static const struct {
     {0x70002, 4, CALL, "refused: the row buffer is too short (cause 2 at 7)"},
     {0x90002, 4, CALL, "refused: the unknown buffer is too short (cause 2 at 9)"},
     {0xA0002, 4, LIST, "refused: the answers buffer is too short (cause 2 at 10)"},
-    {0x23FF0003, 96, CALL,
-     "refused: the adjacency byte of row 95 and column 95 is not 0 (cause 3)"},
-    {0x60003, 4, CALL,
-     "refused: the adjacency byte of row 1 and column 2 is not 0 or 1, or differs from that of "
-     "row 2 and column 1 (cause 3)"},
-    {0x102010003, 4, CALL,
-     "refused: the adjacency byte of row 1 and column 2 is not 0 or 1 (cause 3)"},
-    {0x15F5F0003, 96, CALL,
-     "refused: the adjacency byte of row 95 and column 95 is not 0 or 1 (cause 3)"},
-    {0x202020003, 4, CALL, "refused: the adjacency byte of row 2 and column 2 is not 0 (cause 3)"},
-    {0x302010003, 4, CALL,
-     "refused: the adjacency byte of row 1 and column 2 differs from that of row 2 and column 1 "
+    {0x101000003, 4, CALL, "refused: row 0, column 1: the adjacency byte is not 0 or 1 (cause 3)"},
+    {0x15F5F0003, 96, LIST,
+     "refused: row 95, column 95: the adjacency byte is not 0 or 1 (cause 3)"},
+    {0x202020003, 4, CALL,
+     "refused: row 2, column 2: the adjacency byte is not 0 on the diagonal (cause 3)"},
+    {0x25F5F0003, 96, CALL,
+     "refused: row 95, column 95: the adjacency byte is not 0 on the diagonal (cause 3)"},
+    {0x337200003, 96, CALL,
+     "refused: row 32, column 55: the adjacency byte differs from that of row 55, column 32 "
      "(cause 3)"},
+    {0x303020003, 4, CALL,
+     "refused: row 2, column 3: the adjacency byte differs from that of row 3, column 2 (cause 3)"},
     {0x402010003, 4, CALL,
-     "refused: the adjacency byte of row 1 and column 2 has an unknown fault (cause 3)"},
-    {0x304010003, 4, CALL,
-     "refused: an adjacency byte is not 0 or 1, is not 0 on the diagonal, or differs from its "
-     "mirror image (cause 3)"},
-    {0x100003, 4, CALL,
+     "refused: row 1, column 2: the adjacency byte has an unknown fault (cause 3)"},
+    {0xFF02010003, 4, CALL,
+     "refused: row 1, column 2: the adjacency byte has an unknown fault (cause 3)"},
+    {0x303020003, 0, CALL,
+     "refused: row 2, column 3: the adjacency byte differs from that of row 3, column 2 (cause 3)"},
+    {0x303020003, 2, CALL,
+     "refused: row 2, column 3: the adjacency byte differs from that of row 3, column 2 (cause 3)"},
+    {0x303020003, UINT64_MAX, CALL,
+     "refused: row 2, column 3: the adjacency byte differs from that of row 3, column 2 (cause 3)"},
+    {0x3FFFF0003, 96, CALL,
+     "refused: row 255, column 255: the adjacency byte differs from that of row 255, column 255 "
+     "(cause 3)"},
+    {0x3020003, 4, CALL,
      "refused: an adjacency byte is not 0 or 1, is not 0 on the diagonal, or differs from its "
      "mirror image (cause 3)"},
     {0x000003, 0, CALL,
@@ -539,65 +562,74 @@ static void weights_at_fault(void)
 }
 
 /* Sets a byte of a graph that is in order, and the byte across the diagonal.
-   Opening must be refused at row i and column j, and the line must go on with the
-   text `with`; so must the line of a number of the announced layout. If the graph
-   does not show the fault, the latter goes on with the text `alone`. */
+   Opening must be refused at row i and column j with this fault, and the line must
+   go on with the text `with`; if the graph does not show the fault, it goes on
+   with the text `alone`. */
 static void check_byte(const struct lent *lent, unsigned i, unsigned j, uint8_t byte,
-                       uint8_t across, const char *with, enum saszvigom_fault fault,
+                       uint8_t across, enum saszvigom_fault fault, const char *with,
                        const char *alone)
 {
     const size_t n = lent->n;
-    const uint64_t later = fault_later(i, j, fault);
     char expected[SASZVIGOM_LINE_BYTES];
     lent->adjacency[j * n + i] = across;
     lent->adjacency[i * n + j] = byte;
     const uint64_t number = opened(lent);
-    check_number("the byte at fault", number, fault_now((unsigned)n, i, j));
+    check_number("the byte at fault", number, fault_at(i, j, fault));
     (void)snprintf(expected, sizeof expected,
-                   "refused: the adjacency byte of row %u and column %u %s (cause 3)", i, j, with);
+                   "refused: row %u, column %u: the adjacency byte %s (cause 3)", i, j, with);
     check_text("a byte", line_with(lent, number), expected);
-    check_text("a byte of the announced layout", line_with(lent, later), expected);
     check_without(lent, number);
-    check_without(lent, later);
 
     /* The byte is in order by now, or has another fault by now. */
     (void)snprintf(expected, sizeof expected,
-                   "refused: the adjacency byte of row %u and column %u %s (cause 3)", i, j, alone);
+                   "refused: row %u, column %u: the adjacency byte %s (cause 3)", i, j, alone);
     lent->adjacency[i * n + j] = lent->adjacency[j * n + i] = i != j;
-    check_text("a byte in order since", line_with(lent, later), expected);
-    char today[SASZVIGOM_LINE_BYTES];
-    saszvigom_explain(today, sizeof today, number, n, CALL);
-    check_text("a byte of today in order since", line_with(lent, number), today);
+    check_text("a byte in order since", line_with(lent, number), expected);
     lent->adjacency[i * n + j] = fault == SASZVIGOM_FAULT_VALUE ? i == j : 9;
-    check_text("another fault since", line_with(lent, later), expected);
+    check_text("another fault since", line_with(lent, number), expected);
     lent->adjacency[i * n + j] = i != j;
 }
 
+/* Every fault at row i and column j, and at row j and column i. */
+static void check_bytes(const struct lent *lent, unsigned i, unsigned j)
+{
+    char differs[80], zero[80], one[80], damaged[80];
+    const char *const text = "is %u, and that of row %u, column %u is %u";
+    if (i == j) {
+        check_byte(lent, i, i, 1, 1, SASZVIGOM_FAULT_DIAGONAL, "is 1, not 0 on the diagonal",
+                   "is not 0 on the diagonal");
+        check_byte(lent, i, i, 7, 7, SASZVIGOM_FAULT_VALUE, "is 7, not 0 or 1", "is not 0 or 1");
+        check_byte(lent, i, i, 255, 255, SASZVIGOM_FAULT_VALUE, "is 255, not 0 or 1",
+                   "is not 0 or 1");
+        return;
+    }
+    (void)snprintf(differs, sizeof differs, "differs from that of row %u, column %u", j, i);
+    (void)snprintf(zero, sizeof zero, text, 0u, j, i, 1u);
+    (void)snprintf(one, sizeof one, text, 1u, j, i, 0u);
+    (void)snprintf(damaged, sizeof damaged, text, 1u, j, i, 255u);
+    check_byte(lent, i, j, 0, 1, SASZVIGOM_FAULT_MIRROR, zero, differs);
+    check_byte(lent, i, j, 1, 0, SASZVIGOM_FAULT_MIRROR, one, differs);
+    check_byte(lent, i, j, 1, 255, SASZVIGOM_FAULT_MIRROR, damaged, differs);
+    check_byte(lent, i, j, 2, 2, SASZVIGOM_FAULT_VALUE, "is 2, not 0 or 1", "is not 0 or 1");
+    check_byte(lent, i, j, 255, 1, SASZVIGOM_FAULT_VALUE, "is 255, not 0 or 1", "is not 0 or 1");
+}
+
+/* Every cell of four vertices on the diagonal and above it, and of 96 the corners,
+   the last ones, and the one of row 32 and column 55. */
 static void bytes_at_fault(void)
 {
-    const size_t sizes[] = {4, 96};
+    const size_t sizes[] = {1, 2, 4, 96};
     for (size_t k = 0; k < COUNT(sizes); k++) {
         const struct lent lent = lend(sizes[k]);
         const unsigned n = (unsigned)lent.n;
-        for (unsigned i = n - 3; i < n; i++) {
-            check_byte(&lent, i, i, 1, 1, "is not 0", SASZVIGOM_FAULT_DIAGONAL, "is not 0");
-            check_byte(&lent, i, i, 7, 7, "is 7, not 0", SASZVIGOM_FAULT_VALUE, "is not 0 or 1");
-            for (unsigned j = i + 1; j < n; j++) {
-                char differs[80], zero[80], one[80], damaged[80];
-                const char *const text = "is %u, and that of row %u and column %u is %u";
-                (void)snprintf(differs, sizeof differs, "differs from that of row %u and column %u",
-                               j, i);
-                (void)snprintf(zero, sizeof zero, text, 0u, j, i, 1u);
-                (void)snprintf(one, sizeof one, text, 1u, j, i, 0u);
-                (void)snprintf(damaged, sizeof damaged, text, 1u, j, i, 255u);
-                check_byte(&lent, i, j, 0, 1, zero, SASZVIGOM_FAULT_MIRROR, differs);
-                check_byte(&lent, i, j, 1, 0, one, SASZVIGOM_FAULT_MIRROR, differs);
-                check_byte(&lent, i, j, 1, 255, damaged, SASZVIGOM_FAULT_MIRROR, differs);
-                check_byte(&lent, i, j, 2, 2, "is 2, not 0 or 1", SASZVIGOM_FAULT_VALUE,
-                           "is not 0 or 1");
-                check_byte(&lent, i, j, 255, 1, "is 255, not 0 or 1", SASZVIGOM_FAULT_VALUE,
-                           "is not 0 or 1");
-            }
+        for (unsigned i = n < 4 ? 0 : n - 4; i < n; i++)
+            for (unsigned j = i; j < n; j++)
+                check_bytes(&lent, i, j);
+        if (n == 96) {
+            check_bytes(&lent, 0, 0);
+            check_bytes(&lent, 0, 1);
+            check_bytes(&lent, 0, 95);
+            check_bytes(&lent, 32, 55);
         }
         give_back(&lent);
     }
@@ -625,7 +657,7 @@ static void others_with_graph(void)
 static void any_graph(void)
 {
     uint64_t state = 7;
-    size_t longest = 0;
+    size_t longest = 0, shown = 0;
     for (unsigned k = 0; k < 20000; k++) {
         state = state * 6364136223846793005u + 1442695040888963407u;
         const unsigned random = (unsigned)(state >> 40);
@@ -641,14 +673,19 @@ static void any_graph(void)
             lent.adjacency[at] = (uint8_t)(random >> at % 16) & (k % 5 ? 3 : 255);
         for (size_t at = 0; at < lent.weights_len; at++)
             lent.weights[at] = (uint8_t)(random >> at % 16) & (k % 5 ? 0 : 255);
-        const uint64_t place = k % 4 == 0 ? state >> 30 & 0xFFFFFFFF
-                                          : (state >> 30 & 0xF) | (state >> 34 & 0xF) << 8;
+        const uint64_t cell = (state >> 30 & 0x7) | (state >> 33 & 0x7) << 8 |
+                              (state >> 36 & 0x3) << 16;
+        const uint64_t place = k % 4 < 2 ? state >> 30 & 0xFFFFFFFF
+                               : k % 2   ? cell
+                                         : state >> 30 & 0x1F;
         const uint64_t number = place << 16 | (k % 2 ? 3 : 4);
-        const size_t length = strlen(line_with(&lent, number));
-        longest = length > longest ? length : longest;
+        const char *const text = line_with(&lent, number);
+        longest = strlen(text) > longest ? strlen(text) : longest;
+        shown += strstr(text, ", not 0") != NULL || strstr(text, ", and that of") != NULL;
         give_back(&lent);
     }
-    check("the longest line with a graph", longest > 110 && longest < SASZVIGOM_LINE_BYTES);
+    check("the longest line with a graph", longest > 100 && longest < SASZVIGOM_LINE_BYTES);
+    check("lines that show a byte", shown > 100);
 }
 
 /* No number has a line that is longer than SASZVIGOM_LINE_BYTES allows. */
