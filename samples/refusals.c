@@ -44,6 +44,10 @@ static void of_the_graph(void)
 
     graph.adjacency[2 * 4 + 3] = 1; /* by hand; saszvigom_graph_set_edge sets both bytes */
     say("open with an edge in one direction", saszvigom_graph_open(&graph));
+    graph.adjacency[1 * 4 + 1] = 1; /* row 1 comes before row 2 */
+    say("and with an edge of 1 and itself", saszvigom_graph_open(&graph));
+    graph.adjacency[0 * 4 + 3] = 7;
+    say("and with a byte of 7", saszvigom_graph_open(&graph));
 
     saszvigom_graph_init(&graph, 4);
     say("open before weights are drawn", saszvigom_graph_open(&graph));
