@@ -317,8 +317,8 @@ static void faulty_graphs(void)
     }
 }
 
-/* Every table at fault, through every entry. A pair is made; only one vertex has
-   no session. With its table in order, the session is sound. */
+/* Every table at fault, through every entry. A pair is made, except with one
+   vertex, which has no session. With its table in order, the session is sound. */
 static void faulty(void)
 {
     const size_t sizes[] = {1, 2, 4, 96};
