@@ -1,5 +1,5 @@
 //! Why a call is refused, and at which place (document 01, "Causes, numbers,
-//! and what is untouched"; document 02, request 1).
+//! and what is untouched"; document 02, requests 1 and 2).
 
 /// The causes, by their numbers in the paper's table.
 #[derive(Clone, Copy, Debug, PartialEq, Eq, PartialOrd, Ord)]
@@ -10,7 +10,7 @@ pub enum Cause {
     /// A lent buffer is too short; the place is the buffer's number.
     BufferTooShort = 2,
     /// An adjacency cell is not 0 or 1, not 0 on the diagonal, or unequal to its
-    /// mirror.
+    /// mirror; the place is that cell.
     AdjacencyFault = 3,
     /// A weight is outside 1..65520.
     WeightOutOfRange = 4,
@@ -57,9 +57,59 @@ impl Cause {
         self.at(0)
     }
 
-    /// Refuses for this cause, at the given place.
-    pub fn at(self, place: u64) -> Refusal {
-        Refusal { cause: self, place }
+    /// Refuses for this cause, at the given index.
+    pub fn at(self, index: u64) -> Refusal {
+        Refusal {
+            cause: self,
+            place: Place::Index(index),
+        }
+    }
+}
+
+/// The faults of an adjacency cell, by their numbers: the order in which the
+/// paper's table names them.
+#[derive(Clone, Copy, Debug, PartialEq, Eq, PartialOrd, Ord)]
+#[repr(u8)]
+pub enum CellFault {
+    /// It is not 0 or 1.
+    NotZeroOrOne = 1,
+    /// It is on the diagonal, and not 0.
+    DiagonalNotZero = 2,
+    /// It is unequal to its mirror.
+    UnequalToMirror = 3,
+}
+
+impl CellFault {
+    /// Returns the number: 1, 2 or 3.
+    pub fn number(self) -> u8 {
+        self as u8
+    }
+}
+
+/// The place of a refusal.
+#[derive(Clone, Copy, Debug, PartialEq, Eq)]
+pub enum Place {
+    /// A buffer's number, an index, an offset or a line; 0 if the cause has none.
+    Index(u64),
+    /// A cell of the adjacency table, row and column counted from 0, and the first
+    /// fault that it has. Cause 3, and no other, has a cell.
+    Cell {
+        row: u64,
+        column: u64,
+        fault: CellFault,
+    },
+}
+
+impl Place {
+    /// Returns the place as one number. That of a cell has the row in bits 0 to 7,
+    /// the column in bits 8 to 15, and the fault in bits 16 to 23.
+    pub fn number(self) -> u64 {
+        match self {
+            Place::Index(index) => index,
+            Place::Cell { row, column, fault } => {
+                row | column << 8 | u64::from(fault.number()) << 16
+            }
+        }
     }
 }
 
@@ -67,13 +117,25 @@ impl Cause {
 #[derive(Clone, Copy, Debug, PartialEq, Eq)]
 pub struct Refusal {
     pub cause: Cause,
-    pub place: u64,
+    pub place: Place,
 }
 
 impl Refusal {
-    /// Returns the cause's number and the place.
+    /// Refuses an adjacency cell for its first fault: cause 3.
+    pub fn of_cell(row: usize, column: usize, fault: CellFault) -> Refusal {
+        Refusal {
+            cause: Cause::AdjacencyFault,
+            place: Place::Cell {
+                row: row as u64,
+                column: column as u64,
+                fault,
+            },
+        }
+    }
+
+    /// Returns the cause's number and the place's.
     pub fn numbers(self) -> (u8, u64) {
-        (self.cause.number(), self.place)
+        (self.cause.number(), self.place.number())
     }
 }
 

@@ -1,7 +1,8 @@
 //! The graph: size, adjacency table, weights and Tutte matrix (document 01,
-//! "Sheet, matrix, session"), and the causes 1 to 4.
+//! "Sheet, matrix, session"), and the causes 1 to 4 (document 02, request 2, for
+//! the cell of 3).
 
-use crate::causes::{buffer, Cause, Refusal};
+use crate::causes::{buffer, Cause, CellFault, Refusal};
 use crate::linear_algebra::Matrix;
 use crate::residue::Residue;
 
@@ -174,24 +175,32 @@ pub(crate) fn check_lengths(n: usize, lent: &[Lent]) -> Result<(), Refusal> {
     Ok(())
 }
 
-/// Refuses the first bad cell, row by row: cause 3.
+/// Refuses the first faulty cell, row by row: cause 3.
 fn check_adjacency(n: usize, adjacency: &[u8]) -> Result<(), Refusal> {
     for row in 0..n {
         for column in 0..n {
-            if bad_cell(n, adjacency, row, column) {
-                return Err(Cause::AdjacencyFault.at((row * n + column) as u64));
+            if let Some(fault) = cell_fault(n, adjacency, row, column) {
+                return Err(Refusal::of_cell(row, column, fault));
             }
         }
     }
     Ok(())
 }
 
-/// Tells whether a cell is not 0 or 1, is not 0 on the diagonal, or differs
-/// from its mirror.
-fn bad_cell(n: usize, adjacency: &[u8], row: usize, column: usize) -> bool {
+/// Finds the first fault of a cell, in the order of the paper's table: it is not 0
+/// or 1, it is not 0 on the diagonal, it is unequal to its mirror.
+fn cell_fault(n: usize, adjacency: &[u8], row: usize, column: usize) -> Option<CellFault> {
     let cell = adjacency[row * n + column];
     let mirror = adjacency[column * n + row];
-    cell > 1 || (row == column && cell != 0) || cell != mirror
+    if cell != 0 && cell != 1 {
+        Some(CellFault::NotZeroOrOne)
+    } else if row == column && cell != 0 {
+        Some(CellFault::DiagonalNotZero)
+    } else if cell != mirror {
+        Some(CellFault::UnequalToMirror)
+    } else {
+        None
+    }
 }
 
 /// Refuses the first weight outside 1..65520, with or without an edge: cause 4.

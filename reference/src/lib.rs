@@ -1,5 +1,5 @@
-//! The reference: document 01, and request 1 of document 02, in plain Rust, which
-//! shares nothing with the crates.
+//! The reference: document 01, and requests 1 and 2 of document 02, in plain Rust,
+//! which shares nothing with the crates.
 //!
 //! A graph of at most 96 vertices has an adjacency table and one weight for
 //! every two vertices. Its Tutte matrix modulo 65521 either has an inverse, and
@@ -39,7 +39,8 @@ pub mod records;
 /// Document 02, request 1: the reader of a graph in the DIMACS edge format.
 pub mod dimacs;
 
-/// "Causes, numbers, and what is untouched": why a call is refused, and where.
+/// "Causes, numbers, and what is untouched", and document 02, request 2: why a
+/// call is refused, and where.
 pub mod causes;
 
 /// "Listing": what the program prints.

@@ -50,7 +50,8 @@ fn number<T>(outcome: &Outcome<T>, kind: u64, value: impl Fn(&T) -> u64) -> u64 
 /// as this one.
 pub const LAST_PLACE: u64 = (1 << 47) - 1;
 
-/// Sets bits 0 to 7 to the cause, and 16 to 62 to the place.
+/// Sets bits 0 to 7 to the cause, and 16 to 62 to the place: for a cell, 16 to 23
+/// to its row, 24 to 31 to its column, and 32 to 39 to its fault.
 fn refusal_number(refusal: Refusal) -> u64 {
     let (cause, place) = refusal.numbers();
     u64::from(cause) | place.min(LAST_PLACE) << 16

@@ -47,46 +47,46 @@ fn adjacency_entry_not_0_or_1() {
     let mut buffers = Buffers::complete(3);
     buffers.adjacency[1] = 2;
     buffers.adjacency[3] = 2;
-    assert_eq!(buffers.opening_refused(3), (3, 1));
+    assert_eq!(buffers.opening_refused(3), cell(0, 1, 1));
 }
 
 #[test]
 fn adjacency_diagonal_not_0() {
     let mut buffers = Buffers::complete(3);
     buffers.adjacency[4] = 1;
-    assert_eq!(buffers.opening_refused(3), (3, 4));
+    assert_eq!(buffers.opening_refused(3), cell(1, 1, 2));
     buffers.adjacency[4] = 255;
-    assert_eq!(buffers.opening_refused(3), (3, 4));
+    assert_eq!(buffers.opening_refused(3), cell(1, 1, 1));
     buffers.adjacency[0] = 1;
-    assert_eq!(buffers.opening_refused(3), (3, 0));
+    assert_eq!(buffers.opening_refused(3), cell(0, 0, 2));
 }
 
 #[test]
 fn a_fault_below_the_diagonal_is_found_at_its_mirror() {
     let mut buffers = Buffers::new(3, &[]);
     buffers.adjacency[3] = 2;
-    assert_eq!(buffers.opening_refused(3), (3, 1));
+    assert_eq!(buffers.opening_refused(3), cell(0, 1, 3));
     let mut buffers = Buffers::complete(3);
     buffers.adjacency[7] = 0;
-    assert_eq!(buffers.opening_refused(3), (3, 5));
+    assert_eq!(buffers.opening_refused(3), cell(1, 2, 3));
 }
 
 #[test]
 fn the_first_adjacency_fault_row_by_row() {
     let mut buffers = Buffers::complete(4);
     buffers.adjacency[15] = 1;
-    assert_eq!(buffers.opening_refused(4), (3, 15));
+    assert_eq!(buffers.opening_refused(4), cell(3, 3, 2));
     buffers.adjacency[11] = 0;
-    assert_eq!(buffers.opening_refused(4), (3, 11));
+    assert_eq!(buffers.opening_refused(4), cell(2, 3, 3));
     buffers.adjacency[12] = 7;
-    assert_eq!(buffers.opening_refused(4), (3, 3));
+    assert_eq!(buffers.opening_refused(4), cell(0, 3, 3));
 }
 
 #[test]
 fn last_cell_of_the_largest_table() {
     let mut buffers = Buffers::complete(96);
     buffers.adjacency[9215] = 1;
-    assert_eq!(buffers.opening_refused(96), (3, 9215));
+    assert_eq!(buffers.opening_refused(96), cell(95, 95, 2));
 }
 
 #[test]
@@ -115,7 +115,7 @@ fn the_lowest_cause_is_returned() {
     buffers.weights[0] = 0;
     assert_eq!(buffers.opening_refused(4), (4, 0));
     buffers.adjacency[15] = 1;
-    assert_eq!(buffers.opening_refused(4), (3, 15));
+    assert_eq!(buffers.opening_refused(4), cell(3, 3, 2));
     buffers.work.truncate(15);
     assert_eq!(buffers.opening_refused(4), (2, 6));
     assert_eq!(buffers.opening_refused(97), (1, 0));

@@ -17,21 +17,17 @@ fn short_buffers(lengths: &[(u64, usize, usize)]) -> Vec<(u8, u64)> {
     places.map(|&(number, _, _)| (2, number)).collect()
 }
 
-/// Lists all faults of adjacency and weights.
+/// Lists all faults of adjacency and weights: those of the cells row by row, and
+/// those of one cell in the order of the paper's table.
 fn graph_faults(n: usize, buffers: &Buffers) -> Vec<(u8, u64)> {
     let mut faults = Vec::new();
     for i in 0..n {
         for j in 0..n {
-            let cell = buffers.adjacency[i * n + j];
+            let byte = buffers.adjacency[i * n + j];
             let mirror = buffers.adjacency[j * n + i];
-            let is_good = if i == j {
-                cell == 0
-            } else {
-                matches!((cell, mirror), (0, 0) | (1, 1))
-            };
-            if !is_good {
-                faults.push((3, (i * n + j) as u64));
-            }
+            let applies = [byte > 1, i == j && byte > 0, byte != mirror];
+            let of_cell = (1..).zip(applies).filter(|&(_, applies)| applies);
+            faults.extend(of_cell.map(|(fault, _)| cell(i, j, fault)));
         }
     }
     for (index, weight) in buffers.weights[..weight_count(n)].iter().enumerate() {
@@ -93,7 +89,7 @@ fn inverse_fits(graph: &Graph, buffers: &Buffers, unmatched: &[u64]) -> bool {
     true
 }
 
-/// Lists all causes that apply to a session call, each with its place.
+/// Lists all causes that apply to a session call, each with its places in order.
 fn causes(buffers: &Buffers, session: Session, call: Call) -> Vec<(u8, u64)> {
     if session.size > 96 {
         return vec![(1, 0)];
@@ -148,6 +144,11 @@ fn causes(buffers: &Buffers, session: Session, call: Call) -> Vec<(u8, u64)> {
         .map(|refusal| refusal.numbers())
         .into_iter()
         .collect()
+}
+
+/// Finds the lowest cause, with the first of its places.
+fn lowest(causes: Vec<(u8, u64)>) -> Option<(u8, u64)> {
+    causes.into_iter().min_by_key(|&(cause, _)| cause)
 }
 
 /// Makes a sound session on a random graph by random picks.
@@ -249,7 +250,7 @@ fn session_calls_answer_the_lowest_cause() {
         }
         for _ in 0..3 {
             let call = random_call(&mut random);
-            match causes(&buffers, now, call).into_iter().min() {
+            match lowest(causes(&buffers, now, call)) {
                 Some(expected) => {
                     assert_eq!(buffers.refused(now, call), expected, "{call:?} {now:?}");
                     counts[usize::from(expected.0)] += 1;
@@ -266,7 +267,7 @@ fn session_calls_answer_the_lowest_cause() {
     assert!(counts.iter().all(|&count| count > 100), "{counts:?}");
 }
 
-/// Lists all causes that apply to opening, each with its place.
+/// Lists all causes that apply to opening, each with its places in order.
 fn opening_causes(buffers: &Buffers, size: u64) -> Vec<(u8, u64)> {
     if size > 96 {
         return vec![(1, 0)];
@@ -302,7 +303,7 @@ fn openings_answer_the_lowest_cause() {
                 _ => {}
             }
         }
-        match opening_causes(&buffers, now.size).into_iter().min() {
+        match lowest(opening_causes(&buffers, now.size)) {
             Some(expected) => {
                 assert_eq!(buffers.opening_refused(now.size), expected);
                 counts[usize::from(expected.0)] += 1;

@@ -127,7 +127,8 @@ fn the_lowest_cause_is_returned() {
     buffers.weights[2] = 0;
     assert_eq!(refused_on(&mut buffers, now, &calls, 2), refusal(4, 2));
     buffers.adjacency[7] = 2;
-    assert_eq!(refused_on(&mut buffers, now, &calls, 2), refusal(3, 7));
+    let number = refused_on(&mut buffers, now, &calls, 2);
+    assert_eq!(number, 0x1_0301_0003);
     assert_eq!(refused_on(&mut buffers, now, &calls, 1), refusal(2, 10));
     buffers.sequence.truncate(3);
     assert_eq!(refused_on(&mut buffers, now, &calls, 1), refusal(2, 4));
@@ -302,7 +303,8 @@ fn causes(buffers: &Buffers, now: Session, calls: &[u64], room: usize) -> Vec<u6
         // Any call on the session has the causes 3 to 6; an undo has no others
         // but 10 and 11.
         let answer = buffers.clone().undo(now).answer;
-        causes.extend(answer.err().map(|r| refusal(r.cause as u64, r.place)));
+        let numbers = answer.err().map(|refusal| refusal.numbers());
+        causes.extend(numbers.map(|(cause, place)| refusal(cause.into(), place)));
         causes.retain(|&number| number & 0xFF <= 6);
     }
     let unknown = (0..whole).find(|&index| !(1..=3).contains(&calls[3 * index]));

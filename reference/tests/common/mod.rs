@@ -1,7 +1,7 @@
 //! Shared by the tests: a seeded generator, lent buffers, records.
 #![allow(dead_code)]
 
-use reference::causes::Refusal;
+use reference::causes::{Cause, Place, Refusal};
 use reference::graph::Graph;
 use reference::opening::{open, Opening};
 use reference::residue::Residue;
@@ -217,13 +217,13 @@ impl Buffers {
     }
 
     /// Calls, and checks that a refused call changes no buffer and hands the
-    /// session back. Returns the cause's number and the place.
+    /// session back. Returns the numbers of the cause and of the place.
     pub fn refused(&mut self, session: Session, call: Call) -> (u8, u64) {
         let before = self.clone();
         let outcome = self.call(session, call);
         assert_eq!(*self, before, "{call:?} wrote");
         assert_eq!(outcome.session, session, "{call:?} changed the session");
-        outcome.answer.expect_err("a refusal").numbers()
+        checked_numbers(outcome.answer.expect_err("a refusal"))
     }
 
     /// Opens, and checks that a refused opening changes no buffer.
@@ -231,8 +231,22 @@ impl Buffers {
         let before = self.clone();
         let answer = self.open(size);
         assert_eq!(*self, before, "opening wrote");
-        answer.expect_err("a refusal").numbers()
+        checked_numbers(answer.expect_err("a refusal"))
     }
+}
+
+/// Returns the numbers of a refusal. Checks that it has a cell exactly if its cause
+/// is 3.
+pub fn checked_numbers(refusal: Refusal) -> (u8, u64) {
+    let has_cell = matches!(refusal.place, Place::Cell { .. });
+    assert_eq!(has_cell, refusal.cause == Cause::AdjacencyFault);
+    refusal.numbers()
+}
+
+/// Returns the numbers of a refusal with cause 3: the row and the column of a cell,
+/// and its fault.
+pub fn cell(row: usize, column: usize, fault: u64) -> (u8, u64) {
+    (3, row as u64 + 256 * column as u64 + 65_536 * fault)
 }
 
 /// A call of a session.
