@@ -1,5 +1,7 @@
 //! A call of opening, and what it must write.
 
+use crate::cells;
+use crate::entry::{self, Written};
 use crate::graphs::{Graph, P};
 use crate::random::Random;
 use reference::opening::{self, Opening};
@@ -23,7 +25,7 @@ pub enum Outcome {
     Opened,
     /// The first dependent column.
     Singular(u64),
-    /// The cause and the place.
+    /// The cause and the place, which has row, column and fault for cause 3.
     Refused(u8, u64),
 }
 
@@ -81,6 +83,17 @@ impl Call {
         self.weights[2 * index..2 * index + 2].copy_from_slice(&weight.to_le_bytes());
     }
 
+    /// Makes the call through its C entry.
+    pub fn run(&mut self) -> u64 {
+        let written = Written {
+            inverse: &mut self.inverse,
+            sequence: &mut self.sequence,
+            witness: &mut self.witness,
+            work: &mut self.work,
+        };
+        entry::open(self.n, &self.adjacency, &self.weights, written)
+    }
+
     /// Returns the outcome by the reference, and checks its answer by the definition.
     pub fn certified(&self, name: &str) -> Outcome {
         let (outcome, after) = self.expected();
@@ -122,13 +135,17 @@ impl Call {
 
     /// Checks the answer of the reference by its definition: A times the inverse is
     /// the identity; A times the witness is 0, with 1 at the column and 0 after it;
-    /// all else that is written is 0, or 255; nothing else is written.
+    /// all else that is written is 0, or 255; nothing else is written. A faulty cell
+    /// is the first one, with its first fault.
     fn certify(&self, after: &Call, outcome: Outcome, name: &str) {
         match outcome {
             Outcome::Opened => self.certify_inverse(after, name),
             Outcome::Singular(column) => self.certify_witness(after, column as usize, name),
-            Outcome::Refused(..) => {
+            Outcome::Refused(cause, _) => {
                 assert_eq!(after, self, "{name} is refused and writes");
+                if cause == 3 {
+                    cells::certify(outcome.number(), self.n as usize, &self.adjacency, name);
+                }
                 return;
             }
         }

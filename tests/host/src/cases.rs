@@ -1,6 +1,7 @@
 //! The families of openings. Each yields the same cases every time.
 
-use crate::call::{Call, Outcome};
+use crate::call::{needed, Call, Outcome};
+use crate::cells::{self, SpoiledGraph};
 use crate::damage::{any_large_size, damage, KINDS};
 use crate::graphs::{self, Graph, SHAPES};
 use crate::matrices;
@@ -45,6 +46,10 @@ pub fn all() -> impl Iterator<Item = Case> {
         .chain(every_first_dependent_column())
         .chain(damaged_calls())
         .chain(every_single_fault())
+        .chain(faulty_cells())
+        .chain(small_tables())
+        .chain(cells_and_other_causes())
+        .chain(long_tables())
         .chain(every_length())
         .chain(sizes_above_96())
         .chain(repeated_calls())
@@ -268,6 +273,89 @@ fn every_weight(call: Call, n: usize) -> impl Iterator<Item = Case> {
         let mut call = call.clone();
         call.set_weight(index, weight);
         Case::new(format!("n = {n}, weight {index} is {weight}"), call)
+    })
+}
+
+/// Makes tables with faulty cells, of which the first is known.
+pub fn faulty_cells() -> impl Iterator<Item = Case> {
+    let mut random = Random::new(16);
+    cells::every_corner()
+        .chain(cells::every_byte())
+        .chain(cells::several_cells())
+        .flat_map(move |SpoiledGraph { graph, tables }| {
+            let whole = Call::new(&mut random, &graph, 40);
+            tables.into_iter().map(move |table| {
+                let mut call = whole.clone();
+                call.adjacency[..table.adjacency.len()].copy_from_slice(&table.adjacency);
+                Case::new(format!("n = {}, {}", call.n, table.name), call)
+                    .with_known(Outcome::Refused(3, table.cell.place()))
+            })
+        })
+}
+
+/// Makes every table of up to three vertices whose bytes are 0, 1 and 2.
+pub fn small_tables() -> impl Iterator<Item = Case> {
+    let mut random = Random::new(17);
+    cells::small_tables().map(move |(n, table)| {
+        let mut call = Call::new(&mut random, &Graph::empty(n), 1);
+        call.adjacency[..n * n].copy_from_slice(&table);
+        Case::new(format!("table {table:?}"), call)
+    })
+}
+
+/// Makes a faulty cell together with a size above 96 or a short buffer, which come
+/// before it, and with weights out of range, which come after it.
+pub fn cells_and_other_causes() -> impl Iterator<Item = Case> {
+    let mut random = Random::new(18);
+    with_each(0..12, [1, 2, 3, 6, 95, 96]).flat_map(move |(round, n)| {
+        let graph = graphs::any(&mut random, n);
+        let mut call = Call::new(&mut random, &graph, 3);
+        let cell = cells::spoil_any(&mut random, n, &mut call.adjacency);
+        let case = |what: &str, call: Call, cause: u8, place: u64| {
+            Case::new(format!("cell and {what}, round {round}, n = {n}"), call)
+                .with_known(Outcome::Refused(cause, place))
+        };
+        let mut cases = Vec::new();
+        for (number, needed) in (1..).zip(needed(n)) {
+            if needed > 0 {
+                let mut short = call.clone();
+                short.buffers_mut()[number - 1].truncate(needed - 1);
+                cases.push(case("short buffer", short, 2, number as u64));
+            }
+        }
+        let mut large = call.clone();
+        large.n = any_large_size(&mut random);
+        cases.push(case("size", large, 1, 0));
+        for weight in [0, 65521, 65535] {
+            let mut weights = call.clone();
+            for index in 0..n * (n - 1) / 2 {
+                weights.set_weight(index, weight);
+            }
+            cases.push(case("weights", weights, 3, cell.place()));
+        }
+        cases
+    })
+}
+
+/// Makes tables as long as the largest, with one byte in all of the excess: a table
+/// that is in order, and one with a fault in its last cell.
+pub fn long_tables() -> impl Iterator<Item = Case> {
+    let mut random = Random::new(19);
+    with_each([0, 1, 2, 3, 8, 40, 95].into_iter(), [0, 1, 2, 255]).flat_map(move |(n, byte)| {
+        let graph = graphs::any(&mut random, n);
+        let mut call = Call::new(&mut random, &graph, 0);
+        call.adjacency.resize(96 * 96, byte);
+        let name = format!("n = {n}, {byte} in the excess");
+        let mut cases = vec![Case::new(name.clone(), call.clone())];
+        if let Some(last) = n.checked_sub(1) {
+            for damage in &cells::ON_DIAGONAL {
+                let mut call = call.clone();
+                let cell = damage.spoil(n, &mut call.adjacency, (last, last), 2);
+                let known = Outcome::Refused(3, cell.place());
+                cases.push(Case::new(format!("{name}, last cell"), call).with_known(known));
+            }
+        }
+        cases
     })
 }
 

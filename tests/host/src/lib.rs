@@ -5,6 +5,8 @@
 
 pub mod call;
 pub mod cases;
+pub mod cell_sessions;
+pub mod cells;
 pub mod damage;
 pub mod entry;
 pub mod faults;

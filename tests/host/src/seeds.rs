@@ -1,5 +1,6 @@
 //! Session cases by seed, for a long run.
 
+use crate::cells::spoil_several;
 use crate::faults::{Fault, FAULTS};
 use crate::random::Random;
 use crate::requests::{self, ENTRIES};
@@ -38,6 +39,7 @@ pub fn of_seed(seed: u64) -> Vec<SessionCase> {
             spoil_often(random, &mut state);
             state
         }),
+        1100..=1199 => some(&mut random, &name, several_cells),
         _ => {
             let n = random.between(0, 12);
             run(&mut random, &name, n, 24)
@@ -60,6 +62,19 @@ fn spoiled_one_by_one(random: &mut Random, name: &str) -> Vec<SessionCase> {
         SessionCase::new(format!("{name}, {}", fault.name), state.with(request))
     };
     FAULTS.iter().map(spoiled).collect()
+}
+
+/// Makes a session with several faulty cells, half of the time with another fault.
+fn several_cells(random: &mut Random) -> State {
+    let n = random.between(2, 12);
+    let mut state = sound_session(random, n);
+    let n = state.n as usize;
+    spoil_several(random, n, &mut state.adjacency);
+    if random.percent(50) {
+        let index = random.below(FAULTS.len());
+        (FAULTS[index].spoil)(random, &mut state);
+    }
+    state
 }
 
 /// Makes some sessions with a request each.

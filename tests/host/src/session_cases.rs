@@ -1,6 +1,7 @@
 //! The families of session cases. Each yields the same cases every time. The
 //! reference says what is expected.
 
+use crate::cell_sessions::{self, CellCase};
 use crate::faults::{Fault, FAULTS};
 use crate::graphs::Graph;
 use crate::lists::{faulty_lists, lists, logs, long_lists, several_causes};
@@ -28,12 +29,22 @@ pub fn all() -> impl Iterator<Item = SessionCase> {
         .chain(every_high_bit())
         .chain(every_length())
         .chain(random_bytes())
+        .chain(faulty_cells().map(|faulty| faulty.case))
+        .chain(cell_sessions::small_tables())
         .chain(singular_graphs())
         .chain(logs())
         .chain(lists())
         .chain(faulty_lists())
         .chain(several_causes().map(|faulty| faulty.case))
         .chain(long_lists())
+}
+
+/// Makes faulty cells by themselves, and together with faults of other causes.
+pub fn faulty_cells() -> impl Iterator<Item = CellCase> {
+    cell_sessions::faulty_cells()
+        .chain(cell_sessions::long_tables())
+        .chain(cell_sessions::cells_and_other_faults())
+        .chain(cell_sessions::cells_and_faulty_requests())
 }
 
 /// Makes every graph of four vertices, every list of its disjoint edges as a

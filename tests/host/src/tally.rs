@@ -9,14 +9,18 @@ pub struct SessionTally {
     counts: [[usize; 14]; 6],
     /// Counts of cause 2, by its place.
     pub short: [usize; 11],
+    /// Counts of cause 3, by the cell's fault.
+    pub cells: [usize; 4],
 }
 
 impl SessionTally {
     pub fn count(&mut self, case: &SessionCase) {
         let (entry, cause) = (case.call.request.entry(), case.cause());
         self.counts[entry as usize][cause as usize] += 1;
-        if cause == 2 {
-            self.short[(case.number >> 16) as usize] += 1;
+        match cause {
+            2 => self.short[(case.number >> 16) as usize] += 1,
+            3 => self.cells[(case.number >> 32) as usize] += 1,
+            _ => {}
         }
     }
 
@@ -27,6 +31,9 @@ impl SessionTally {
             }
         }
         for (count, other) in self.short.iter_mut().zip(&other.short) {
+            *count += other;
+        }
+        for (count, other) in self.cells.iter_mut().zip(&other.cells) {
             *count += other;
         }
     }

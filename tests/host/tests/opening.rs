@@ -1,9 +1,13 @@
 //! The cases of opening, which tests/c/replay.c runs through the C entry, judged
 //! by themselves: the answers of the reference by their definition, and whether
-//! each outcome occurs often enough.
+//! each outcome occurs often enough. And calls through the C entry that no stream
+//! of cases has: every faulty cell of the largest tables.
 
-use host_tests::call::Outcome;
+use host_tests::call::{Call, Outcome};
 use host_tests::cases::{self, Case};
+use host_tests::cells::{above_one, damages, every_cell};
+use host_tests::graphs;
+use host_tests::random::Random;
 
 /// Checks every case of a family, and its outcome by the function given.
 fn check(
@@ -109,6 +113,7 @@ fn damaged_calls() {
     assert_eq!(tally.total(), 6000);
     assert!(tally.refused[1..].iter().all(|&count| count > 400));
     assert!(tally.short[1..].iter().all(|&count| count > 50));
+    assert!(tally.cells[1..].iter().all(|&count| count > 100));
 }
 
 #[test]
@@ -117,6 +122,54 @@ fn every_single_fault() {
     let tally = check("every single fault", family, any_outcome);
     assert_eq!(tally.total(), 805);
     assert!(tally.refused[3] > 200 && tally.refused[4] > 100);
+}
+
+#[test]
+fn faulty_cells() {
+    let tally = check("faulty cells", cases::faulty_cells(), known_outcome);
+    assert_eq!(tally.refused[3], tally.total());
+    assert!(tally.cells[1..].iter().all(|&count| count > 200));
+}
+
+/// Small tables: how many have which fault can be counted by hand, cell by cell.
+#[test]
+fn small_tables() {
+    let tally = check("small tables", cases::small_tables(), any_outcome);
+    assert_eq!(tally.cells, [0, 9425, 6707, 3624]);
+    assert_eq!(tally.total() - tally.refused[3], 1 + 2 + 8);
+}
+
+#[test]
+fn cells_and_other_causes() {
+    let family = cases::cells_and_other_causes();
+    let tally = check("cells and other causes", family, known_outcome);
+    assert!(tally.refused[1..=3].iter().all(|&count| count >= 72));
+    assert!(tally.short[1..].iter().all(|&count| count >= 60));
+}
+
+#[test]
+fn long_tables() {
+    let tally = check("long tables", cases::long_tables(), known_refusal);
+    assert_eq!((tally.total(), tally.refused[3]), (28 + 48, 48));
+}
+
+/// Every cell of the largest tables, spoiled in every way, through the C entry.
+#[test]
+fn every_cell_of_the_largest_tables() {
+    let mut random = Random::new(20);
+    for n in [95, 96] {
+        let graph = graphs::with_density(&mut random, n, 50);
+        let mut call = Call::new(&mut random, &graph, 3);
+        let before = call.clone();
+        for (i, j) in every_cell(n) {
+            for damage in damages((i, j)) {
+                let cell = damage.spoil(n, &mut call.adjacency, (i, j), above_one(&mut random));
+                assert_eq!(call.run(), cell.number(), "{cell:?}");
+                call.adjacency.copy_from_slice(&before.adjacency);
+            }
+            assert_eq!(call, before, "({i}, {j}) of {n} is refused and writes");
+        }
+    }
 }
 
 /// Every length: refused exactly if the buffer is short.
@@ -149,6 +202,8 @@ struct Tally {
     refused: [usize; 5],
     /// Counts of cause 2, by its place.
     short: [usize; 7],
+    /// Counts of cause 3, by the cell's fault.
+    cells: [usize; 4],
 }
 
 impl Tally {
@@ -158,8 +213,10 @@ impl Tally {
             Outcome::Singular(_) => self.singular += 1,
             Outcome::Refused(cause, place) => {
                 self.refused[usize::from(cause)] += 1;
-                if cause == 2 {
-                    self.short[place as usize] += 1;
+                match cause {
+                    2 => self.short[place as usize] += 1,
+                    3 => self.cells[(place >> 16) as usize] += 1,
+                    _ => {}
                 }
             }
         }

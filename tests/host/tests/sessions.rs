@@ -1,13 +1,17 @@
 //! The session cases, which tests/c/replay.c runs through the C entries, judged
-//! by themselves: whether each outcome occurs often enough. And calls through the
-//! C entries that no stream of cases has: lists beside the plain model and beside
-//! single calls, and lists too long for a stream.
+//! by themselves: faulty cells by their definition, and whether each outcome occurs
+//! often enough. And calls through the C entries that no stream of cases has: lists
+//! beside the plain model and beside single calls, lists too long for a stream, and
+//! every faulty cell of the largest tables.
 
+use host_tests::cell_sessions::{self, session_on, CellCase};
+use host_tests::cells::{self, above_one, damages, every_cell};
 use host_tests::lists::{self, FaultyList};
 use host_tests::random::Random;
+use host_tests::requests::{self, ENTRIES};
 use host_tests::session::{Request, SessionCase, State};
 use host_tests::tally::SessionTally;
-use host_tests::{runs, session_cases as cases};
+use host_tests::{graphs, runs, session_cases as cases};
 use reference::graph::Graph;
 use reference::model::Model;
 use reference::numbers::pair_number;
@@ -23,6 +27,11 @@ const REPLAY: usize = 5;
 fn check(name: &str, family: impl Iterator<Item = SessionCase>) -> SessionTally {
     let mut tally = SessionTally::default();
     for case in family {
+        if case.cause() == 3 {
+            let state = &case.call.state;
+            cells::certify(case.number, state.n as usize, &state.adjacency, &case.name);
+            assert_eq!(case.call, case.after, "{}", case.name);
+        }
         tally.count(&case);
     }
     tally.print(name);
@@ -116,6 +125,66 @@ fn spoiled_sessions() {
         assert!(tally.of_cause(cause) > 1000, "{cause}");
     }
     assert!(tally.short[1..=4].iter().all(|&count| count > 100));
+    assert!(tally.cells[1..].iter().all(|&count| count > 1000));
+}
+
+/// Checks that the cell is returned, or the cause that comes before it, and that
+/// nothing is written.
+fn check_cell(faulty: &CellCase) {
+    let CellCase { case, cell, cause } = faulty;
+    assert_eq!(case.cause(), *cause, "{}", case.name);
+    if *cause == 3 {
+        assert_eq!(case.number, cell.number(), "{}", case.name);
+    }
+    assert_eq!(case.call, case.after, "{}", case.name);
+}
+
+#[test]
+fn faulty_cells() {
+    let checked = cases::faulty_cells().map(|faulty| {
+        check_cell(&faulty);
+        faulty.case
+    });
+    let tally = check("faulty cells", checked);
+    for entry in [PICK, AUTOMATIC, UNDO, ROW, REPLAY] {
+        for cause in 1..=3 {
+            assert!(tally.of(entry, cause) >= 30, "{entry}: {cause}");
+        }
+    }
+    assert!(tally.short[7] == 400 && tally.short[10] == 200);
+    assert!(tally.cells[1..].iter().all(|&count| count > 1000));
+}
+
+/// Small tables: as many have which fault as for opening.
+#[test]
+fn small_tables() {
+    let tally = check("small tables", cell_sessions::small_tables());
+    assert_eq!(tally.cells, [0, 9425, 6707, 3624]);
+    assert_eq!(tally.total() - tally.of_cause(3), 1 + 2 + 8);
+}
+
+/// Every cell of the largest tables, spoiled in every way, through every entry.
+#[test]
+fn every_cell_of_the_largest_tables() {
+    let mut random = Random::new(2001);
+    for n in [95, 96] {
+        let graph = graphs::with_density(&mut random, n, 50);
+        let state = session_on(&mut random, &graph);
+        for entry in 0..ENTRIES {
+            let request = requests::of_entry(&mut random, &state, entry);
+            let mut call = state.with(request);
+            let before = call.clone();
+            for (i, j) in every_cell(n) {
+                for damage in damages((i, j)) {
+                    let above = above_one(&mut random);
+                    let cell = damage.spoil(n, &mut call.state.adjacency, (i, j), above);
+                    assert_eq!(call.run(), cell.number(), "{cell:?}");
+                    call.state.adjacency.copy_from_slice(&state.adjacency);
+                }
+                assert_eq!(call, before, "({i}, {j}) of {n} is refused and writes");
+            }
+        }
+    }
 }
 
 #[test]

@@ -1,6 +1,7 @@
 //! Faults of the size, of lengths, and of the graph.
 
 use super::places::{adjacent, choice, every_two, set_cells, set_weight, size, unmatched_two};
+use crate::cells::{self, damages, CellDamage};
 use crate::damage::any_large_size;
 use crate::random::Random;
 use crate::session::State;
@@ -25,31 +26,31 @@ pub fn short_buffer(random: &mut Random, state: &mut State) -> bool {
     true
 }
 
-pub fn adjacency_above_one(random: &mut Random, state: &mut State) -> bool {
+/// Spoils a cell, or its mirror, so that the cell has this fault.
+fn spoil_cell(random: &mut Random, state: &mut State, fault: u64) -> bool {
     let n = size(state);
-    if n == 0 {
+    let places: Vec<((usize, usize), &CellDamage)> = cells::every_cell(n)
+        .flat_map(|cell| damages(cell).iter().map(move |damage| (cell, damage)))
+        .filter(|(_, damage)| damage.fault == fault)
+        .collect();
+    let Some((cell, damage)) = choice(random, &places) else {
         return false;
-    }
-    state.adjacency[random.below(n * n)] = random.choose(&[2, 3, 128, 254, 255]);
+    };
+    let above = cells::above_one(random);
+    damage.spoil(n, &mut state.adjacency, cell, above);
     true
+}
+
+pub fn adjacency_above_one(random: &mut Random, state: &mut State) -> bool {
+    spoil_cell(random, state, cells::NOT_ZERO_OR_ONE)
 }
 
 pub fn adjacency_unlike_mirror(random: &mut Random, state: &mut State) -> bool {
-    let Some((i, j)) = choice(random, &every_two(size(state), |_, _| true)) else {
-        return false;
-    };
-    let cell = random.choose(&[i * size(state) + j, j * size(state) + i]);
-    state.adjacency[cell] ^= 1;
-    true
+    spoil_cell(random, state, cells::UNEQUAL_TO_MIRROR)
 }
 
 pub fn adjacent_to_itself(random: &mut Random, state: &mut State) -> bool {
-    let n = size(state);
-    if n == 0 {
-        return false;
-    }
-    state.adjacency[random.below(n) * (n + 1)] = 1;
-    true
+    spoil_cell(random, state, cells::NOT_ZERO_ON_DIAGONAL)
 }
 
 fn spoil_weight(random: &mut Random, state: &mut State, weight: u16) -> bool {
