@@ -7,7 +7,7 @@ ghost use mathlib.Core.Path.{_≡_};
 ghost use Prim.Native.Nat.{_*_, _≤_};
 ghost use lib.ListN.{length};
 ghost use Rattle.matching.specs.Decision.{judge};
-ghost use Rattle.matching.specs.Replay.{call-of, place-of, list-causes};
+ghost use Rattle.matching.specs.Replay.{call-of, short-index, list-causes};
 ghost use Rattle.refusals.specs.Meaning.{ruling-of, Finds};
 ghost use Rattle.calls.specs.Meaning.{call-is};
 ghost use Rattle.call_list.specs.List.{Unknown};
@@ -31,9 +31,9 @@ fn first_unknown(list: &[u64], count: usize) -> Finding
     Finding::Absent
 }
 
-// Returns the index i as a place of 16 bits: 65535 if it is greater.
-fn place(i: usize) -> usize
-    ensures { λ r. ⌜ r ≡ place-of i ⌝ }
+// Returns the index i in 16 bits: 65535 if it is greater.
+fn short_index(i: usize) -> usize
+    ensures { λ r. ⌜ r ≡ short-index i ⌝ }
 {
     if i < 65535 { i } else { 65535 }
 }
@@ -44,11 +44,11 @@ pub fn judge(list: &[u64]) -> Ruling
 {
     let count = list.len() / 3;
     if let Finding::At(i) = first_unknown(list, count) {
-        let at = place(i);
+        let at = short_index(i);
         return refusals::refuse(12, at);
     }
     if list.len() % 3 != 0 {
-        let at = place(count);
+        let at = short_index(count);
         return refusals::refuse(13, at);
     }
     Ruling::Accepted

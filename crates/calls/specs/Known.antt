@@ -25,7 +25,7 @@ use Rattle.laws.specs.OpeningOutcome.{table-over}
 use Rattle.laws.specs.Demand.{handles-sound}
 use Rattle.refusals.specs.declared.Ruling.{Ruling}
 use Rattle.refusals.specs.declared.Ruling.the-variants.{Accepted, Refused}
-use Rattle.refusals.specs.Meaning.{ruling-of}
+use Rattle.refusals.specs.Meaning.{refusal-of, ruling-of}
 use Rattle.sequence.specs.Formed.{Left, unmarked}
 use Rattle.soundness.specs.Sound.{Confirmed}
 use Rattle.soundness.specs.Besides.{ConfirmedLent}
@@ -74,7 +74,7 @@ module _ {n made : ℕ} {adjacency weights inverse sequence marks : List ℕ} {v
   known e = let ok : ruling-of v ≡ accepted = ap ruling-of e in record { sound = sym (C .ruled) ∙ ok; left = C .left ok }
 
   pub not-sound : (c : Call) {r : _} → v ≡ Refused r
-      → Handles modulus-prime (state n made adjacency weights inverse sequence) c (denied (because (r .cause) (r .place))) (state n made adjacency weights inverse sequence)
+      → Handles modulus-prime (state n made adjacency weights inverse sequence) c (denied (refusal-of r)) (state n made adjacency weights inverse sequence)
   not-sound c e = unsound _ (sym (C .ruled) ∙ ap ruling-of e)
 
 pub known-lent : {l : Lent} {n made : ℕ} {adjacency weights inverse sequence marks : List ℕ} {v : Ruling} → ConfirmedLent l n made adjacency weights inverse sequence marks v

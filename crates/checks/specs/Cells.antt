@@ -1,5 +1,5 @@
 -- Laws of the faults of the adjacency table's cells, and of the first fault. Assumes nothing.
-use mathlib.Core.Path.{_≡_, sym, ap, _∙_}
+use mathlib.Core.Path.{_≡_, sym, ap, ap₂, _∙_}
 use mathlib.Core.Logic.{_≢_}
 use mathlib.Core.List.{List, []}
 use Prim.Native.Nat.{ℕ, suc, _+_, _*_, _/_, _%_, _≤_, _<_}
@@ -8,13 +8,13 @@ use native.Mathlib.Omega.{arith}
 use native.Mathlib.Decide.{ℕ-discrete, decLt}
 use lib.ListN.{getD}
 use Rattle.lists.specs.Table.{index-positive, row-below, column-below, index-of, index-row, index-column, index-below}
-use Rattle.matching.specs.Decision.{Every, absent, at}
-use Rattle.matching.specs.Graph.{Graph, over, cell, cell-fault, fault, Faulty}
-use Rattle.matching.specs.Causes.{first-faulty, bad-cell}
-use Rattle.laws.specs.Faults.{fault-of-cell, cell-fault-mirror}
-use Rattle.laws.specs.Judge.{found-at, found-absent}
-use Rattle.checks.specs.Meaning.{FaultInRow, FirstFault, Located}
-use Rattle.checks.specs.declared.Fault.{Fault}
+use Rattle.matching.specs.Decision.{Every, faulty-cell, absent, at}
+use Rattle.matching.specs.Graph.{Graph, over, cell-fault, fault, Faulty}
+use Rattle.matching.specs.Causes.{first-faulty, cell-at, bad-cell}
+use Rattle.laws.specs.Faults.{fault-of-cell, fault-mirror, index-cell}
+use Rattle.laws.specs.Judge.{found-absent}
+use Rattle.refusals.specs.declared.Fault.{Fault}
+use Rattle.checks.specs.Meaning.{FaultInRow, Located}
 use Rattle.checks.specs.declared.Cells.{Cells}
 use Rattle.checks.specs.declared.Cells.the-variants as variants
 
@@ -23,9 +23,6 @@ pub fault-at : (g : Graph) (i j x y : ℕ) → x ≡ i * g .n + j → y ≡ j * 
 fault-at g i j x y ex ey = rw (ex, ey) (sym (fault-of-cell g i j))
 
 module _ (g : Graph) where
-  fault-mirror : (i j : ℕ) → i ≢ j → fault g i j ≡ 0 → fault g j i ≡ 0
-  fault-mirror i j d e = fault-of-cell g j i ∙ cell-fault-mirror (cell g i j) (cell g j i) i j d (sym (fault-of-cell g i j) ∙ e)
-
   -- the rows before i have no fault from the diagonal on
   abbrev pub RowsPassed : ℕ → Type 0
   RowsPassed i = (k : ℕ) → k < i → (l : ℕ) → k ≤ l → l < g .n → fault g k l ≡ 0
@@ -52,30 +49,28 @@ module _ (g : Graph) where
 
       go : Dec (x / g .n < i) → Dec (x % g .n < x / g .n) → fault g (x / g .n) (x % g .n) ≡ 0
       go (yes a) (no b) = rows (x / g .n) a (x % g .n) (omega arith) at-column
-      go (yes a) (yes b) = fault-mirror (x % g .n) (x / g .n) (λ e. omega arith) (rows (x % g .n) (omega arith) (x / g .n) (omega arith) at-row)
+      go (yes a) (yes b) = fault-mirror g (x % g .n) (x / g .n) (λ e. omega arith) (rows (x % g .n) (omega arith) (x / g .n) (omega arith) at-row)
       go (no a) (yes b) =
-          fault-mirror (x % g .n) (x / g .n) (λ e. omega arith) (rows (x % g .n) (omega (arith, same-row a)) (x / g .n) (omega arith) at-row)
+          fault-mirror g (x % g .n) (x / g .n) (λ e. omega arith) (rows (x % g .n) (omega (arith, same-row a)) (x / g .n) (omega arith) at-row)
       go (no a) (no b) = rw (same-row a) (row (x % g .n) (omega (arith, same-row a)) (left-of (same-row a)))
 
-  pub cell-found : (i j : ℕ) → i < g .n → j < g .n → fault g i j ≢ 0 → RowsPassed i → ((l : ℕ) → i ≤ l → l < j → fault g i l ≡ 0)
-      → bad-cell g .finding ≡ at (i * g .n + j)
-  unfolding bad-cell
-  cell-found i j hi hj d rows row =
+  -- the first faulty cell is then that of cause 3
+  cell-first : (i j : ℕ) → i < g .n → j < g .n → fault g i j ≢ 0 → RowsPassed i → ((l : ℕ) → i ≤ l → l < j → fault g i l ≡ 0)
+      → bad-cell g .finding ≡ at (faulty-cell i j (fault g i j))
+  cell-first i j hi hj d rows row =
       let below = index-below (g .n) i j hi hj in
-      found-at (first-faulty g) (i * g .n + j) below (rw (index-row (g .n) i j hj, index-column (g .n) i j hj) d) (passed i j (omega arith) (omega arith) rows row)
+      index-cell g (i * g .n + j)
+      (record { below = below; holds = rw (index-row (g .n) i j hj, index-column (g .n) i j hj) d; none-before = passed i j (omega arith) (omega arith) rows row })
+      ∙ ap₂ (λ k l. at (faulty-cell k l (fault g k l))) (index-row (g .n) i j hj) (index-column (g .n) i j hj)
 
   pub cells-absent : RowsPassed (g .n) → bad-cell g .finding ≡ absent
   unfolding bad-cell
-  cells-absent rows = found-absent (first-faulty g) .1 (λ x l. passed (g .n) 0 (omega arith) (omega arith) rows (λ l a b. absurd (omega arith)) x (omega arith))
+  cells-absent rows = found-absent (cell-at g) (first-faulty g) .1 (λ x l. passed (g .n) 0 (omega arith) (omega arith) rows (λ l a b. absurd (omega arith)) x (omega arith))
 
   -- a fault that is the first of its row is the first of all, if the rows before have none
-  pub first-in-row : (i : ℕ) → i < g .n → RowsPassed i → (f : Fault) → FaultInRow g i f → FirstFault g f
-  first-in-row i hi rows f s = record {
-    row = omega (arith, s .row);
-    column = s .column;
-    kind = rw (s .row) (s .kind);
-    place = rw (s .row) (cell-found i (f .column) hi (s .column) (λ e. s .faulty (s .kind ∙ e)) rows (s .before));
-  }
+  pub first-in-row : (i : ℕ) → i < g .n → RowsPassed i → (f : Fault) → FaultInRow g i f → Located g (variants.Faulty f)
+  first-in-row i hi rows f s =
+      rw (s .row, s .kind) (cell-first i (f .column) hi (s .column) (λ e. s .faulty (s .kind ∙ e)) rows (s .before))
 
   pub next-row : (i : ℕ) → RowsPassed i → ((l : ℕ) → i ≤ l → l < g .n → fault g i l ≡ 0) → RowsPassed (i + 1)
   next-row i rows row k a l b c = go (ℕ-discrete k i)
@@ -88,4 +83,4 @@ module _ (g : Graph) where
 pub whatever-weights : (n : ℕ) (adjacency : List ℕ) (r : Cells) → Located (over n adjacency []) r → (weights : List ℕ) → Located (over n adjacency weights) r
 unfolding bad-cell fault
 whatever-weights n adjacency variants.Faultless h weights = h
-whatever-weights n adjacency (variants.Faulty f) h weights = record { row = h .row; column = h .column; kind = h .kind; place = h .place }
+whatever-weights n adjacency (variants.Faulty f) h weights = h

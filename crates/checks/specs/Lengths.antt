@@ -5,7 +5,7 @@ use Prim.Native.Nat.{ℕ, _*_, _≤_, _<_}
 use native.Mathlib.Omega.{arith}
 use native.Mathlib.Decide.{decLt}
 use Rattle.lists.specs.Choose.{choose, choose-yes, choose-no}
-use Rattle.matching.specs.Decision.{Finding, absent, at, when, because, Refusal, Ruling, accepted, refused, Cause, judge, unless}
+use Rattle.matching.specs.Decision.{index, Finding, absent, at, when, because, Refusal, Ruling, accepted, refused, Cause, judge, unless}
 use Rattle.matching.specs.Graph.{largest, pair-count}
 use Rattle.matching.specs.Causes.{Lent, lent-always, lent-besides, first-short, too-large, too-short, LongEnough}
 use Rattle.laws.specs.Sound.{short-absent}
@@ -22,32 +22,32 @@ short-append [] b = refl
 short-append (x ∷ a) b = go (decLt (x .length) (x .needed)) (short-append a b)
   where
     go : (d : Dec (x .length < x .needed)) → first-short (a ++ b) ≡ or (first-short a) (first-short b)
-        → choose d (at (x .number)) (first-short (a ++ b)) ≡ or (choose d (at (x .number)) (first-short a)) (first-short b)
+        → choose d (at (index (x .number))) (first-short (a ++ b)) ≡ or (choose d (at (index (x .number))) (first-short a)) (first-short b)
     go (yes _) e = refl
     go (no _) e = e
 
 -- a buffer that is too short, and one that is not
-pub is-short : (length needed number : ℕ) (later : Finding) → length < needed → choose (decLt length needed) (at number) later ≡ at number
-is-short length needed number later l = choose-yes (decLt length needed) (at number) later l
+pub is-short : (length needed number : ℕ) (later : Finding) → length < needed → choose (decLt length needed) (at (index number)) later ≡ at (index number)
+is-short length needed number later l = choose-yes (decLt length needed) (at (index number)) later l
 
-pub is-long : (length needed number : ℕ) (later : Finding) → needed ≤ length → choose (decLt length needed) (at number) later ≡ later
-is-long length needed number later l = choose-no (decLt length needed) (at number) later (λ h. omega arith)
+pub is-long : (length needed number : ℕ) (later : Finding) → needed ≤ length → choose (decLt length needed) (at (index number)) later ≡ later
+is-long length needed number later l = choose-no (decLt length needed) (at (index number)) later (λ h. omega arith)
 
 -- the number of vertices, and the buffers that are always lent, case by case
 module _ (n adjacency weights inverse sequence : ℕ) where
   abbrev pub always : List Lent
   always = lent-always n adjacency weights inverse sequence
 
-  pub short-adjacency : adjacency < n * n → first-short always ≡ at 1
+  pub short-adjacency : adjacency < n * n → first-short always ≡ at (index 1)
   short-adjacency h = is-short adjacency (n * n) 1 _ h
 
-  pub short-weights : n * n ≤ adjacency → weights < pair-count n → first-short always ≡ at 2
+  pub short-weights : n * n ≤ adjacency → weights < pair-count n → first-short always ≡ at (index 2)
   short-weights g h = is-long adjacency (n * n) 1 _ g ∙ is-short weights (pair-count n) 2 _ h
 
-  pub short-inverse : n * n ≤ adjacency → pair-count n ≤ weights → inverse < n * n → first-short always ≡ at 3
+  pub short-inverse : n * n ≤ adjacency → pair-count n ≤ weights → inverse < n * n → first-short always ≡ at (index 3)
   short-inverse f g h = is-long adjacency (n * n) 1 _ f ∙ is-long weights (pair-count n) 2 _ g ∙ is-short inverse (n * n) 3 _ h
 
-  pub short-sequence : n * n ≤ adjacency → pair-count n ≤ weights → n * n ≤ inverse → sequence < n → first-short always ≡ at 4
+  pub short-sequence : n * n ≤ adjacency → pair-count n ≤ weights → n * n ≤ inverse → sequence < n → first-short always ≡ at (index 4)
   short-sequence e f g h =
       is-long adjacency (n * n) 1 _ e ∙ is-long weights (pair-count n) 2 _ f ∙ is-long inverse (n * n) 3 _ g ∙ is-short sequence n 4 _ h
 
@@ -61,7 +61,7 @@ module _ (n adjacency weights inverse sequence : ℕ) where
   pub size-large : largest < n → judge (too-large n ∷ too-short always ∷ []) ≡ refused (because 1 0)
   size-large h = rw (when-at (decLt largest n) 0 h)
 
-  pub lengths-short : (x : ℕ) → n ≤ largest → at x ≡ first-short always → judge (too-large n ∷ too-short always ∷ []) ≡ refused (because 2 x)
+  pub lengths-short : (x : ℕ) → n ≤ largest → at (index x) ≡ first-short always → judge (too-large n ∷ too-short always ∷ []) ≡ refused (because 2 x)
   lengths-short x h e = rw (small-size h, ← e)
 
   pub lengths-long : n ≤ largest → absent ≡ first-short always → judge (too-large n ∷ too-short always ∷ []) ≡ accepted

@@ -1,12 +1,12 @@
 -- The answers of this crate in the terms of the definitions: what the contracts of `src/` cite. Assumes nothing.
 use mathlib.Core.Path.{_≡_}
 use mathlib.Core.Logic.{_≢_}
-use Prim.Native.Nat.{ℕ, _+_, _*_, _≤_, _<_}
+use Prim.Native.Nat.{ℕ, _≤_, _<_}
 use Rattle.matching.specs.Decision as decision
-use Rattle.matching.specs.Decision.{absent, at, accepted, refused}
+use Rattle.matching.specs.Decision.{faulty-cell, absent, at, accepted, refused}
 use Rattle.matching.specs.Graph.{Graph, fault}
 use Rattle.matching.specs.Causes.{bad-cell}
-use Rattle.checks.specs.declared.Fault.{Fault}
+use Rattle.refusals.specs.declared.Fault.{Fault}
 use Rattle.checks.specs.declared.Cells.{Cells}
 use Rattle.checks.specs.declared.Cells.the-variants.{Faultless, Faulty}
 
@@ -27,13 +27,7 @@ abbrev pub InRow : Graph → ℕ → Cells → Type 0
 InRow g i Faultless = (l : ℕ) → i ≤ l → l < g .n → fault g i l ≡ 0
 InRow g i (Faulty f) = FaultInRow g i f
 
--- the first faulty cell is that of cause 3, and the fault is the cell's
-pub record FirstFault (g : Graph) (f : Fault) : Type 0 where
-  pub row : f .row < g .n
-  pub column : f .column < g .n
-  pub kind : f .kind ≡ fault g (f .row) (f .column)
-  pub place : bad-cell g .finding ≡ at (f .row * g .n + f .column)
-
+-- what cause 3 is found at
 abbrev pub Located : Graph → Cells → Type 0
 Located g Faultless = bad-cell g .finding ≡ absent
-Located g (Faulty f) = FirstFault g f
+Located g (Faulty f) = bad-cell g .finding ≡ at (faulty-cell (f .row) (f .column) (f .kind))

@@ -3,7 +3,7 @@ use mathlib.Core.Path.{_≡_, sym, _∙_}
 use mathlib.Core.List.{List, [], _∷_}
 use Prim.Native.Nat.{ℕ, _*_, _≤_}
 use lib.ListN.{length}
-use Rattle.matching.specs.Decision.{absent, at, Refusal, because, Ruling, accepted, refused, Cause, judge}
+use Rattle.matching.specs.Decision.{index, faulty-cell, absent, at, Refusal, because, because-cell, Ruling, accepted, refused, Cause, judge}
 use Rattle.matching.specs.Graph.{Graph, largest, pair-count}
 use Rattle.matching.specs.Causes.{Lent, lent-always, lent-besides, too-large, too-short, bad-cell, bad-weight, opening-causes, opening-ruling}
 use Rattle.laws.specs.Judge.{judge-refused, judge-next}
@@ -14,13 +14,13 @@ module _ (p : ℕ) (g : Graph) where
   abbrev pub graph-causes : List Cause
   graph-causes = bad-cell g ∷ bad-weight p g ∷ []
 
-  pub cell-refused : (x : ℕ) → bad-cell g .finding ≡ at x → judge graph-causes ≡ refused (because 3 x)
+  pub cell-refused : (i j f : ℕ) → bad-cell g .finding ≡ at (faulty-cell i j f) → judge graph-causes ≡ refused (because-cell i j f)
   unfolding bad-cell
-  cell-refused x e = judge-refused (bad-cell g) (bad-weight p g ∷ []) x e
+  cell-refused i j f e = judge-refused (bad-cell g) (bad-weight p g ∷ []) (faulty-cell i j f) e
 
-  pub weight-refused : (x : ℕ) → bad-cell g .finding ≡ absent → at x ≡ bad-weight p g .finding → judge graph-causes ≡ refused (because 4 x)
+  pub weight-refused : (x : ℕ) → bad-cell g .finding ≡ absent → at (index x) ≡ bad-weight p g .finding → judge graph-causes ≡ refused (because 4 x)
   unfolding bad-weight
-  weight-refused x a e = judge-next (bad-cell g) (bad-weight p g ∷ []) a ∙ judge-refused (bad-weight p g) [] x (sym e)
+  weight-refused x a e = judge-next (bad-cell g) (bad-weight p g ∷ []) a ∙ judge-refused (bad-weight p g) [] (index x) (sym e)
 
   pub graph-accepted : bad-cell g .finding ≡ absent → absent ≡ bad-weight p g .finding → judge graph-causes ≡ accepted
   graph-accepted a e = judge-next (bad-cell g) (bad-weight p g ∷ []) a ∙ judge-next (bad-weight p g) [] (sym e)

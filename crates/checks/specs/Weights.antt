@@ -5,19 +5,19 @@ use native.Mathlib.Nat.{mul-le-mul}
 use native.Mathlib.Omega.{arith}
 use native.Mathlib.Decide.{decLt}
 use Rattle.lists.specs.Choose.{choose, choose-yes, choose-no}
-use Rattle.matching.specs.Decision.{Every, absent, at}
+use Rattle.matching.specs.Decision.{Every, index, absent, at}
 use Rattle.matching.specs.Graph.{Graph, largest, pair-count, InRange}
 use Rattle.matching.specs.Causes.{first-outside, bad-weight}
 use Rattle.laws.specs.Judge.{found-at, found-absent}
 
 module _ (p : ℕ) (g : Graph) where
-  pub weight-found : (x : ℕ) → x < pair-count (g .n) → ¬ InRange g p x → Every x (InRange g p) → bad-weight p g .finding ≡ at x
+  pub weight-found : (x : ℕ) → x < pair-count (g .n) → ¬ InRange g p x → Every x (InRange g p) → bad-weight p g .finding ≡ at (index x)
   unfolding bad-weight
-  weight-found x l o h = found-at (first-outside p g) x l o (λ k m d. d (h k m))
+  weight-found x l o h = found-at index (first-outside p g) x l o (λ k m d. d (h k m))
 
   pub weights-absent : Every (pair-count (g .n)) (InRange g p) → bad-weight p g .finding ≡ absent
   unfolding bad-weight
-  weights-absent h = found-absent (first-outside p g) .1 (λ k m d. d (h k m))
+  weights-absent h = found-absent index (first-outside p g) .1 (λ k m d. d (h k m))
 
 pub pair-count-most : (n m : ℕ) → n ≤ m → pair-count n ≤ pair-count m
 pair-count-most n m l =

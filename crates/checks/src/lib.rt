@@ -12,6 +12,7 @@ ghost use Rattle.matching.specs.Causes.{too-large, too-short, bad-cell, bad-wei
 ghost use Rattle.checks.specs.Weights.{needed};
 ghost use Rattle.refusals.specs.Meaning.{finding-of, ruling-of};
 ghost use Rattle.checks.specs.Meaning.{then, InRow, Located};
+use refusals::Fault;
 use refusals::Finding;
 use refusals::Refusal;
 use refusals::Ruling;
@@ -19,14 +20,6 @@ use residue::Residue;
 
 // The most vertices that a graph may have.
 pub const LARGEST: usize = 96;
-
-// A faulty cell of the adjacency table. Its kind is 1 if it is not 0 or 1, 2 if it is not 0 on the diagonal, 3 if it differs from its
-// mirror.
-pub struct Fault {
-    pub row: usize,
-    pub column: usize,
-    pub kind: u8,
-}
 
 // The first faulty cell, or none.
 pub enum Cells {
@@ -110,10 +103,9 @@ fn cell_fault(cell: u8, mirror: u8, row: usize, column: usize) -> u8
         return 1;
     }
     if row == column {
-        if cell == 0 {
-            return 0;
+        if cell != 0 {
+            return 2;
         }
-        return 2;
     }
     if cell == mirror {
         return 0;
@@ -133,6 +125,8 @@ fn row_fault(n: usize, adjacency: &[u8], row: usize, start: usize) -> Cells
     while column < n {
         let kind = cell_fault(adjacency[index], adjacency[mirror], row, column);
         if kind != 0 {
+            let row = row as u8;
+            let column = column as u8;
             return Cells::Faulty(Fault { row, column, kind });
         }
         column += 1;
@@ -235,8 +229,7 @@ fn judge_graph(n: usize, adjacency: &[u8], weights: &[u16]) -> Ruling
         ⌜ ruling-of r ≡ judge (bad-cell g ∷ bad-weight modulus g ∷ []) ⌝ }
 {
     if let Cells::Faulty(fault) = first_fault(n, adjacency) {
-        let place = fault.row * n + fault.column;
-        return refusals::refuse(3, place);
+        return refusals::refuse_cell(fault);
     }
     if let Finding::At(place) = first_outside(n, weights) {
         return refusals::refuse(4, place);

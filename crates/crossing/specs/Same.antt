@@ -10,7 +10,7 @@ use Rattle.modular.specs.Operations.{negative}
 use Rattle.modular.specs.Congruence.{equals}
 use Rattle.skew.specs.Subset.{Subset}
 use Rattle.skew.specs.Same.{inverse-same, witness-same, first-same}
-use Rattle.matching.specs.Decision.{Every, First, nowhere, first-at, found}
+use Rattle.matching.specs.Decision.{Every, First, nowhere, first-at, Place, index, found}
 use Rattle.matching.specs.Graph.{pair-count, cell, weight-index, weight, upper, tutte, tutte-upper, tutte-lower, tutte-diagonal, fault, over}
 use Rattle.matching.specs.Session.{InverseTable}
 use Rattle.matching.specs.Opening.{Singular}
@@ -19,9 +19,10 @@ use Rattle.laws.specs.Weights.{index-fits}
 use Rattle.laws.specs.Judge.{found-absent, found-at}
 
 -- two properties of the same numbers have the same first number
-found-same : {n : ℕ} {P Q : ℕ → Type 0} (f : First n P) (h : First n Q) → Every n (λ k. P k → Q k) → Every n (λ k. Q k → P k) → found f ≡ found h
-found-same f (nowhere none) to from = found-absent f .1 (λ k l a. none k l (to k l a))
-found-same f (first-at x l e none) to from = found-at f x l (from x l e) (λ k m a. none k m (to k (omega arith) a))
+found-same : {n : ℕ} {P Q : ℕ → Type 0} (place : ℕ → Place) (f : First n P) (h : First n Q) → Every n (λ k. P k → Q k) → Every n (λ k. Q k → P k)
+    → found place f ≡ found place h
+found-same place f (nowhere none) to from = found-absent place f .1 (λ k l a. none k l (to k l a))
+found-same place f (first-at x l e none) to from = found-at place f x l (from x l e) (λ k m a. none k m (to k (omega arith) a))
 
 module _ (n : ℕ) (adjacency u v : List ℕ) where
   -- the cells are the same, whatever the weights are
@@ -33,7 +34,7 @@ module _ (n : ℕ) (adjacency u v : List ℕ) where
     pub weights-same : (p : ℕ) → bad-weight p (over n adjacency u) .finding ≡ bad-weight p (over n adjacency v) .finding
     unfolding bad-weight
     weights-same p =
-        found-same (first-outside p (over n adjacency u)) (first-outside p (over n adjacency v)) (λ k l o. rw (agree k l) at o) (λ k l o. rw (← agree k l) at o)
+        found-same index (first-outside p (over n adjacency u)) (first-outside p (over n adjacency v)) (λ k l o. rw (agree k l) at o) (λ k l o. rw (← agree k l) at o)
 
     upper-same : (i j : ℕ) → i < j → j < n → upper (over n adjacency u) i j ≡ upper (over n adjacency v) i j
     unfolding upper weight weight-index

@@ -8,13 +8,13 @@ use native.Mathlib.Decide.{ℕ-discrete, decLt}
 use lib.ListN.{length, getD, take}
 use lib.Seq.{getD-take, length-take-le}
 use Rattle.lists.specs.Choose.{choose-yes, choose-no}
-use Rattle.matching.specs.Decision.{Every, not?, First, nowhere, first-at, first?, found}
+use Rattle.matching.specs.Decision.{Every, not?, First, nowhere, first-at, first?, index, found}
 use Rattle.matching.specs.Graph.{largest}
 use Rattle.matching.specs.Display.{of-inverse, of-witness, part, display}
 use Rattle.laws.specs.Judge.{found-absent}
 use Rattle.display.specs.Words.{Nonzero, Zero}
 
-part-nonzero : {m : ℕ} {P : ℕ → Type 0} (n : ℕ) (f : First m P) (x : ℕ) → x < m → P x → part n (found f) ≡ of-witness n
+part-nonzero : {m : ℕ} {P : ℕ → Type 0} (n : ℕ) (f : First m P) (x : ℕ) → x < m → P x → part n (found index f) ≡ of-witness n
 part-nonzero n (nowhere h) x l e = absurd (h x l e)
 part-nonzero n (first-at y _ _ _) x l e = refl
 
@@ -40,7 +40,7 @@ module _ (n : ℕ) (inverse witness : List ℕ) where
   words = first? (λ x. getD witness x 0 ≢ 0) n (λ x. not? (ℕ-discrete (getD witness x 0) 0))
 
   -- both buffers are long enough
-  display-long : n ≤ largest → n * n ≤ length inverse → n ≤ length witness → display n inverse witness ≡ part n (found words)
+  display-long : n ≤ largest → n * n ≤ length inverse → n ≤ length witness → display n inverse witness ≡ part n (found index words)
   unfolding display words
   display-long h m l =
       choose-no (decLt largest n) _ _ (λ k. omega arith)
@@ -53,7 +53,7 @@ module _ (n : ℕ) (inverse witness : List ℕ) where
       display-long h m l ∙ part-nonzero n words (z .index) below (rw (getD-take n witness (z .index) 0 below) at (z .nonzero))
 
   pub display-inverse : n ≤ largest → n * n ≤ length inverse → n ≤ length witness → Zero (take n witness) → display n inverse witness ≡ of-inverse (n * n)
-  display-inverse h m l z = display-long h m l ∙ ap (part n) (found-absent words .1 none)
+  display-inverse h m l z = display-long h m l ∙ ap (part n) (found-absent index words .1 none)
     where
       none : Every n (λ x. ¬ (getD witness x 0 ≢ 0))
       none x k d = d (rw (getD-take n witness x 0 k) at (z x (omega (arith, length-take-le n witness l))))

@@ -9,7 +9,7 @@ use Rattle.matching.specs.Edition.{Edition}
 use Rattle.matching.specs.Filling.{Read}
 use Rattle.matching.specs.Records.{Record, Progress, Rejects, too-large-size, not-two, stood-already, Reading, unread, Reads, whole, not-due, stops, cut, rejected, goes-on, Fills, refuses-records, reads-records}
 use Rattle.matching.specs.Computed.{begins-width}
-use Rattle.laws.specs.Filling.{Within, AnswerBounds, more-within, more-bounds, filled-answer}
+use Rattle.laws.specs.Filling.{Within, within, AnswerBounds, more-within, more-bounds, filled-answer}
 use Rattle.laws.specs.Reading.{reads-fit}
 
 given-within : {len : ℕ} (given : Refusal) {why : Refusal} → unread given ≡ unread why → Within len given → Within len why
@@ -24,11 +24,11 @@ rejects-within (stood-already _ _) = (omega arith, omega arith)
 pub reads-within : {E : Edition} {len : ℕ} {q : Progress} {x : ℕ} {bytes : List ℕ} {r : Reading} {why : Refusal} → Reads E len q x bytes r → r ≡ unread why
     → x + length bytes ≤ len → Within len why
 reads-within whole e h = absurd (let z : _≡_ {A = ℕ} 0 1 = cc in omega arith)
-reads-within {x = x} (not-due d) e h = given-within (because 12 x) e (record { cause-from = omega arith; cause-below = omega arith; place-within = omega arith })
-reads-within {len = len} (stops d) e h = given-within (because 13 len) e (record { cause-from = omega arith; cause-below = omega arith; place-within = omega arith })
-reads-within {len = len} (cut d f) e h = given-within (because 13 len) e (record { cause-from = omega arith; cause-below = omega arith; place-within = omega arith })
+reads-within {x = x} (not-due d) e h = given-within (because 12 x) e (within 12 x (omega arith) (omega arith) (omega arith))
+reads-within {len = len} (stops d) e h = given-within (because 13 len) e (within 13 len (omega arith) (omega arith) (omega arith))
+reads-within {len = len} (cut d f) e h = given-within (because 13 len) e (within 13 len (omega arith) (omega arith) (omega arith))
 reads-within {x = x} (rejected {cause = k} b j) e h =
-    let c = rejects-within j in given-within (because k x) e (record { cause-from = c .0; cause-below = c .1; place-within = omega arith })
+    let c = rejects-within j in given-within (because k x) e (within k x (c .0) (c .1) (omega arith))
 reads-within (goes-on b t R) e h = reads-within R e (omega (arith, begins-width b))
 
 pub fills-answer : {E : Edition} {bytes adjacency weights adjacency′ weights′ : List ℕ} {given : Read} → Fills E bytes adjacency weights given adjacency′ weights′

@@ -1,12 +1,17 @@
--- The fault of a cell of the adjacency table, case by case, and what a table without a fault is. Assumes nothing.
-use mathlib.Core.Path.{_≡_, refl, sym, ap, ap₂, _∙_}
+-- The fault of a cell of the adjacency table, case by case; the cell at which cause 3 is found; and what a table without a fault is.
+-- Assumes nothing.
+use mathlib.Core.Path.{_≡_, refl, sym, ap₂, _∙_}
 use mathlib.Core.Logic.{_≢_, _↔_}
-use Prim.Native.Nat.{ℕ, _+_, _*_, _/_, _%_, _≤_, _<_}
+use Prim.Native.Nat.{ℕ, suc, _+_, _*_, _/_, _%_, _≤_, _<_}
+use native.Mathlib.Nat.{mul-le-mul}
 use native.Mathlib.Omega.{arith}
 use native.Mathlib.Decide.{ℕ-discrete, decLt}
 use Rattle.lists.specs.Choose.{choose-yes, choose-no}
-use Rattle.lists.specs.Table.{index-below, index-row, index-column, row-below, column-below}
-use Rattle.matching.specs.Graph.{Graph, cell, cell-fault, fault}
+use Rattle.lists.specs.Table.{index-of, index-below, index-row, index-column, row-below, column-below}
+use Rattle.matching.specs.Decision.{both?, not?, Every, Lowest, Place, faulty-cell, at}
+use Rattle.matching.specs.Graph.{Graph, cell, cell-fault, fault, Faulty}
+use Rattle.matching.specs.Causes.{first-faulty, cell-at, bad-cell}
+use Rattle.laws.specs.Judge.{stable, found-at, found-lowest}
 
 pub fault-of-cell : (g : Graph) (i j : ℕ) → fault g i j ≡ cell-fault (cell g i j) (cell g j i) i j
 unfolding fault cell-fault
@@ -18,25 +23,24 @@ module _ (x y i j : ℕ) where
   unfolding cell-fault
   fault-large l = choose-yes (decLt 1 x) _ _ l
 
-  pub fault-diagonal-zero : x ≤ 1 → i ≡ j → x ≡ 0 → cell-fault x y i j ≡ 0
-  unfolding cell-fault
-  fault-diagonal-zero l d z =
-      choose-no (decLt 1 x) _ _ (λ h. omega arith) ∙ choose-yes (ℕ-discrete i j) _ _ d ∙ choose-yes (ℕ-discrete x 0) _ _ z
-
   pub fault-diagonal : x ≤ 1 → i ≡ j → x ≢ 0 → cell-fault x y i j ≡ 2
   unfolding cell-fault
   fault-diagonal l d z =
-      choose-no (decLt 1 x) _ _ (λ h. omega arith) ∙ choose-yes (ℕ-discrete i j) _ _ d ∙ choose-no (ℕ-discrete x 0) _ _ z
+      choose-no (decLt 1 x) _ _ (λ h. omega arith) ∙ choose-yes (both? (ℕ-discrete i j) (not? (ℕ-discrete x 0))) _ _ (d, z)
 
-  pub fault-equal : x ≤ 1 → i ≢ j → x ≡ y → cell-fault x y i j ≡ 0
-  unfolding cell-fault
-  fault-equal l d e =
-      choose-no (decLt 1 x) _ _ (λ h. omega arith) ∙ choose-no (ℕ-discrete i j) _ _ d ∙ choose-yes (ℕ-discrete x y) _ _ e
-
-  pub fault-unequal : x ≤ 1 → i ≢ j → x ≢ y → cell-fault x y i j ≡ 3
+  pub fault-unequal : x ≤ 1 → (i ≡ j → x ≡ 0) → x ≢ y → cell-fault x y i j ≡ 3
   unfolding cell-fault
   fault-unequal l d e =
-      choose-no (decLt 1 x) _ _ (λ h. omega arith) ∙ choose-no (ℕ-discrete i j) _ _ d ∙ choose-no (ℕ-discrete x y) _ _ e
+      choose-no (decLt 1 x) _ _ (λ h. omega arith)
+      ∙ choose-no (both? (ℕ-discrete i j) (not? (ℕ-discrete x 0))) _ _ (λ h. h .1 (d (h .0)))
+      ∙ choose-yes (not? (ℕ-discrete x y)) _ _ e
+
+  pub fault-none : x ≤ 1 → (i ≡ j → x ≡ 0) → x ≡ y → cell-fault x y i j ≡ 0
+  unfolding cell-fault
+  fault-none l d e =
+      choose-no (decLt 1 x) _ _ (λ h. omega arith)
+      ∙ choose-no (both? (ℕ-discrete i j) (not? (ℕ-discrete x 0))) _ _ (λ h. h .1 (d (h .0)))
+      ∙ choose-no (not? (ℕ-discrete x y)) _ _ (λ h. h e)
 
 -- off the diagonal, a cell without a fault has a mirror without a fault
 pub cell-fault-mirror : (x y i j : ℕ) → i ≢ j → cell-fault x y i j ≡ 0 → cell-fault y x j i ≡ 0
@@ -44,8 +48,104 @@ cell-fault-mirror x y i j d e = go (decLt 1 x) (ℕ-discrete x y)
   where
     go : Dec (1 < x) → Dec (x ≡ y) → cell-fault y x j i ≡ 0
     go (yes l) _ = absurd (omega (arith, fault-large x y i j l))
-    go (no l) (yes q) = fault-equal y x j i (omega arith) (λ h. d (sym h)) (sym q)
-    go (no l) (no q) = absurd (omega (arith, fault-unequal x y i j (omega arith) d q))
+    go (no l) (yes q) = fault-none y x j i (omega arith) (λ h. absurd (d (sym h))) (sym q)
+    go (no l) (no q) = absurd (omega (arith, fault-unequal x y i j (omega arith) (λ h. absurd (d h)) q))
+
+-- the three faults that the cell in row i, column j can have, in the order of document 01's table
+pub data Has (g : Graph) (i j : ℕ) : ℕ → Type 0 where
+  not-bit : 1 < cell g i j → Has g i j 1
+  not-empty : i ≡ j → cell g i j ≢ 0 → Has g i j 2
+  not-mirrored : cell g i j ≢ cell g j i → Has g i j 3
+
+module _ (g : Graph) where
+  -- the fault of a cell is the first of the three that it has, and 0 if it has none
+  pub fault-lowest : (i j : ℕ) → fault g i j ≢ 0 → Lowest 4 (Has g i j) (fault g i j)
+  fault-lowest i j f = go (decLt 1 (cell g i j)) (both? (ℕ-discrete i j) (not? (ℕ-discrete (cell g i j) 0))) (ℕ-discrete (cell g i j) (cell g j i))
+    where
+      first : Every 1 (λ k. ¬ Has g i j k)
+      first k l (not-bit _) = omega arith
+      first k l (not-empty _ _) = omega arith
+      first k l (not-mirrored _) = omega arith
+
+      second : ¬ (1 < cell g i j) → Every 2 (λ k. ¬ Has g i j k)
+      second a k l (not-bit h) = a h
+      second a k l (not-empty _ _) = omega arith
+      second a k l (not-mirrored _) = omega arith
+
+      third : ¬ (1 < cell g i j) → ¬ ((i ≡ j) × (cell g i j ≢ 0)) → Every 3 (λ k. ¬ Has g i j k)
+      third a b k l (not-bit h) = a h
+      third a b k l (not-empty e z) = b (e, z)
+      third a b k l (not-mirrored _) = omega arith
+
+      go : Dec (1 < cell g i j) → Dec ((i ≡ j) × (cell g i j ≢ 0)) → Dec (cell g i j ≡ cell g j i) → Lowest 4 (Has g i j) (fault g i j)
+      go (yes a) _ _ =
+          rw (fault-of-cell g i j ∙ fault-large (cell g i j) (cell g j i) i j a)
+          (record { below = omega arith; holds = not-bit a; none-before = first })
+      go (no a) (yes b) _ =
+          rw (fault-of-cell g i j ∙ fault-diagonal (cell g i j) (cell g j i) i j (omega arith) (b .0) (b .1))
+          (record { below = omega arith; holds = not-empty (b .0) (b .1); none-before = second a })
+      go (no a) (no b) (no c) =
+          rw (fault-of-cell g i j ∙ fault-unequal (cell g i j) (cell g j i) i j (omega arith) (λ e. stable (ℕ-discrete (cell g i j) 0) (λ z. b (e, z))) c)
+          (record { below = omega arith; holds = not-mirrored c; none-before = third a b })
+      go (no a) (no b) (yes c) =
+          absurd (f (fault-of-cell g i j ∙ fault-none (cell g i j) (cell g j i) i j (omega arith) (λ e. stable (ℕ-discrete (cell g i j) 0) (λ z. b (e, z))) c))
+
+  pub no-fault : (i j : ℕ) → fault g i j ≡ 0 → (k : ℕ) → ¬ Has g i j k
+  no-fault i j f k (not-bit h) = omega (arith, f, fault-of-cell g i j, fault-large (cell g i j) (cell g j i) i j h)
+  no-fault i j f k (not-empty e z) = go (decLt 1 (cell g i j))
+    where
+      go : Dec (1 < cell g i j) → ⊥
+      go (yes h) = omega (arith, f, fault-of-cell g i j, fault-large (cell g i j) (cell g j i) i j h)
+      go (no h) = omega (arith, f, fault-of-cell g i j, fault-diagonal (cell g i j) (cell g j i) i j (omega arith) e z)
+  no-fault i j f k (not-mirrored d) = go (decLt 1 (cell g i j)) (both? (ℕ-discrete i j) (not? (ℕ-discrete (cell g i j) 0)))
+    where
+      go : Dec (1 < cell g i j) → Dec ((i ≡ j) × (cell g i j ≢ 0)) → ⊥
+      go (yes h) _ = omega (arith, f, fault-of-cell g i j, fault-large (cell g i j) (cell g j i) i j h)
+      go (no h) (yes b) = omega (arith, f, fault-of-cell g i j, fault-diagonal (cell g i j) (cell g j i) i j (omega arith) (b .0) (b .1))
+      go (no h) (no b) =
+          omega (arith, f, fault-of-cell g i j, fault-unequal (cell g i j) (cell g j i) i j (omega arith) (λ e. stable (ℕ-discrete (cell g i j) 0) (λ z. b (e, z))) d)
+
+  pub fault-mirror : (i j : ℕ) → i ≢ j → fault g i j ≡ 0 → fault g j i ≡ 0
+  fault-mirror i j d e = fault-of-cell g j i ∙ cell-fault-mirror (cell g i j) (cell g j i) i j d (sym (fault-of-cell g i j) ∙ e)
+
+  -- cause 3 is found at the cell of the lowest faulty index x, row by row: row x / n, column x mod n; and only there
+  pub index-cell : (x : ℕ) → Lowest (g .n * g .n) (Faulty g) x → bad-cell g .finding ≡ at (cell-at g x)
+  unfolding bad-cell
+  index-cell x h = found-at (cell-at g) (first-faulty g) x (h .below) (h .holds) (h .none-before)
+
+  pub cell-index : {place : Place} → bad-cell g .finding ≡ at place → (x : ℕ) × Lowest (g .n * g .n) (Faulty g) x × (place ≡ cell-at g x)
+  unfolding bad-cell
+  cell-index e = found-lowest (cell-at g) (first-faulty g) e
+
+  -- this cell is not left of the diagonal, and its fault is the first of the three that it has
+  pub cell-found : {i j f : ℕ} → bad-cell g .finding ≡ at (faulty-cell i j f) → (i ≤ j) × (j < g .n) × Lowest 4 (Has g i j) f
+  cell-found {i} {j} {f} e = go (cell-index e)
+    where
+      go : (x : ℕ) × Lowest (g .n * g .n) (Faulty g) x × (faulty-cell i j f ≡ cell-at g x) → (i ≤ j) × (j < g .n) × Lowest 4 (Has g i j) f
+      go (x, h, q) =
+          let qi : i ≡ x / g .n = cc in
+          let qj : j ≡ x % g .n = cc in
+          let qf : f ≡ fault g (x / g .n) (x % g .n) = cc in
+          rw (qi, qj, qf) (upper, column-below (g .n) x (h .below), fault-lowest (x / g .n) (x % g .n) (h .holds))
+        where
+          upper : x / g .n ≤ x % g .n
+          upper = right (decLt (x % g .n) (x / g .n))
+            where
+              right : Dec (x % g .n < x / g .n) → x / g .n ≤ x % g .n
+              right (no l) = omega arith
+              right (yes l) = absurd (h .holds (fault-mirror (x % g .n) (x / g .n) (λ q. omega arith) mirrored))
+                where
+                  row : x / g .n < g .n
+                  row = row-below (g .n) x (h .below)
+
+                  earlier : x % g .n * g .n + x / g .n < x
+                  earlier =
+                      omega (arith, row, index-of (g .n) x, mul-le-mul {n₁ = suc (x % g .n)} {m₁ = g .n} {n₂ = x / g .n} {m₂ = g .n} (omega arith) (omega arith))
+
+                  mirrored : fault g (x % g .n) (x / g .n) ≡ 0
+                  mirrored =
+                      sym (ap₂ (fault g) (index-row (g .n) (x % g .n) (x / g .n) row) (index-column (g .n) (x % g .n) (x / g .n) row))
+                      ∙ stable (ℕ-discrete _ 0) (h .none-before (x % g .n * g .n + x / g .n) earlier)
 
 -- the adjacency table of a simple graph, in the words of demand 1: it holds only 0 and 1, is symmetric, and its diagonal is empty
 pub record Simple (g : Graph) : Type 0 where
@@ -80,7 +180,7 @@ module _ (g : Graph) where
         where
           go : Dec (cell g i j ≡ cell g j i) → cell g i j ≡ cell g j i
           go (yes e) = e
-          go (no e) = absurd (omega (arith, cell-faultless F i j hi hj, fault-unequal (cell g i j) (cell g j i) i j (bits i j hi hj) d e))
+          go (no e) = absurd (omega (arith, cell-faultless F i j hi hj, fault-unequal (cell g i j) (cell g j i) i j (bits i j hi hj) (λ q. absurd (d q)) e))
 
       diagonal : (i : ℕ) → i < g .n → cell g i i ≡ 0
       diagonal i hi = go (ℕ-discrete (cell g i i) 0)
@@ -93,11 +193,11 @@ module _ (g : Graph) where
   faultless-of S x l =
       let i = x / g .n in
       let j = x % g .n in
-      fault-of-cell g i j ∙ go i j (row-below (g .n) x l) (column-below (g .n) x l) (ℕ-discrete i j)
+      fault-of-cell g i j ∙ go i j (row-below (g .n) x l) (column-below (g .n) x l)
     where
-      go : (i j : ℕ) → i < g .n → j < g .n → Dec (i ≡ j) → cell-fault (cell g i j) (cell g j i) i j ≡ 0
-      go i j hi hj (yes e) = fault-diagonal-zero (cell g i j) (cell g j i) i j (S .bits i j hi hj) e (rw e (S .empty-diagonal j hj))
-      go i j hi hj (no d) = fault-equal (cell g i j) (cell g j i) i j (S .bits i j hi hj) d (S .symmetric i j hi hj)
+      go : (i j : ℕ) → i < g .n → j < g .n → cell-fault (cell g i j) (cell g j i) i j ≡ 0
+      go i j hi hj =
+          fault-none (cell g i j) (cell g j i) i j (S .bits i j hi hj) (λ e. rw e (S .empty-diagonal j hj)) (S .symmetric i j hi hj)
 
   pub faultless-simple : Faultless ↔ Simple g
   faultless-simple = (simple-of, faultless-of)

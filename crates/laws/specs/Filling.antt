@@ -1,6 +1,6 @@
 -- A graph that a reader fills is in order, whichever reader it is, so opening does not refuse it; and it is filled in exactly one way.
 -- Assumes nothing.
-use mathlib.Core.Path.{_≡_, refl, sym, ap, ap₂, _∙_}
+use mathlib.Core.Path.{_≡_, refl, ap, ap₂, subst, _∙_}
 use mathlib.Core.List.{List, [], _∷_}
 use Prim.Native.Nat.{ℕ, _+_, _*_, _/_, _%_, _^_, _≤_, _<_}
 use native.Mathlib.Omega.{arith}
@@ -11,14 +11,14 @@ use Rattle.lists.specs.Choose.{choose}
 use Rattle.lists.specs.Onto.{onto, onto-long}
 use Rattle.draws.specs.Draws.{draws}
 use Rattle.draws.specs.Laws.{draws-length, draws-range}
-use Rattle.matching.specs.Decision.{Refusal, because, absent, at, unless, Ruling, accepted, refused, Every}
+use Rattle.matching.specs.Decision.{index, place-number, Refusal, because, absent, at, unless, Ruling, accepted, refused, Every}
 use Rattle.matching.specs.Edition.{Edition}
 use Rattle.matching.specs.Graph.{Graph, over, largest, pair-count, cell, cell-fault, fault, InRange, InOrder}
 use Rattle.matching.specs.Pairs.{Pair, pair-of}
 use Rattle.matching.specs.Causes.{opening-ruling, lent-inverse, lent-sequence, lent-witness, lent-work, LongEnough}
 use Rattle.matching.specs.Filling.{among, cells, Read, graph-read, not-read, room, Filled, lacks-room, fills}
 use Rattle.laws.specs.Cells.{pair-of-swap, cells-length, cells-at, cells-same}
-use Rattle.laws.specs.Faults.{fault-of-cell, fault-diagonal-zero, fault-equal}
+use Rattle.laws.specs.Faults.{fault-of-cell, fault-none}
 use Rattle.laws.specs.Sound.{GraphFits, opening-accepted}
 use Rattle.laws.specs.Edges.{EdgesFit, Different, among-small, among-ordered, pair-of-same, few-edges}
 
@@ -58,10 +58,9 @@ module _ {E : Edition} {n : ℕ} {drawn : List ℕ} {edges : List Pair} (F : Fit
     where
       go : Dec (i ≡ j) → cell-fault (among (pair-of i j) edges) (among (pair-of j i) edges) i j ≡ 0
       go (yes e) =
-          fault-diagonal-zero _ _ i j (among-small (pair-of i j) edges) e
-          (rw e (among-ordered n (pair-of j j) edges (pair-of-same j) (F .edges-fit)))
+          fault-none _ _ i j (among-small (pair-of i j) edges) (λ _. rw e (among-ordered n (pair-of j j) edges (pair-of-same j) (F .edges-fit))) (rw e refl)
       go (no d) =
-          fault-equal _ _ i j (among-small (pair-of i j) edges) d (ap (λ e. among e edges) (pair-of-swap i j d))
+          fault-none _ _ i j (among-small (pair-of i j) edges) (λ e. absurd (d e)) (ap (λ e. among e edges) (pair-of-swap i j d))
 
   pub in-range : Every (pair-count n) (InRange g (E .modulus))
   in-range x l =
@@ -109,11 +108,16 @@ filled-unique (lacks-room e) (fills e′) = never (cc)
 filled-unique (fills e) (lacks-room e′) = never (cc)
 filled-unique (fills e) (fills e′) = (refl, refl, refl)
 
--- a refusal whose cause is a byte other than 0, and whose place is at most `len`
+-- a refusal whose cause is a byte other than 0, and whose place is an index of at most `len`
 pub record Within (len : ℕ) (why : Refusal) : Type 0 where
   pub cause-from : 0 < why .cause
   pub cause-below : why .cause < 2 ^ 8
-  pub place-within : why .place ≤ len
+  pub is-index : why .place ≡ index (place-number (why .place))
+  pub place-within : place-number (why .place) ≤ len
+
+-- for this cause, at this index
+pub within : {len : ℕ} (k x : ℕ) → 0 < k → k < 2 ^ 8 → x ≤ len → Within len (because k x)
+within k x a b c = record { cause-from = a; cause-below = b; is-index = refl; place-within = c }
 
 -- bounds of an answer, whose place is at most `most`
 abbrev pub AnswerBounds : Read → ℕ → Type 0
@@ -121,21 +125,24 @@ AnswerBounds (graph-read n m) most = (n ≤ largest) × (m ≤ 4560)
 AnswerBounds (not-read why) most = Within most why
 
 pub more-within : {k most : ℕ} {why : Refusal} → k ≤ most → Within k why → Within most why
-more-within h w = record { cause-from = w .cause-from; cause-below = w .cause-below; place-within = omega (arith, w .place-within) }
+more-within h w =
+    record { cause-from = w .cause-from; cause-below = w .cause-below; is-index = w .is-index; place-within = omega (arith, w .place-within) }
 
 pub more-bounds : {k most : ℕ} (o : Read) → k ≤ most → AnswerBounds o k → AnswerBounds o most
 more-bounds (graph-read n m) h b = b
 more-bounds (not-read why) h b = more-within h b
 
 -- cause 2, at the first buffer or the second
-pub room-refused : (n : ℕ) (adjacency weights : List ℕ) {why : Refusal} → room n adjacency weights ≡ refused why → (why .cause ≡ 2) × (why .place ≤ 2)
+pub room-refused : (n : ℕ) (adjacency weights : List ℕ) {why : Refusal} → room n adjacency weights ≡ refused why → (why .cause ≡ 2) × Within 2 why
 room-refused n adjacency weights {why} = go (decLt (length adjacency) (n * n)) (decLt (length weights) (pair-count n))
   where
-    is : (k : ℕ) → refused (because 2 k) ≡ refused why → k ≤ 2 → (why .cause ≡ 2) × (why .place ≤ 2)
-    is k e h = let w : because 2 k ≡ why = cc in (sym (ap (λ (r : Refusal). r .cause) w), omega (arith, ap (λ (r : Refusal). r .place) w))
+    is : (k : ℕ) → refused (because 2 k) ≡ refused why → k ≤ 2 → (why .cause ≡ 2) × Within 2 why
+    is k e h =
+        let w : because 2 k ≡ why = cc in
+        subst (λ (r : Refusal). (r .cause ≡ 2) × Within 2 r) w (refl, within 2 k (omega arith) (omega arith) h)
 
     go : (c : Dec (length adjacency < n * n)) (d : Dec (length weights < pair-count n))
-        → unless (choose c (at 1) (choose d (at 2) absent)) 2 accepted ≡ refused why → (why .cause ≡ 2) × (why .place ≤ 2)
+        → unless (choose c (at (index 1)) (choose d (at (index 2)) absent)) 2 accepted ≡ refused why → (why .cause ≡ 2) × Within 2 why
     go (yes _) _ e = is 1 e (omega arith)
     go (no _) (yes _) e = is 2 e (omega arith)
     go (no _) (no _) e = never (cc)
@@ -144,8 +151,7 @@ pub filled-answer : {E : Edition} {n : ℕ} {drawn : List ℕ} {edges : List Pai
     → Filled n drawn edges adjacency weights o a w → AnswerBounds o 2
 filled-answer {n = n} {edges = edges} F (fills e) = (F .small, few-edges n edges (F .small) (F .edges-fit) (F .different))
 filled-answer {n = n} {adjacency = adjacency} {weights = weights} F (lacks-room e) =
-    let h = room-refused n adjacency weights e in
-    record { cause-from = omega (arith, h .0); cause-below = omega (arith, h .0); place-within = h .1 }
+    room-refused n adjacency weights e .1
 
 -- the same edges in another order, with the same weights, fill the same tables
 pub filled-same : {n k k′ m m′ : ℕ} {drawn : List ℕ} {edges edges′ : List Pair} {adjacency weights a a′ w w′ : List ℕ} → ((e : Pair) → among e edges ≡ among e edges′)

@@ -201,7 +201,7 @@ module _ (E : Edition) where
     back b buffers (singular f) B O k = absurd (omega (arith, k, kind-field 0 2 f 0 (omega arith) (omega arith) (opens-small O)))
     back b buffers (not-opened r) B O k =
         let small = opens-small O in
-        absurd (omega (arith, k, kind-field (r .cause) 0 (r .place) 0 (small .cause-below) (omega arith) (small .place-below)))
+        absurd (omega (arith, k, small .cause-below))
 
     module _ (b after : Buffers) (answer : ℕ) (B : Bytes (b .inverse)) (H : HostOpens E n adjacency weights b answer after) (k : kind-in answer ≡ 1) where
       h : Back b (H .buffers) (H .opening)

@@ -6,7 +6,7 @@ use Prim.Native.Nat.{ℕ, _%_, _^_, _<_}
 use native.Mathlib.Omega.{arith}
 use lib.ListN.{length, drop, List·getD-append}
 use Rattle.lists.specs.Onto.{onto}
-use Rattle.matching.specs.Decision.{Refusal, accepted, because}
+use Rattle.matching.specs.Decision.{index, place-number, Refusal, accepted}
 use Rattle.matching.specs.Edition.{Edition}
 use Rattle.matching.specs.Graph.{over}
 use Rattle.matching.specs.Pairs.{Pair}
@@ -41,7 +41,9 @@ read-numbers most (graph-read n m) (graph-read n′ m′) l h h′ e =
 read-numbers most (graph-read n m) (not-read why) l h h′ e = absurd (refusal-numbered why h′ e (read-low-byte most (graph-read n m) h))
 read-numbers most (not-read why) (graph-read n m) l h h′ e = absurd (refusal-numbered why h (sym e) (read-low-byte most (graph-read n m) h′))
 read-numbers most (not-read why) (not-read why′) l h h′ e =
-    ap not-read (ap₂ because {x = why .cause} {y = why′ .cause} (omega (arith, h .cause-below, h′ .cause-below)) (omega (arith, h .cause-below, h′ .cause-below)))
+    let c : why .cause ≡ why′ .cause = omega (arith, h .cause-below, h′ .cause-below) in
+    let p : place-number (why .place) ≡ place-number (why′ .place) = omega (arith, h .cause-below, h′ .cause-below) in
+    ap not-read (ap₂ (λ cause place. record { cause = cause; place = place }) c (h .is-index ∙ ap index p ∙ sym (h′ .is-index)))
 
 -- the other buffers that opening is lent are, as bytes, long enough for n vertices
 abbrev pub LongBytes : Edition → ℕ → Buffers → Type 0

@@ -13,7 +13,7 @@ use Rattle.modular.specs.Prime.{OddPrime}
 use Rattle.skew.specs.Subset.{Subset, _∈_, _∉_, Member, inside, outside, member?, Without, swap, without, without-same, count, count-of-empty, count-without}
 use Rattle.skew.specs.Same.{inverse-same}
 use Rattle.skew.specs.Matching.{pick-exists}
-use Rattle.matching.specs.Decision.{Refusal, because, First, nowhere, first-at, first?, both?, Ruling, accepted, refused, judge, Accepted, accepted?, Every, Lowest}
+use Rattle.matching.specs.Decision.{index, Refusal, because, First, nowhere, first-at, first?, both?, Ruling, accepted, refused, judge, Accepted, accepted?, Every, Lowest}
 use Rattle.matching.specs.Graph.{Graph, cell, upper, tutte, tutte-upper, tutte-lower, tutte-diagonal}
 use Rattle.matching.specs.Pairs.{Pair, pair-of, Pairs, unmatched, in?}
 use Rattle.matching.specs.Model.{Call, pick, automatic, undo, Answer, done, denied, named?, needs, skew, Nonsingular, nonsingular?, Adjacent, adjacent?, pick-ruling, Allowed, append, remove-last, step, pairs-after, OpenPartner, PicksToCome, stopped, picked}
@@ -31,11 +31,11 @@ pair-of-larger a b l =
 pub unlike : {a : Answer} {q : Pair} {r : Refusal} → a ≡ done q → a ≡ denied r → ⊥
 unlike u w = let z : _≡_ {A = ℕ} 0 1 = cc in omega arith
 
--- a refused pick has a cause from 7 to 10, and place 0
+-- a refused pick has a cause from 7 to 10, and index 0
 pub record RefusedPick (r : Refusal) : Type 0 where
   pub from-7 : 7 ≤ r .cause
   pub to-10 : r .cause ≤ 10
-  pub at-0 : r .place ≡ 0
+  pub at-0 : r .place ≡ index 0
 
 told : {r : Refusal} (k : ℕ) → 7 ≤ k → k ≤ 10 → refused (because k 0) ≡ refused r → RefusedPick r
 told {r} k l h q = let e : r ≡ because k 0 = cc in rw e (record { from-7 = l; to-10 = h; at-0 = refl })

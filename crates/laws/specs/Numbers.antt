@@ -1,30 +1,31 @@
 -- The host's number: each field is read back, different answers have different numbers, and the low byte is 0 exactly when a call was
 -- carried out; and every call through the host has exactly one outcome. Assumes nothing.
 use mathlib.Core.Path.{_≡_, refl, sym, ap, ap₂, subst, _∙_}
-use mathlib.Core.Logic.{_↔_}
+use mathlib.Core.Logic.{_≢_, _↔_}
 use mathlib.Core.List.{List, [], _∷_, _++_}
 use Prim.Native.Nat.{ℕ, zero, suc, _+_, _*_, _-_, _/_, _%_, _^_, _≤_, _<_}
 use native.Mathlib.Omega.{arith}
 use native.Mathlib.Decide.{ℕ-discrete, decLt}
 use lib.Dec.{lit<}
 use lib.ListN.{length, getD}
-use Rattle.lists.specs.Table.{square-small}
+use Rattle.lists.specs.Table.{square-small, row-below, column-below}
 use Rattle.lists.specs.Choose.{choose, choose-yes, choose-no}
 use Rattle.modular.specs.Prime.{OddPrime}
 use Rattle.skew.specs.Subset.{Subset}
-use Rattle.matching.specs.Decision.{Refusal, because, First, nowhere, first-at, Finding, absent, at, when, found, not?, Cause, Ruling, accepted, refused, unless, judge}
+use Rattle.matching.specs.Decision.{Place, index, faulty-cell, place-number, Refusal, because, because-cell, First, Finding, absent, at, when, found, not?, Cause, Ruling, accepted, refused, unless, judge}
 use Rattle.matching.specs.Edition.{Edition}
-use Rattle.matching.specs.Graph.{Graph, largest, pair-count}
+use Rattle.matching.specs.Graph.{Graph, largest, pair-count, Faulty}
 use Rattle.matching.specs.Pairs.{Pair, Pairs, unmatched, in?, pairs-on}
 use Rattle.matching.specs.Session.{Session, State, in-play, graph-of, pairs-of}
-use Rattle.matching.specs.Causes.{Lent, lent-row, lent-to-opening, lent-to-session, opening-causes, session-causes, first-short, too-large, too-short, bad-cell, bad-weight, first-faulty, first-outside, ill-formed, not-inverse, opening-ruling, session-ruling}
+use Rattle.matching.specs.Causes.{Lent, lent-row, lent-to-opening, lent-to-session, opening-causes, session-causes, first-short, too-large, too-short, bad-cell, bad-weight, first-faulty, cell-at, first-outside, ill-formed, not-inverse, opening-ruling, session-ruling}
 use Rattle.matching.specs.Decided.{well-formed?, inverse-table?}
 use Rattle.matching.specs.Opening.{Opening, opened, singular, not-opened, Buffers, Opens, refuses-opening, opens, finds-singular}
 use Rattle.matching.specs.Model.{Call, pick, Answer, done, denied, needs, Allowed, Step, Rule, picks, pick-refused, picks-lowest, none-left, no-pair, undo-refused, undoes}
 use Rattle.matching.specs.Calls.{Returned, state-after, Handles, unsound, refuses, carries, Runs, none, more, row-ruling, ShowsRow, shows, row-refused}
-use Rattle.matching.specs.Replay.{place-of, as-place, call-count, lent-answers, first-unknown, unknown-kind, list-causes, replay-ruling, Replays, refuses-replay, replays, replay-number, replay-stored, HostReplays}
-use Rattle.matching.specs.Host.{number, refusal-number, opening-number, answer-number, session-back, ruled-number, row-number, unpacked-state, state-stored, HostHandles, HostPickedExactly, HostShowsRow}
-use Rattle.laws.specs.Judge.{when-absent}
+use Rattle.matching.specs.Replay.{short-index, call-count, lent-answers, first-unknown, unknown-kind, list-causes, replay-ruling, Replays, refuses-replay, replays, replay-number, replay-stored, HostReplays}
+use Rattle.matching.specs.Host.{number, row-in, column-in, fault-in, refusal-number, opening-number, answer-number, session-back, ruled-number, row-number, unpacked-state, state-stored, HostHandles, HostPickedExactly, HostShowsRow}
+use Rattle.laws.specs.Judge.{clash, when-absent, found-lowest}
+use Rattle.laws.specs.Faults.{fault-lowest}
 use Rattle.laws.specs.ModelLaws.{refused-pick}
 use Rattle.laws.specs.Rules.{step-rule}
 use Rattle.laws.specs.History.{Change, appended, removed, unchanged, change, Moves, grows, shrinks, stays, change-moves}
@@ -53,11 +54,46 @@ smaller-field smaller larger h = omega arith
 pub larger-field : (smaller larger : ℕ) → smaller < 2 ^ 8 → (smaller + 2 ^ 8 * larger) / 2 ^ 8 ≡ larger
 larger-field smaller larger h = omega arith
 
+-- the row, the column and the fault of a cell
+module _ (i j f : ℕ) (hi : i < 2 ^ 8) (hj : j < 2 ^ 8) where
+  pub row-field : row-in (refusal-number (because-cell i j f)) ≡ i
+  row-field = omega arith
+
+  pub column-field : column-in (refusal-number (because-cell i j f)) ≡ j
+  column-field = omega arith
+
+  pub fault-field : f < 2 ^ 8 → fault-in (refusal-number (because-cell i j f)) ≡ f
+  fault-field hf = omega arith
+
+-- the place of a cause fits its bits: cause 3, and only cause 3, has a cell
+abbrev pub PlaceFits : ℕ → Place → Type 0
+PlaceFits k (index x) = (k ≢ 3) × (x < 2 ^ 16)
+PlaceFits k (faulty-cell i j f) = (k ≡ 3) × (i < largest) × (j < largest) × (0 < f) × (f < 4)
+
+place-small : (k : ℕ) (x : Place) → PlaceFits k x → place-number x < 2 ^ 24
+place-small k (index x) h = omega (arith, h .1)
+place-small k (faulty-cell i j f) h = omega (arith, h .1, h .2, h .4)
+
+-- two different places have different numbers: that of a cell needs more than 16 bits
+places-same : (k : ℕ) (x y : Place) → PlaceFits k x → PlaceFits k y → place-number x ≡ place-number y → x ≡ y
+places-same k (index x) (index y) a b e = ap index e
+places-same k (index x) (faulty-cell i j f) a b e = absurd (omega (arith, a .1, b .3, e))
+places-same k (faulty-cell i j f) (index y) a b e = absurd (omega (arith, b .1, a .3, e))
+places-same k (faulty-cell i j f) (faulty-cell i′ j′ f′) a b e =
+    let n : refusal-number (because-cell i j f) ≡ refusal-number (because-cell i′ j′ f′) = ap (λ z. 3 + 2 ^ 16 * z) e in
+    let qi : i ≡ i′ = sym (row-field i j f (omega (arith, a .1)) (omega (arith, a .2))) ∙ ap row-in n ∙ row-field i′ j′ f′ (omega (arith, b .1)) (omega (arith, b .2)) in
+    let qj : j ≡ j′ = sym (column-field i j f (omega (arith, a .1)) (omega (arith, a .2))) ∙ ap column-in n ∙ column-field i′ j′ f′ (omega (arith, b .1)) (omega (arith, b .2)) in
+    let qf : f ≡ f′ = omega (arith, qi, qj, e) in
+    rw (qi, qj, qf) refl
+
 -- what fits into the fields: a cause is not 0
 pub record Small (r : Refusal) : Type 0 where
   pub cause-from : 1 ≤ r .cause
   pub cause-below : r .cause < 2 ^ 8
-  pub place-below : r .place < 2 ^ 16
+  pub place-fits : PlaceFits (r .cause) (r .place)
+
+pub place-below : {r : Refusal} → Small r → place-number (r .place) < 2 ^ 24
+place-below {r} h = place-small (r .cause) (r .place) (h .place-fits)
 
 -- what fits of an opening of n vertices: its session has n vertices
 abbrev pub SmallOpening : ℕ → Opening → Type 0
@@ -91,8 +127,9 @@ answer-low-byte (denied r) s h = omega arith
 same-refusal : {q r : Refusal} → Small q → Small r → refusal-number q ≡ refusal-number r → q ≡ r
 same-refusal {q} {r} a b e =
     let c : q .cause ≡ r .cause = omega arith in
-    let p : q .place ≡ r .place = omega arith in
-    ap₂ because c p
+    let n : place-number (q .place) ≡ place-number (r .place) = omega arith in
+    let p : q .place ≡ r .place = places-same (r .cause) (q .place) (r .place) (rw c at (a .place-fits)) (b .place-fits) n in
+    ap₂ (λ cause place. record { cause = cause; place = place }) c p
 
 -- two different openings of n vertices have different numbers
 pub opening-numbers : (n : ℕ) (o o′ : Opening) → SmallOpening n o → SmallOpening n o′ → opening-number o ≡ opening-number o′ → o ≡ o′
@@ -142,41 +179,45 @@ ruled-numbers kind (refused q) (refused r) s t l h k e = ap refused (same-refusa
 
 -- a refusal by the first cause, at its place, or by a later one
 data Judged (f : Finding) (k : ℕ) (later : Ruling) (r : Refusal) : Type 0 where
-  here : (x : ℕ) → f ≡ at x → r ≡ because k x → Judged f k later r
+  here : (x : Place) → f ≡ at x → r ≡ record { cause = k; place = x } → Judged f k later r
   there : f ≡ absent → later ≡ refused r → Judged f k later r
 
 judged : (f : Finding) (k : ℕ) (later : Ruling) {r : Refusal} → unless f k later ≡ refused r → Judged f k later r
 judged (at x) k later {r} e = here x refl (cc)
 judged absent k later e = there refl e
 
-place-when : {A : Type 0} (d : Dec A) (y : ℕ) {x : ℕ} → when d y ≡ at x → x ≡ y
-place-when (yes _) y e = cc
-place-when (no _) y e = absurd (let z : _≡_ {A = ℕ} 0 1 = cc in omega arith)
+-- places that fit: of a condition, of the first number, of the first short buffer
+place-when : {A : Type 0} (k : ℕ) (d : Dec A) (y : ℕ) → k ≢ 3 → y < 2 ^ 16 → (x : Place) → when d y ≡ at x → PlaceFits k x
+place-when k (yes _) y c h x e = let q : index y ≡ x = cc in subst (PlaceFits k) q (c, h)
+place-when k (no _) y c h x e = clash (sym e)
 
-place-found : {n x : ℕ} {Q : ℕ → Type 0} (f : First n Q) → found f ≡ at x → x < n
-place-found (nowhere _) e = absurd (let z : _≡_ {A = ℕ} 0 1 = cc in omega arith)
-place-found {x = x} (first-at y l _ _) e = let q : y ≡ x = cc in rw q at l
+place-found : {n : ℕ} {Q : ℕ → Type 0} (k : ℕ) (place : ℕ → Place) (f : First n Q) → ((y : ℕ) → y < n → Q y → PlaceFits k (place y))
+    → (x : Place) → found place f ≡ at x → PlaceFits k x
+place-found k place f h x e = let l = found-lowest place f e in rw (l .2) (h (l .0) (l .1 .below) (l .1 .holds))
 
 -- every buffer's number is small
 abbrev SmallNumbers : List Lent → Type 0
 SmallNumbers [] = Unit {0}
 SmallNumbers (b ∷ later) = (b .number < 2 ^ 16) × SmallNumbers later
 
-place-short : (buffers : List Lent) {x : ℕ} → SmallNumbers buffers → first-short buffers ≡ at x → x < 2 ^ 16
-place-short [] h e = absurd (let z : _≡_ {A = ℕ} 0 1 = cc in omega arith)
-place-short (b ∷ later) {x} h e = go (decLt (b .length) (b .needed)) e (λ k. place-short later (h .1) k)
+place-short : (buffers : List Lent) → SmallNumbers buffers → (x : Place) → first-short buffers ≡ at x → PlaceFits 2 x
+place-short [] h x e = clash (sym e)
+place-short (b ∷ later) h x e = go (decLt (b .length) (b .needed)) e (place-short later (h .1) x)
   where
-    go : (d : Dec (b .length < b .needed)) → choose d (at (b .number)) (first-short later) ≡ at x → (first-short later ≡ at x → x < 2 ^ 16) → x < 2 ^ 16
-    go (yes _) e r = let q : b .number ≡ x = cc in rw q at (h .0)
+    go : (d : Dec (b .length < b .needed)) → choose d (at (index (b .number))) (first-short later) ≡ at x → (first-short later ≡ at x → PlaceFits 2 x) → PlaceFits 2 x
+    go (yes _) e r = place-when {A = Unit {0}} 2 (yes tt) (b .number) (λ z. omega arith) (h .0) x e
     go (no _) e r = r e
 
-small : (k x : ℕ) {r : Refusal} → r ≡ because k x → 1 ≤ k → k < 2 ^ 8 → x < 2 ^ 16 → Small r
-small k x e l h p = rw e (record { cause-from = l; cause-below = h; place-below = p })
+small : (k : ℕ) (x : Place) {r : Refusal} → r ≡ record { cause = k; place = x } → 1 ≤ k → k < 2 ^ 8 → PlaceFits k x → Small r
+small k x e l h p = rw e (record { cause-from = l; cause-below = h; place-fits = p })
+
+small-index : (k x : ℕ) {r : Refusal} → r ≡ because k x → 1 ≤ k → k < 2 ^ 8 → k ≢ 3 → x < 2 ^ 16 → Small r
+small-index k x e l h c p = small k (index x) e l h (c, p)
 
 -- causes whose numbers and places are small, and a refusal by one of them
 abbrev SmallCauses : List Cause → Type 0
 SmallCauses [] = Unit {0}
-SmallCauses (c ∷ later) = (1 ≤ c .number) × (c .number < 2 ^ 8) × ((x : ℕ) → c .finding ≡ at x → x < 2 ^ 16) × SmallCauses later
+SmallCauses (c ∷ later) = (1 ≤ c .number) × (c .number < 2 ^ 8) × ((x : Place) → c .finding ≡ at x → PlaceFits (c .number) x) × SmallCauses later
 
 small-judged : (causes : List Cause) {r : Refusal} → SmallCauses causes → judge causes ≡ refused r → Small r
 small-judged [] h e = absurd (let z : _≡_ {A = ℕ} 0 1 = cc in omega arith)
@@ -186,9 +227,9 @@ small-judged (c ∷ later) {r} h e = go (judged (c .finding) (c .number) (judge 
     go (here x q t) rest = small (c .number) x t (h .0) (h .1) (h .2 x q)
     go (there _ t) rest = rest t
 
--- a cause at place 0
-at-zero : {A : Type 0} (d : Dec A) (x : ℕ) → when d 0 ≡ at x → x < 2 ^ 16
-at-zero d x q = omega (arith, place-when d 0 q)
+-- a cause other than 3 at index 0
+at-zero : {A : Type 0} (k : ℕ) (d : Dec A) → k ≢ 3 → (x : Place) → when d 0 ≡ at x → PlaceFits k x
+at-zero k d c = place-when k d 0 c (omega arith)
 
 -- a refusal by causes 1 to 4 is small, and so is one by later causes that are small
 small-causes : (p : ℕ) (g : Graph) (buffers : List Lent) (later : List Cause) {r : Refusal} → SmallNumbers buffers → SmallCauses later
@@ -196,8 +237,10 @@ small-causes : (p : ℕ) (g : Graph) (buffers : List Lent) (later : List Cause) 
 unfolding bad-cell bad-weight
 small-causes p g buffers later {r} numbers rest e = size (judged (too-large (g .n) .finding) 1 _ e)
   where
-    cell-place : g .n ≤ largest → (x : ℕ) → x < g .n * g .n → x < 2 ^ 16
-    cell-place h x l = omega (arith, square-small (g .n) h)
+    cell-fits : g .n ≤ largest → (x : ℕ) → x < g .n * g .n → Faulty g x → PlaceFits 3 (cell-at g x)
+    cell-fits h x l d =
+        let f = fault-lowest g (x / g .n) (x % g .n) d in
+        (refl, omega (arith, row-below (g .n) x l), omega (arith, column-below (g .n) x l), omega (arith, d), f .below)
 
     pairs-few : g .n ≤ largest → (x : ℕ) → x < pair-count (g .n) → x < 2 ^ 16
     pairs-few h x l = omega (arith, square-small (g .n) h, pairs-below (g .n))
@@ -206,20 +249,21 @@ small-causes p g buffers later {r} numbers rest e = size (judged (too-large (g .
         pairs-below zero = omega arith
         pairs-below (suc n) = let e : suc n - 1 ≡ n = omega arith in rw e (omega arith)
 
-    weights : g .n ≤ largest → Judged (found (first-outside p g)) 4 (judge later) r → Small r
-    weights h (here x q t) = small 4 x t (omega arith) (omega arith) (pairs-few h x (place-found (first-outside p g) q))
+    weights : g .n ≤ largest → Judged (found index (first-outside p g)) 4 (judge later) r → Small r
+    weights h (here x q t) =
+        small 4 x t (omega arith) (omega arith) (place-found 4 index (first-outside p g) (λ y l _. (λ z. omega arith, pairs-few h y l)) x q)
     weights h (there _ t) = small-judged later rest t
 
-    cells : g .n ≤ largest → Judged (found (first-faulty g)) 3 (judge (bad-weight p g ∷ later)) r → Small r
-    cells h (here x q t) = small 3 x t (omega arith) (omega arith) (cell-place h x (place-found (first-faulty g) q))
+    cells : g .n ≤ largest → Judged (found (cell-at g) (first-faulty g)) 3 (judge (bad-weight p g ∷ later)) r → Small r
+    cells h (here x q t) = small 3 x t (omega arith) (omega arith) (place-found 3 (cell-at g) (first-faulty g) (cell-fits h) x q)
     cells h (there _ t) = weights h (judged _ 4 _ t)
 
     lengths : g .n ≤ largest → Judged (first-short buffers) 2 (judge (bad-cell g ∷ bad-weight p g ∷ later)) r → Small r
-    lengths h (here x q t) = small 2 x t (omega arith) (omega arith) (place-short buffers numbers q)
+    lengths h (here x q t) = small 2 x t (omega arith) (omega arith) (place-short buffers numbers x q)
     lengths h (there _ t) = cells h (judged _ 3 _ t)
 
     size : Judged (too-large (g .n) .finding) 1 (judge (too-short buffers ∷ bad-cell g ∷ bad-weight p g ∷ later)) r → Small r
-    size (here x q t) = small 1 x t (omega arith) (omega arith) (omega (arith, place-when (decLt largest (g .n)) 0 q))
+    size (here x q t) = small 1 x t (omega arith) (omega arith) (at-zero 1 (decLt largest (g .n)) (λ z. omega arith) x q)
     size (there q t) =
         let d : ¬ (largest < g .n) = when-absent (decLt largest (g .n)) 0 .0 q in lengths (omega arith) (judged _ 2 _ t)
 
@@ -245,7 +289,7 @@ module _ {p : ℕ} (P : OddPrime p) where
       small-causes p (graph-of s) (lent-to-session s besides)
       (ill-formed (graph-of s) (s .session .made) (s .sequence) ∷ not-inverse p (graph-of s) (unmatched (in-play s) (pairs-of s)) (s .inverse) ∷ later)
       (omega arith, (omega arith, (omega arith, (omega arith, h))))
-      (omega arith, omega arith, at-zero (not? (well-formed? (graph-of s) (s .session .made) (s .sequence))), (omega arith, omega arith, at-zero (not? (inverse-table? p (graph-of s) (unmatched (in-play s) (pairs-of s)) (s .inverse))), k)) e
+      (omega arith, omega arith, at-zero 5 (not? (well-formed? (graph-of s) (s .session .made) (s .sequence))) (λ z. omega arith), (omega arith, omega arith, at-zero 6 (not? (inverse-table? p (graph-of s) (unmatched (in-play s) (pairs-of s)) (s .inverse))) (λ z. omega arith), k)) e
 
   unsound-small : (s : State) {r : Refusal} → session-ruling p s ≡ refused r → Small r
   unfolding session-ruling
@@ -255,13 +299,10 @@ module _ {p : ℕ} (P : OddPrime p) where
   rule-small g {S} {pairs} {r = r} (pick-refused {a} {b} {r = w} e) q =
       let t = refused-pick P g S pairs a b {r = w} e in
       let d : w ≡ r = cc in
-      rw d at (the w (record { cause-from = omega (arith, t .from-7); cause-below = omega (arith, t .to-10); place-below = omega (arith, t .at-0) }))
-    where
-      the : (w : Refusal) → Small w → Small w
-      the w h = h
-  rule-small g {r = r} (none-left _) q = small 11 0 (cc) (omega arith) (omega arith) (omega arith)
-  rule-small g {r = r} (no-pair _) q = small 11 0 (cc) (omega arith) (omega arith) (omega arith)
-  rule-small g {r = r} (undo-refused _ _) q = small 10 0 (cc) (omega arith) (omega arith) (omega arith)
+      rw d at (small-index (w .cause) 0 (ap (λ place. record { cause = w .cause; place = place }) (t .at-0)) (omega (arith, t .from-7)) (omega (arith, t .to-10)) (λ z. omega (arith, t .from-7)) (omega arith))
+  rule-small g {r = r} (none-left _) q = small-index 11 0 (cc) (omega arith) (omega arith) (λ z. omega arith) (omega arith)
+  rule-small g {r = r} (no-pair _) q = small-index 11 0 (cc) (omega arith) (omega arith) (λ z. omega arith) (omega arith)
+  rule-small g {r = r} (undo-refused _ _) q = small-index 10 0 (cc) (omega arith) (omega arith) (λ z. omega arith) (omega arith)
   rule-small g (picks _) q = absurd (let z : _≡_ {A = ℕ} 0 1 = cc in omega arith)
   rule-small g (picks-lowest _ _) q = absurd (let z : _≡_ {A = ℕ} 0 1 = cc in omega arith)
   rule-small g (undoes _ _) q = absurd (let z : _≡_ {A = ℕ} 0 1 = cc in omega arith)
@@ -345,26 +386,28 @@ module _ {p : ℕ} (P : OddPrime p) where
       (more-accepted p s (lent-row (s .session .size) (length row) ∷ []) (needs 7 (decLt a (s .session .size)) ∷ needs 8 (in? (unmatched (in-play s) (pairs-of s)) a) ∷ []) .0 e .0)
   row-small {s} {a = a} {row = row} (row-refused r e) =
       session-small s (lent-row (s .session .size) (length row) ∷ []) (needs 7 (decLt a (s .session .size)) ∷ needs 8 (in? (unmatched (in-play s) (pairs-of s)) a) ∷ []) (omega arith, tt)
-      (omega arith, omega arith, at-zero (not? (decLt a (s .session .size))), (omega arith, omega arith, at-zero (not? (in? (unmatched (in-play s) (pairs-of s)) a)), tt)) e
+      (omega arith, omega arith, at-zero 7 (not? (decLt a (s .session .size))) (λ z. omega arith), (omega arith, omega arith, at-zero 8 (not? (in? (unmatched (in-play s) (pairs-of s)) a)) (λ z. omega arith), tt)) e
 
   list-small : (numbers : List ℕ) → SmallCauses (list-causes numbers)
   unfolding unknown-kind
-  list-small numbers =
-      (omega arith, omega arith, unknown (found (first-unknown numbers)), (omega arith, omega arith, cut (not? (ℕ-discrete (length numbers % 3) 0)), tt))
+  list-small numbers = (
+    omega arith,
+    omega arith,
+    place-found 12 (λ i. index (short-index i)) (first-unknown numbers) (λ i _ _. (λ z. omega arith, short i)),
+    (
+      omega arith,
+      omega arith,
+      place-when 13 (not? (ℕ-discrete (length numbers % 3) 0)) (short-index (call-count numbers)) (λ z. omega arith) (short (call-count numbers)),
+      tt,
+    ),
+  )
     where
-      place-small : (i : ℕ) → place-of i < 2 ^ 16
-      place-small i = go (decLt i 65535)
+      short : (i : ℕ) → short-index i < 2 ^ 16
+      short i = go (decLt i 65535)
         where
-          go : Dec (i < 65535) → place-of i < 2 ^ 16
+          go : Dec (i < 65535) → short-index i < 2 ^ 16
           go (yes l) = rw (choose-yes (decLt i 65535) i 65535 l) (omega arith)
           go (no l) = rw (choose-no (decLt i 65535) i 65535 l) (lit< tt)
-
-      unknown : (f : Finding) (x : ℕ) → as-place f ≡ at x → x < 2 ^ 16
-      unknown absent x q = absurd (let z : _≡_ {A = ℕ} 0 1 = cc in omega arith)
-      unknown (at i) x q = let w : place-of i ≡ x = cc in rw w at (place-small i)
-
-      cut : {A : Type 0} (d : Dec A) (x : ℕ) → when d (place-of (call-count numbers)) ≡ at x → x < 2 ^ 16
-      cut d x q = rw (place-when d (place-of (call-count numbers)) q) (place-small (call-count numbers))
 
   pub replays-small : {s t : State} {numbers answers answers′ : List ℕ} {v : Ruling} → Replays P s numbers answers v t answers′ → SmallRuling v (t .session)
   unfolding replay-ruling

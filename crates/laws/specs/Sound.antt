@@ -8,20 +8,20 @@ use native.Mathlib.Omega.{arith}
 use native.Mathlib.Decide.{ℕ-discrete, decLt}
 use lib.ListN.{length}
 use Rattle.lists.specs.Choose.{choose}
-use Rattle.matching.specs.Decision.{Every, absent, at, when, Cause, accepted, judge}
+use Rattle.matching.specs.Decision.{Every, index, absent, at, when, Cause, accepted, judge}
 use Rattle.matching.specs.Graph.{Graph, largest, pair-count, fault, InRange, InOrder}
 use Rattle.matching.specs.Session.{State, in-play, graph-of, pairs-of, InverseTable, WellFormed}
 use Rattle.matching.specs.Pairs.{unmatched}
 use Rattle.matching.specs.Decided.{inverse-table?, well-formed?}
-use Rattle.matching.specs.Causes.{Lent, LongEnough, lent-graph, lent-to-opening, opening-causes, lent-to-session, session-causes, too-large, first-short, first-faulty, bad-cell, in-range?, first-outside, bad-weight, ill-formed, not-inverse, opening-ruling, session-ruling}
-use Rattle.laws.specs.Judge.{clash, NoneApplies, judge-accepted, when-absent, unless-absent, found-absent}
+use Rattle.matching.specs.Causes.{Lent, LongEnough, lent-graph, lent-to-opening, opening-causes, lent-to-session, session-causes, too-large, first-short, first-faulty, cell-at, bad-cell, in-range?, first-outside, bad-weight, ill-formed, not-inverse, opening-ruling, session-ruling}
+use Rattle.laws.specs.Judge.{stable, clash, NoneApplies, judge-accepted, when-absent, unless-absent, found-absent}
 
 pub short-absent : (buffers : List Lent) → (first-short buffers ≡ absent) ↔ LongEnough buffers
 short-absent [] = (λ _. tt, λ _. refl)
 short-absent (b ∷ later) = go (decLt (b .length) (b .needed)) (short-absent later)
   where
     go : (d : Dec (b .length < b .needed)) → (first-short later ≡ absent) ↔ LongEnough later
-        → (choose d (at (b .number)) (first-short later) ≡ absent) ↔ ((b .needed ≤ b .length) × LongEnough later)
+        → (choose d (at (index (b .number))) (first-short later) ≡ absent) ↔ ((b .needed ≤ b .length) × LongEnough later)
     go (yes l) r = (λ e. clash e, λ h. absurd (omega (arith, h .0)))
     go (no l) r = (λ e. (omega arith, r .0 e), λ h. r .1 (h .1))
 
@@ -70,10 +70,6 @@ session-fits s more = (
   λ f. (f .0 .graph .cells, (f .0 .graph .weights, (f .0 .inverse-fits, (f .0 .sequence-fits, f .1)))),
 )
 
-stable : {A : Type 0} → Dec A → ¬ ¬ A → A
-stable (yes a) _ = a
-stable (no n) d = absurd (d n)
-
 size-ok : (n : ℕ) → (too-large n .finding ≡ absent) ↔ (n ≤ largest)
 size-ok n =
     let r = when-absent (decLt largest n) 0 in
@@ -82,13 +78,13 @@ size-ok n =
 cells-ok : (g : Graph) → (bad-cell g .finding ≡ absent) ↔ Every (g .n * g .n) (λ x. fault g (x / g .n) (x % g .n) ≡ 0)
 unfolding bad-cell
 cells-ok g =
-    let r = found-absent (first-faulty g) in
+    let r = found-absent (cell-at g) (first-faulty g) in
     (λ e x l. stable (ℕ-discrete (fault g (x / g .n) (x % g .n)) 0) (r .0 e x l), λ h. r .1 (λ x l d. d (h x l)))
 
 weights-ok : (p : ℕ) (g : Graph) → (bad-weight p g .finding ≡ absent) ↔ Every (pair-count (g .n)) (InRange g p)
 unfolding bad-weight
 weights-ok p g =
-    let r = found-absent (first-outside p g) in
+    let r = found-absent index (first-outside p g) in
     (λ e x l. stable (in-range? p g x) (r .0 e x l), λ h. r .1 (λ x l d. d (h x l)))
 
 -- none of opening's causes applies exactly when the buffers are long enough and the graph is in order

@@ -8,7 +8,7 @@ use native.Mathlib.Decide.{decLt}
 use lib.ListN.{length}
 use Rattle.lists.specs.Choose.{choose-yes, choose-no}
 use Rattle.draws.specs.Draws.{draws}
-use Rattle.matching.specs.Decision.{Refusal, because, accepted}
+use Rattle.matching.specs.Decision.{place-number, Refusal, because, accepted}
 use Rattle.matching.specs.Edition.{Edition}
 use Rattle.matching.specs.Graph.{over, largest, pair-count}
 use Rattle.matching.specs.Pairs.{Pair}
@@ -19,7 +19,7 @@ use Rattle.matching.specs.Dimacs.{Line, Begins, begins-comment, begins-problem,
 use Rattle.matching.specs.DimacsComputed.{field-unique, space-no-digit, line-feed-no-digit, skips-unique, line-shorter, read-text}
 use Rattle.matching.specs.Host.{words, Bytes, cause-in, size-in, line-in, read-number, weights-stored, line-place, capped, HostReadsText, HostOpens}
 use Rattle.laws.specs.Edges.{EdgesFit, Different, fit-more}
-use Rattle.laws.specs.Filling.{Fit, draws-fit, filled-accepted, filled-some, filled-unique, Within, AnswerBounds, more-bounds, room-refused, filled-answer}
+use Rattle.laws.specs.Filling.{Fit, draws-fit, filled-accepted, filled-some, filled-unique, Within, within, AnswerBounds, more-bounds, room-refused, filled-answer}
 use Rattle.laws.specs.HostFilling.{ReadIn, LongBytes, read-cause, read-numbers, refusal-numbered, filled-in, read-opens}
 
 no-bytes : {A : Type 0} {l : Line} {rest : List ℕ} → Begins l [] rest → A
@@ -165,13 +165,13 @@ rejects-within (too-large-size _) = (omega arith, omega arith)
 rejects-within (not-two _) = (omega arith, omega arith)
 
 reads-within : {q : Progress} {line most : ℕ} {bytes : List ℕ} {r : Reading} {why : Refusal} → Reads q line bytes r → r ≡ unread why → line + length bytes ≤ most → Within most why
-reads-within no-problem e h = given-within (because 16 0) e (record { cause-from = omega arith; cause-below = omega arith; place-within = omega arith })
-reads-within (not-announced _) e h = given-within (because 17 0) e (record { cause-from = omega arith; cause-below = omega arith; place-within = omega arith })
+reads-within no-problem e h = given-within (because 16 0) e (within 16 0 (omega arith) (omega arith) (omega arith))
+reads-within (not-announced _) e h = given-within (because 17 0) e (within 17 0 (omega arith) (omega arith) (omega arith))
 reads-within (whole _) e h = never (cc)
 reads-within {line = line} (no-form _) e h =
-    given-within (because 16 line) e (record { cause-from = omega arith; cause-below = omega arith; place-within = omega arith })
+    given-within (because 16 line) e (within 16 line (omega arith) (omega arith) (omega arith))
 reads-within {line = line} (rejected {cause = k} b j) e h =
-    let c = rejects-within j in given-within (because k line) e (record { cause-from = c .0; cause-below = c .1; place-within = omega arith })
+    let c = rejects-within j in given-within (because k line) e (within k line (c .0) (c .1) (omega arith))
 reads-within (goes-on b t R) e h = reads-within R e (omega (arith, line-shorter b))
 
 pub text-answer : {E : Edition} {seed : ℕ} {bytes adjacency weights a w : List ℕ} {given : Read} → FillsText E seed bytes adjacency weights given a w
@@ -242,13 +242,15 @@ pub line-last : (line : ℕ) → ¬ (line < 2 ^ 47 - 1) → line-place line ≡ 
 line-last line l = choose-no (decLt line (2 ^ 47 - 1)) line (2 ^ 47 - 1) l
 
 -- so it comes back
-pub line-back : {most : ℕ} (r : Refusal) → most < 2 ^ 47 - 1 → Within most r → line-in (read-number (capped (not-read r))) ≡ r .place
-line-back r l h = rw (line-same (r .place) (omega (arith, h .place-within))) (omega (arith, h .cause-below, h .place-within))
+pub line-back : {most : ℕ} (r : Refusal) → most < 2 ^ 47 - 1 → Within most r → line-in (read-number (capped (not-read r))) ≡ place-number (r .place)
+line-back r l h = rw (line-same (place-number (r .place)) (omega (arith, h .place-within))) (omega (arith, h .cause-below, h .place-within))
 
 -- so two different answers to a text of fewer than 2 ^ 47 - 3 bytes have different numbers
 capped-same : {most : ℕ} (o : Read) → most < 2 ^ 47 - 1 → AnswerBounds o most → capped o ≡ o
 capped-same (graph-read n m) l h = refl
-capped-same (not-read r) l h = ap (λ p. not-read (because (r .cause) p)) (line-same (r .place) (omega (arith, h .place-within)))
+capped-same (not-read r) l h =
+    ap (λ line. not-read (because (r .cause) line)) (line-same (place-number (r .place)) (omega (arith, h .place-within)))
+    ∙ ap (λ place. not-read (record { cause = r .cause; place = place })) (sym (h .is-index))
 
 pub text-numbers : (most : ℕ) (o o′ : Read) → most < 2 ^ 47 - 1 → AnswerBounds o most → AnswerBounds o′ most → read-number (capped o) ≡ read-number (capped o′)
     → o ≡ o′
@@ -261,8 +263,8 @@ text-numbers most o o′ l h h′ e =
 module _ {E : Edition} {seed : ℕ} {bytes adjacency weights a w : List ℕ} {k : ℕ} (B : Bytes weights) (H : HostReadsText E seed bytes adjacency weights k a w) (none : cause-in k ≡ 0) where
   refused-lines : {most : ℕ} (why : Refusal) → Within most why → k ≡ read-number (capped (not-read why)) → ⊥
   refused-lines why h e =
-      refusal-numbered {most = line-place (why .place)} (because (why .cause) (line-place (why .place)))
-      (record { cause-from = h .cause-from; cause-below = h .cause-below; place-within = omega arith }) e none
+      let line = line-place (place-number (why .place)) in
+      refusal-numbered {most = line} (because (why .cause) line) (within (why .cause) line (h .cause-from) (h .cause-below) (omega arith)) e none
 
   text-in : ReadIn E k adjacency weights a w
   text-in = go (H .given) (H .outcome) (H .numbered) (H .stored)

@@ -21,7 +21,11 @@ fn sheet_lines(bytes: &[u8], adjacency: &mut [u8], weights: &mut [u16], text: &m
 {
     let read = reader::read(bytes, adjacency, weights);
     match read {
-        Read::Refused(why) => text::refused_line(text, 0, why.cause as usize, why.place),
+        Read::Refused(why) => {
+            let place = why.place;
+            let index = refusals::place_number(place);
+            text::refused_line(text, 0, why.cause as usize, index)
+        }
         Read::Graph(extent) => {
             let n = extent.size;
             let cells = n * n;

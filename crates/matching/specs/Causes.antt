@@ -6,7 +6,7 @@ use native.Mathlib.Decide.{ℕ-discrete, decLt}
 use lib.ListN.{length, getD}
 use Rattle.lists.specs.Choose.{choose}
 use Rattle.skew.specs.Subset.{Subset}
-use Rattle.matching.specs.Decision.{both?, not?, First, first?, Finding, absent, at, when, found, Cause, Ruling, judge}
+use Rattle.matching.specs.Decision.{both?, not?, First, first?, Place, index, faulty-cell, Finding, absent, at, when, found, Cause, Ruling, judge}
 use Rattle.matching.specs.Graph.{Graph, largest, pair-count, fault, Faulty, InRange}
 use Rattle.matching.specs.Pairs.{unmatched}
 use Rattle.matching.specs.Session.{State, in-play, graph-of, pairs-of}
@@ -64,20 +64,25 @@ too-large n = record { number = 1; finding = when (decLt largest n) 0 }
 
 abbrev pub first-short : List Lent → Finding
 first-short [] = absent
-first-short (b ∷ later) = choose (decLt (b .length) (b .needed)) (at (b .number)) (first-short later)
+first-short (b ∷ later) = choose (decLt (b .length) (b .needed)) (at (index (b .number))) (first-short later)
 
 -- 2: a lent buffer too short, at the number of the first of them
 abbrev pub too-short : List Lent → Cause
 too-short buffers = record { number = 2; finding = first-short buffers }
 
--- 3: a cell of the adjacency table not 0 or 1, not 0 on the diagonal, or unequal to its mirror, at the first index, row by row
+-- 3: a cell of the adjacency table not 0 or 1, not 0 on the diagonal, or unequal to its mirror, at the first such cell, row by row, and
+-- with the first of these three faults that it has
 unfoldable pub first-faulty : (g : Graph) → First (g .n * g .n) (Faulty g)
 unfolding first? fault ℕ-discrete
 first-faulty g = first? (Faulty g) (g .n * g .n) (λ x. not? (ℕ-discrete (fault g (x / g .n) (x % g .n)) 0))
 
+-- the cell with this index, row by row, and its fault
+abbrev pub cell-at : Graph → ℕ → Place
+cell-at g x = faulty-cell (x / g .n) (x % g .n) (fault g (x / g .n) (x % g .n))
+
 unfoldable pub bad-cell : Graph → Cause
 unfolding first-faulty
-bad-cell g = record { number = 3; finding = found (first-faulty g) }
+bad-cell g = record { number = 3; finding = found (cell-at g) (first-faulty g) }
 
 -- 4: a weight outside 1 .. p - 1, at the first index
 abbrev pub in-range? : (p : ℕ) (g : Graph) (x : ℕ) → Dec (InRange g p x)
@@ -89,7 +94,7 @@ first-outside p g = first? (λ x. ¬ InRange g p x) (pair-count (g .n)) (λ x. n
 
 unfoldable pub bad-weight : ℕ → Graph → Cause
 unfolding first-outside
-bad-weight p g = record { number = 4; finding = found (first-outside p g) }
+bad-weight p g = record { number = 4; finding = found index (first-outside p g) }
 
 -- 5: the session not well formed
 unfoldable pub ill-formed : Graph → ℕ → List ℕ → Cause

@@ -11,7 +11,7 @@ use Rattle.lists.specs.Choose.{choose}
 use Rattle.lists.specs.Onto.{onto}
 use Rattle.draws.specs.Draws.{draws}
 use Rattle.skew.specs.Inverse.{Invertible}
-use Rattle.matching.specs.Decision.{Refusal, because, Ruling, accepted, refused, judge}
+use Rattle.matching.specs.Decision.{place-number, Refusal, because, Ruling, accepted, refused, judge}
 use Rattle.matching.specs.Edition.{Edition}
 use Rattle.matching.specs.Graph.{over, pair-count, tutte}
 use Rattle.matching.specs.Session.{Session, State, in-play, graph-of, pairs-of}
@@ -54,7 +54,8 @@ bytes-of w (x ∷ rest) = low-bytes w x ++ bytes-of w rest
 abbrev pub number : (cause kind value made : ℕ) → ℕ
 number cause kind value made = cause + 2 ^ 8 * kind + 2 ^ 16 * value + 2 ^ 32 * made
 
--- what stands in a number: the cause, the answer-kind, the number of pairs, that of the vertices of a graph, the line of a refusal
+-- what stands in a number: the cause, the answer-kind, the number of pairs, that of the vertices of a graph, the line of a refusal, and the
+-- row, the column and the fault of a cell
 abbrev pub cause-in : ℕ → ℕ
 cause-in answer = answer % 2 ^ 8
 
@@ -70,9 +71,19 @@ size-in answer = answer / 2 ^ 32 % 2 ^ 8
 abbrev pub line-in : ℕ → ℕ
 line-in answer = answer / 2 ^ 16 % 2 ^ 47
 
--- the number of a refusal. Bits 0 to 7: the cause; 8 to 15: 0; from 16 on the place, which takes 16 bits, or 47 if it is the line of a text
+abbrev pub row-in : ℕ → ℕ
+row-in answer = answer / 2 ^ 16 % 2 ^ 8
+
+abbrev pub column-in : ℕ → ℕ
+column-in answer = answer / 2 ^ 24 % 2 ^ 8
+
+abbrev pub fault-in : ℕ → ℕ
+fault-in answer = answer / 2 ^ 32 % 2 ^ 8
+
+-- the number of a refusal. Bits 0 to 7: the cause; 8 to 15: 0; from 16 on the place: an index of 16 bits, or 47 if it is the line of a text;
+-- or a cell, its row in bits 16 to 23, its column in 24 to 31 and its fault in 32 to 39
 abbrev pub refusal-number : Refusal → ℕ
-refusal-number r = r .cause + 2 ^ 16 * r .place
+refusal-number r = r .cause + 2 ^ 16 * place-number (r .place)
 
 -- answer-kind 1: opened, with the session's pairs; answer-kind 2: singular, with the first dependent column
 abbrev pub opening-number : Opening → ℕ
@@ -217,7 +228,7 @@ line-place line = choose (decLt line (2 ^ 47 - 1)) line (2 ^ 47 - 1)
 -- an answer as the number carries it
 abbrev pub capped : Read → Read
 capped (graph-read n m) = graph-read n m
-capped (not-read r) = not-read (because (r .cause) (line-place (r .place)))
+capped (not-read r) = not-read (because (r .cause) (line-place (place-number (r .place))))
 
 -- reading a text with a seed beside it through the host: the number, and every byte of the adjacency table and the weights afterwards
 pub record HostReadsText (E : Edition) (seed : ℕ) (bytes adjacency weights : List ℕ) (answer : ℕ) (adjacency′ weights′ : List ℕ) : Type 0 where

@@ -7,7 +7,7 @@ use lib.ListN.{length, take, replicate}
 use Rattle.lists.specs.Choose.{choose}
 use Rattle.lists.specs.Onto.{onto}
 use Rattle.skew.specs.Subset.{Subset}
-use Rattle.matching.specs.Decision.{Refusal}
+use Rattle.matching.specs.Decision.{place-number, Refusal}
 use Rattle.matching.specs.Edition.{Edition}
 use Rattle.matching.specs.Pairs.{Pair, Pairs, everything}
 use Rattle.matching.specs.Model.{automatic, Nonsingular, pairs-after, PicksToCome}
@@ -93,7 +93,7 @@ line-none = text-verdict ++ 78 ∷ line-feed
 
 -- refused K at X
 abbrev pub refused-line : Refusal → List ℕ
-refused-line r = text-refused ++ decimal (r .cause) ++ text-at ++ decimal (r .place) ++ line-feed
+refused-line r = text-refused ++ decimal (r .cause) ++ text-at ++ decimal (place-number (r .place)) ++ line-feed
 
 -- the vertices of a sheet of n that the verdict is about: all of them
 abbrev pub players-of : ℕ → Subset

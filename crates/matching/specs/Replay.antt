@@ -7,7 +7,7 @@ use lib.ListN.{length, getD}
 use Rattle.lists.specs.Choose.{choose}
 use Rattle.lists.specs.Onto.{onto}
 use Rattle.modular.specs.Prime.{OddPrime}
-use Rattle.matching.specs.Decision.{Refusal, both?, not?, First, first?, Finding, absent, at, when, found, Cause, Ruling, accepted, refused, judge}
+use Rattle.matching.specs.Decision.{Refusal, both?, not?, First, first?, index, when, found, Cause, Ruling, accepted, refused, judge}
 use Rattle.matching.specs.Edition.{Edition}
 use Rattle.matching.specs.Session.{Session, State, in-play, graph-of}
 use Rattle.matching.specs.Causes.{Lent, session-causes, session-ruling}
@@ -40,13 +40,9 @@ first-calls numbers (suc k) =
 abbrev pub calls-of : List ℕ → List Call
 calls-of numbers = first-calls numbers (call-count numbers)
 
--- an index as a place, which has 16 bits: 65535 stands for itself and every later one
-abbrev pub place-of : ℕ → ℕ
-place-of i = choose (decLt i 65535) i 65535
-
-abbrev pub as-place : Finding → Finding
-as-place absent = absent
-as-place (at i) = at (place-of i)
+-- the index of a call in the 16 bits of a place: 65535 stands for itself and every later one
+abbrev pub short-index : ℕ → ℕ
+short-index i = choose (decLt i 65535) i 65535
 
 -- 2: the answers do not fit; they are buffer 10, since document 02 has 8 and 9
 abbrev pub lent-answers : (count length : ℕ) → Lent
@@ -59,11 +55,11 @@ first-unknown numbers = first? _ (call-count numbers) (λ i. not? (kind? (getD n
 
 unfoldable pub unknown-kind : List ℕ → Cause
 unfolding first-unknown
-unknown-kind numbers = record { number = 12; finding = as-place (found (first-unknown numbers)) }
+unknown-kind numbers = record { number = 12; finding = found (λ i. index (short-index i)) (first-unknown numbers) }
 
 -- 13: the list ends within a call, at the number of whole calls before it
 abbrev pub cut-call : List ℕ → Cause
-cut-call numbers = record { number = 13; finding = when (not? (ℕ-discrete (length numbers % 3) 0)) (place-of (call-count numbers)) }
+cut-call numbers = record { number = 13; finding = when (not? (ℕ-discrete (length numbers % 3) 0)) (short-index (call-count numbers)) }
 
 -- the causes of the list: 12 and then 13
 abbrev pub list-causes : List ℕ → List Cause

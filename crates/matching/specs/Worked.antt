@@ -8,7 +8,7 @@ use lib.ListN.{replicate}
 use Rattle.draws.specs.Draws.{next, draw, draws}
 use Rattle.residue.specs.Modulus.{modulus-prime}
 use Rattle.skew.specs.Decide.{first-dependent?}
-use Rattle.matching.specs.Decision.{because, every?, first?, accepted, refused}
+use Rattle.matching.specs.Decision.{because, because-cell, every?, first?, accepted, refused}
 use Rattle.matching.specs.Graph.{Graph, over, tutte}
 use Rattle.matching.specs.Pairs.{Pair, unmatched, sequence, pairs-on}
 use Rattle.matching.specs.Session.{State}
@@ -22,7 +22,7 @@ use Rattle.matching.specs.Filling.{cells, graph, graph-read, not-read}
 use Rattle.matching.specs.Records.{sheet, unread}
 use Rattle.matching.specs.Computed.{read}
 use Rattle.matching.specs.Host.{words, bytes-of}
-use Rattle.matching.specs.Replay.{place-of, first-calls, replay-ruling}
+use Rattle.matching.specs.Replay.{short-index, first-calls, replay-ruling}
 use Rattle.matching.specs.Listing.{digits, pair-lines, witness-lines}
 use Rattle.matching.specs.Claims.{linked, on, edge, ones, path, complete, ring, Claim, witness, not-opening, model, answers, by-hand, spoiled, handled, ran, row, no-row, replayed, no-replay, displayed, reads, filling, lists, lists-witness, lists-refusal, host-opening, host-answer, host-row, host-words, host-bytes, host-handled, host-replayed, host-reads, host-draws, before, Holds, All, ShownSingular, ShownHandled, ShownReturned, ShownRun, ShownReplay, ShownListed, ShownWitness, ShownFilling, Shown, all}
 
@@ -80,10 +80,15 @@ worked =
     ∷ not-opening (two in-order (1 ∷ [])) (lengths 4 1 1 3) (because 2 4)
     ∷ not-opening (two in-order (1 ∷ [])) (lengths 4 2 1 3) (because 2 5)
     ∷ not-opening (two in-order (1 ∷ [])) (lengths 4 2 2 3) (because 2 6)
-    ∷ not-opening (two (0 ∷ 0 ∷ 2 ∷ 0 ∷ []) (0 ∷ [])) (lengths 4 2 2 4) (because 3 1)
-    ∷ not-opening (two (0 ∷ 2 ∷ 2 ∷ 0 ∷ []) (1 ∷ [])) (lengths 4 2 2 4) (because 3 1)
-    ∷ not-opening (two (0 ∷ 1 ∷ 1 ∷ 1 ∷ []) (0 ∷ [])) (lengths 4 2 2 4) (because 3 3)
-    ∷ not-opening (two (2 ∷ 1 ∷ 0 ∷ 1 ∷ []) (0 ∷ [])) (lengths 4 2 2 4) (because 3 0)
+    ∷ not-opening (two (0 ∷ 0 ∷ 2 ∷ 0 ∷ []) (0 ∷ [])) (lengths 4 2 2 4) (because-cell 0 1 3)
+    ∷ not-opening (two (0 ∷ 2 ∷ 2 ∷ 0 ∷ []) (1 ∷ [])) (lengths 4 2 2 4) (because-cell 0 1 1)
+    ∷ not-opening (two (0 ∷ 1 ∷ 1 ∷ 1 ∷ []) (0 ∷ [])) (lengths 4 2 2 4) (because-cell 1 1 2)
+    ∷ not-opening (two (2 ∷ 1 ∷ 0 ∷ 1 ∷ []) (0 ∷ [])) (lengths 4 2 2 4) (because-cell 0 0 1)
+    ∷ not-opening (two (0 ∷ 2 ∷ 0 ∷ 0 ∷ []) (1 ∷ [])) (lengths 4 2 2 4) (because-cell 0 1 1)
+    ∷ not-opening (over 3 (0 ∷ 0 ∷ 0 ∷ 0 ∷ 0 ∷ 1 ∷ 0 ∷ 0 ∷ 0 ∷ []) (ones 3)) (before 3) (because-cell 1 2 3)
+    ∷ not-opening (over 3 (0 ∷ 0 ∷ 0 ∷ 0 ∷ 0 ∷ 1 ∷ 0 ∷ 2 ∷ 0 ∷ []) (ones 3)) (before 3) (because-cell 1 2 3)
+    ∷ not-opening (over 3 (0 ∷ 0 ∷ 0 ∷ 0 ∷ 1 ∷ 0 ∷ 255 ∷ 0 ∷ 0 ∷ []) (ones 3)) (before 3) (because-cell 0 2 3)
+    ∷ not-opening (over 3 (0 ∷ 0 ∷ 1 ∷ 0 ∷ 0 ∷ 0 ∷ 1 ∷ 0 ∷ 255 ∷ []) (ones 3)) (before 3) (because-cell 2 2 1)
     ∷ not-opening (two in-order (0 ∷ [])) (lengths 4 2 2 4) (because 4 0)
     ∷ not-opening (linked 3 [] (1 ∷ 65520 ∷ 65521 ∷ [])) (before 3) (because 4 2)
     -- a session call looks at 1 to 4 first, and at 5 and 6 before the vertices named
@@ -91,7 +96,9 @@ worked =
     ∷ spoiled (on (over 4 (complete .adjacency) []) 3 zeros first-pair) undo (because 2 2)
     ∷ spoiled (on complete 1 (0 ∷ []) first-pair) undo (because 2 3)
     ∷ spoiled (on complete 1 last-two (0 ∷ 1 ∷ 255 ∷ [])) undo (because 2 4)
-    ∷ spoiled (on (over 4 (1 ∷ zeros) (ones 4)) 3 last-two first-pair) (pick 9 9) (because 3 0)
+    ∷ spoiled (on (over 4 (1 ∷ zeros) (ones 4)) 3 last-two first-pair) (pick 9 9) (because-cell 0 0 2)
+    ∷ spoiled (on (over 2 (0 ∷ 0 ∷ 1 ∷ 0 ∷ []) (ones 2)) 0 (replicate 4 0) (255 ∷ 255 ∷ [])) undo (because-cell 0 1 3)
+    ∷ spoiled (on (over 2 (0 ∷ 0 ∷ 0 ∷ 7 ∷ []) (ones 2)) 0 (replicate 4 0) (255 ∷ 255 ∷ [])) automatic (because-cell 1 1 1)
     ∷ spoiled (on (over 4 (complete .adjacency) (1 ∷ 1 ∷ 1 ∷ 1 ∷ 1 ∷ 65521 ∷ [])) 3 last-two first-pair) automatic (because 4 5)
     ∷ spoiled (on complete 3 last-two first-pair) (pick 300 300) (because 5 0)
     ∷ spoiled (on complete 0 last-two first-pair) undo (because 5 0)
@@ -127,6 +134,7 @@ worked =
     ∷ no-row (on complete 1 last-two first-pair) 4 (9 ∷ 9 ∷ 9 ∷ 9 ∷ []) (because 7 0)
     ∷ no-row (on complete 1 last-two first-pair) 0 (9 ∷ 9 ∷ 9 ∷ 9 ∷ []) (because 8 0)
     ∷ no-row (on complete 1 last-two first-pair) 4 (9 ∷ 9 ∷ 9 ∷ []) (because 2 7)
+    ∷ no-row (on (over 4 (0 ∷ 1 ∷ zeros) (ones 4)) 3 last-two first-pair) 4 (9 ∷ 9 ∷ 9 ∷ 9 ∷ []) (because-cell 0 1 3)
     ∷ no-row (on complete 3 last-two first-pair) 4 (9 ∷ 9 ∷ 9 ∷ 9 ∷ []) (because 5 0)
     ∷ no-row (on complete 1 zeros first-pair) 4 (9 ∷ 9 ∷ 9 ∷ 9 ∷ []) (because 6 0)
     -- the displayed part
@@ -172,11 +180,14 @@ worked =
     -- the host's numbers
     ∷ host-opening (opened (record { size = 4; made = 0 })) 256
     ∷ host-opening (singular 2) 131584
-    ∷ host-opening (not-opened (because 3 9215)) 603914243
+    ∷ host-opening (not-opened (because-cell 95 95 2)) 10189996035
+    ∷ host-opening (not-opened (because 4 4559)) 298778628
     ∷ host-answer (done (edge 0 2)) (record { size = 4; made = 1 }) 4328522496
     ∷ host-answer (denied (because 10 0)) (record { size = 4; made = 1 }) 10
+    ∷ host-answer (denied (because-cell 32 55 3)) (record { size = 96; made = 1 }) 13809745923
     ∷ host-row accepted (record { size = 4; made = 1 }) 4294968320
     ∷ host-row (refused (because 8 0)) (record { size = 4; made = 1 }) 8
+    ∷ host-row (refused (because-cell 0 1 1)) (record { size = 4; made = 1 }) 4311744515
     ∷ host-words 2 (1 ∷ 2 ∷ 3 ∷ []) (513 ∷ [])
     ∷ host-words 2 (255 ∷ 255 ∷ 0 ∷ 1 ∷ []) (65535 ∷ 256 ∷ [])
     ∷ host-bytes 2 (513 ∷ 65520 ∷ []) (9 ∷ 9 ∷ 9 ∷ 9 ∷ 9 ∷ []) (1 ∷ 2 ∷ 240 ∷ 255 ∷ 9 ∷ [])
@@ -200,7 +211,7 @@ worked =
 
 pub worked-hold : All Holds worked
 unfolding worked Shown ShownFilling words bytes-of draws ShownSingular ShownHandled ShownReturned ShownRun ShownListed ShownWitness modulus-prime answered pairs-after step nonsingular? inverse-table? witness? first-dependent? first? every? tutte opening-ruling session-ruling row-ruling open-row display cells unmatched pairs-on decLt read digits pair-lines witness-lines graph sequence
-worked-hold = all worked (refl, (refl, (refl, (refl, (refl, (refl, (refl, (refl, (refl, (refl, (refl, (refl, (refl, (refl, (refl, (refl, (refl, (refl, (refl, (refl, (refl, (refl, (refl, (refl, (refl, (refl, (refl, (refl, (refl, (refl, (refl, (refl, ((refl, refl), ((refl, refl), ((refl, refl), ((refl, refl), ((tt, refl), (refl, ((tt, refl), ((refl, refl, refl, tt, refl), ((refl, refl, refl, tt, refl), ((refl, refl, refl, tt, refl), (((refl, refl, refl), ((refl, refl, refl, tt, refl), ((refl, refl, refl), ((refl, refl, refl, tt, refl), ((refl, refl, refl), ((refl, refl, refl, tt, refl), ((refl, refl, refl, tt, refl), tt))))))), (((refl, refl, refl, tt, refl), ((refl, refl, refl, tt, refl), ((refl, refl, refl), tt))), ((refl, refl), ((refl, refl), (refl, (refl, (refl, (refl, (refl, (refl, (refl, (refl, (refl, (refl, (refl, (refl, (refl, (refl, (refl, (refl, (refl, (refl, (refl, (refl, (refl, (refl, (refl, (refl, (refl, (refl, (refl, (refl, (refl, (refl, (refl, (refl, ((refl, refl, refl), ((refl, refl, refl), ((refl, refl, refl, refl), ((tt, picked refl (picked refl (stopped refl)), refl), ((refl, (tt, tt, tt), refl), ((refl, (tt, tt, tt), refl), ((refl, refl), (refl, (refl, (refl, (refl, (refl, (refl, (refl, (refl, (refl, (refl, (refl, (refl, (refl, (((refl, refl, refl, tt, refl), refl, refl), (((refl, refl, refl, refl), refl, refl), (((refl, refl, refl), refl, refl), ((refl, refl), ((refl, refl), ((refl, refl), tt))))))))))))))))))))))))))))))))))))))))))))))))))))))))))))))))))))))))))))))))))))))))))))))))))))))))
+worked-hold = all worked (refl, (refl, (refl, (refl, (refl, (refl, (refl, (refl, (refl, (refl, (refl, (refl, (refl, (refl, (refl, (refl, (refl, (refl, (refl, (refl, (refl, (refl, (refl, (refl, (refl, (refl, (refl, (refl, (refl, (refl, (refl, (refl, (refl, (refl, (refl, (refl, (refl, (refl, (refl, ((refl, refl), ((refl, refl), ((refl, refl), ((refl, refl), ((tt, refl), (refl, ((tt, refl), ((refl, refl, refl, tt, refl), ((refl, refl, refl, tt, refl), ((refl, refl, refl, tt, refl), (((refl, refl, refl), ((refl, refl, refl, tt, refl), ((refl, refl, refl), ((refl, refl, refl, tt, refl), ((refl, refl, refl), ((refl, refl, refl, tt, refl), ((refl, refl, refl, tt, refl), tt))))))), (((refl, refl, refl, tt, refl), ((refl, refl, refl, tt, refl), ((refl, refl, refl), tt))), ((refl, refl), ((refl, refl), (refl, (refl, (refl, (refl, (refl, (refl, (refl, (refl, (refl, (refl, (refl, (refl, (refl, (refl, (refl, (refl, (refl, (refl, (refl, (refl, (refl, (refl, (refl, (refl, (refl, (refl, (refl, (refl, (refl, (refl, (refl, (refl, (refl, ((refl, refl, refl), ((refl, refl, refl), ((refl, refl, refl, refl), ((tt, picked refl (picked refl (stopped refl)), refl), ((refl, (tt, tt, tt), refl), ((refl, (tt, tt, tt), refl), ((refl, refl), (refl, (refl, (refl, (refl, (refl, (refl, (refl, (refl, (refl, (refl, (refl, (refl, (refl, (refl, (refl, (refl, (((refl, refl, refl, tt, refl), refl, refl), (((refl, refl, refl, refl), refl, refl), (((refl, refl, refl), refl, refl), ((refl, refl), ((refl, refl), ((refl, refl), tt)))))))))))))))))))))))))))))))))))))))))))))))))))))))))))))))))))))))))))))))))))))))))))))))))))))))))))))))))))
 
 -- replays
 pub worked-replays : List Claim
@@ -209,7 +220,7 @@ worked-replays =
     no-replay (on (over 97 [] []) 0 [] []) (0 ∷ 0 ∷ 0 ∷ []) (9 ∷ []) (because 1 0)
     ∷ no-replay (on complete 1 last-two (0 ∷ 1 ∷ 255 ∷ [])) (2 ∷ 0 ∷ 0 ∷ []) [] (because 2 4)
     ∷ no-replay (on (over 4 (1 ∷ zeros) (ones 4)) 3 last-two first-pair) (2 ∷ 0 ∷ 0 ∷ 2 ∷ 0 ∷ 0 ∷ []) (9 ∷ []) (because 2 10)
-    ∷ no-replay (on (over 4 (1 ∷ zeros) (ones 4)) 3 last-two first-pair) (4 ∷ 0 ∷ 0 ∷ []) (9 ∷ []) (because 3 0)
+    ∷ no-replay (on (over 4 (1 ∷ zeros) (ones 4)) 3 last-two first-pair) (4 ∷ 0 ∷ 0 ∷ []) (9 ∷ []) (because-cell 0 0 2)
     ∷ no-replay (on (over 4 (complete .adjacency) (1 ∷ 1 ∷ 1 ∷ 1 ∷ 1 ∷ 65521 ∷ [])) 3 last-two first-pair) (0 ∷ 0 ∷ 0 ∷ []) (9 ∷ []) (because 4 5)
     ∷ no-replay (on complete 3 last-two first-pair) (2 ∷ 0 ∷ []) [] (because 5 0)
     ∷ no-replay (on complete 1 zeros first-pair) (2 ∷ 0 ∷ 0 ∷ 2 ∷ []) (9 ∷ []) (because 6 0)
@@ -236,6 +247,6 @@ unfolding worked-replays Shown ShownReplay words bytes-of ShownHandled ShownRetu
 worked-replays-hold = all worked-replays (refl, (refl, (refl, (refl, (refl, (refl, (refl, (refl, (refl, (refl, ((refl, ((refl, refl, refl, tt, refl), ((refl, refl, refl, tt, refl), ((refl, refl, refl), ((refl, refl, refl, tt, refl), tt)))), refl, refl), ((refl, tt, refl, refl), (((refl, ((refl, refl, refl, tt, refl), tt), refl, refl), refl, refl), tt)))))))))))))
 
 -- the place of a call, up to 16 bits and past them
-pub places-cut : map place-of (0 ∷ 65534 ∷ 65535 ∷ 65536 ∷ []) ≡ 0 ∷ 65534 ∷ 65535 ∷ 65535 ∷ []
+pub places-cut : map short-index (0 ∷ 65534 ∷ 65535 ∷ 65536 ∷ []) ≡ 0 ∷ 65534 ∷ 65535 ∷ 65535 ∷ []
 unfolding decLt
 places-cut = refl

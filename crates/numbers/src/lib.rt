@@ -3,9 +3,9 @@ use refusals::Refusal;
 use refusals::Ruling;
 ghost use mathlib.Core.Path.{_≡_};
 ghost use Prim.Native.Nat.{ℕ, _<_, _^_};
-ghost use Rattle.matching.specs.Decision.{because};
+ghost use Rattle.matching.specs.Decision.{place-number, because};
 ghost use Rattle.matching.specs.Host.{number, refusal-number, ruled-number, line-place};
-ghost use Rattle.refusals.specs.Meaning.{ruling-of};
+ghost use Rattle.refusals.specs.Meaning.{place-of, refusal-of, ruling-of};
 ghost use Rattle.numbers.specs.Bits.{RulingFits};
 
 // Returns the number of a call that was carried out: its answer-kind, its value, and the pairs made.
@@ -18,17 +18,19 @@ pub fn carried(kind: u64, value: u64, made: u64) -> u64
 
 // Returns the number of a refusal.
 pub fn refused(refusal: Refusal) -> u64
-    requires { ⌜ refusal .place < 2 ^ 16 ⌝ }
-    ensures { λ r. ⌜ r ≡ refusal-number (because (refusal .cause) (refusal .place)) ⌝ }
+    requires { ⌜ place-number (place-of (refusal .place)) < 2 ^ 24 ⌝ }
+    ensures { λ r. ⌜ r ≡ refusal-number (refusal-of refusal) ⌝ }
 {
-    refusal.cause as u64 + 65536 * (refusal.place as u64)
+    let place = refusal.place;
+    refusal.cause as u64 + 65536 * (refusals::place_number(place) as u64)
 }
 
 // Returns the number of a refusal whose place is a line of any number.
 pub fn refused_at_line(refusal: Refusal) -> u64
-    ensures { λ r. ⌜ r ≡ refusal-number (because (refusal .cause) (line-place (refusal .place))) ⌝ }
+    ensures { λ r. ⌜ r ≡ refusal-number (because (refusal .cause) (line-place (place-number (place-of (refusal .place))))) ⌝ }
 {
-    let line = refusal.place as u64;
+    let place = refusal.place;
+    let line = refusals::place_number(place) as u64;
     // 2^47 - 1.
     if line < 140737488355327 {
         return refusal.cause as u64 + 65536 * line;

@@ -1,9 +1,9 @@
 -- The answers of this crate in the terms of the definitions: what the contracts of `src/` cite. Assumes nothing.
 use mathlib.Core.List.{List}
 use Prim.Native.Nat.{ℕ}
-use Rattle.matching.specs.Decision.{because}
 use Rattle.matching.specs.Opening as definition
 use Rattle.matching.specs.Opening.{Buffers}
+use Rattle.refusals.specs.Meaning.{refusal-of}
 use Rattle.exchange.specs.declared.Outcome.{Outcome}
 use Rattle.exchange.specs.declared.Outcome.the-variants.{Inverse, Column}
 use Rattle.opening.specs.declared.Opening.{Opening}
@@ -12,7 +12,7 @@ use Rattle.opening.specs.declared.Opening.the-variants.{Opened, Singular
 abbrev pub opening-of : Opening → definition.Opening
 opening-of (Opened s) = definition.opened (record { size = s .size; made = s .made })
 opening-of (Singular f) = definition.singular f
-opening-of (Refused r) = definition.not-opened (because (r .cause) (r .place))
+opening-of (Refused r) = definition.not-opened (refusal-of r)
 
 -- the answer for n vertices, by how exchange ends
 abbrev pub found : ℕ → Outcome → definition.Opening

@@ -6,7 +6,7 @@ use native.Mathlib.Omega.{arith}
 use native.Mathlib.Decide.{decLt}
 use lib.ListN.{length, getD, replicate, length-replicate}
 use Rattle.residue.specs.Modulus.{modulus}
-use Rattle.matching.specs.Decision.{Every, Refusal, Ruling, accepted, refused, judge, unless}
+use Rattle.matching.specs.Decision.{Every, place-number, Refusal, Ruling, accepted, refused, judge, unless}
 use Rattle.matching.specs.Edition.{first-edition}
 use Rattle.matching.specs.Graph.{Graph, largest, pair-count, over}
 use Rattle.matching.specs.Causes.{Lent, lent-always, lent-besides, lent-to-opening, too-large, too-short, bad-cell, bad-weight, opening-ruling}
@@ -69,8 +69,8 @@ module _ (n : ℕ) (adjacency weights : List ℕ) (b : Buffers) where
     pub host-refuses : HostOpens first-edition n adjacency weights b (opening-number (not-opened r)) b
     host-refuses = record { opening = not-opened r; buffers = unpacked first-edition b; outcome = refuses-opening r e; numbered = refl; stored = refl }
 
-    pub refusal-small : r .place < 2 ^ 16
-    refusal-small = numbers.opens-small {S = everything} {b = unpacked first-edition b} (refuses-opening r e) .place-below
+    pub refusal-small : place-number (r .place) < 2 ^ 24
+    refusal-small = numbers.place-below (numbers.opens-small {S = everything} {b = unpacked first-edition b} (refuses-opening r e))
 
 -- if the number of vertices and the lengths are in order, only the cells and the weights remain to be judged
 long-ruling : (g : Graph) (b : Buffers) → g .n ≤ largest

@@ -2,6 +2,7 @@
 // included. A digest starts at 0, and each element x turns digest d into 3 d + x, modulo 2^64.
 use libc::STDOUT_FILENO;
 use opening::Opening;
+use refusals::Place;
 ghost use Prim.Native.Nat.{_<_};
 
 // Writes a space and the number.
@@ -12,6 +13,21 @@ fn item(x: u64) {
 
 fn end_line() {
     io::write_all(STDOUT_FILENO, b"\n");
+}
+
+// Writes the place of a refusal: an index, or the row, the column and the kind of fault of a cell.
+fn show_place(place: Place) {
+    io::write_all(STDOUT_FILENO, b" at");
+    match place {
+        Place::Index(index) => {
+            item(index as u64);
+        }
+        Place::Cell(fault) => {
+            item(fault.row as u64);
+            item(fault.column as u64);
+            item(fault.kind as u64);
+        }
+    }
 }
 
 // Writes an opening's answer.
@@ -29,8 +45,8 @@ fn show(opening: Opening) {
         Opening::Refused(refusal) => {
             io::write_all(STDOUT_FILENO, b"refused");
             item(refusal.cause as u64);
-            io::write_all(STDOUT_FILENO, b" at");
-            item(refusal.place as u64);
+            let place = refusal.place;
+            show_place(place);
         }
     }
     end_line();

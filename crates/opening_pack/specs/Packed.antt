@@ -5,6 +5,7 @@ use native.Mathlib.Omega.{arith}
 use lib.ListN.{take}
 use Rattle.lists.specs.Onto.{onto}
 use Rattle.residue.specs.Modulus.{modulus}
+use Rattle.matching.specs.Decision.{place-number}
 use Rattle.matching.specs.Graph.{Graph}
 use Rattle.matching.specs.Pairs.{everything}
 use Rattle.matching.specs.Opening.{Opening, opened, singular, not-opened, Buffers, Opens, refuses-opening, opens, finds-singular}
@@ -30,9 +31,9 @@ after n (not-opened r) left b = buffers (b .inverse) (left .sequence) (b .witnes
 abbrev pub OpeningNumberFits : Opening → Type 0
 OpeningNumberFits (opened s) = s .made < 2 ^ 8
 OpeningNumberFits (singular f) = f < 2 ^ 16
-OpeningNumberFits (not-opened r) = r .place < 2 ^ 16
+OpeningNumberFits (not-opened r) = place-number (r .place) < 2 ^ 24
 
 pub opening-number-fits : {g : Graph} {b left : Buffers} {o : Opening} → Opens modulus g everything b o left → OpeningNumberFits o
-opening-number-fits {b = b} (refuses-opening r e) = numbers.opens-small {S = everything} {b = b} (refuses-opening r e) .place-below
+opening-number-fits {b = b} (refuses-opening r e) = numbers.place-below (numbers.opens-small {S = everything} {b = b} (refuses-opening r e))
 opening-number-fits (opens new ok l I) = omega arith
 opening-number-fits {b = b} (finds-singular f new ok l s) = numbers.opens-small {S = everything} {b = b} (finds-singular f new ok l s)

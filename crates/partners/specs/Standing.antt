@@ -14,7 +14,7 @@ use Rattle.residue.specs.Modulus.{modulus, modulus-prime}
 use Rattle.skew.specs.Subset.{Subset, _∈_, marked, marked-in, clash, marked-out}
 use Rattle.skew.specs.Remove.{invertible-without}
 use Rattle.matching.specs.Decision as decision
-use Rattle.matching.specs.Decision.{because, accepted, refused, not?, both?, Cause}
+use Rattle.matching.specs.Decision.{index, because, accepted, refused, not?, both?, Cause}
 use Rattle.matching.specs.Graph.{Graph, over, largest, cell, tutte, InOrder}
 use Rattle.matching.specs.Pairs.{Pairs, pair-of, unmatched, in?}
 use Rattle.matching.specs.Session.{InverseTable}
@@ -103,7 +103,7 @@ module _ {g : Graph} {S : Subset} {pairs : Pairs} {inverse marks : List ℕ} (K 
 module _ {g : Graph} {S : Subset} {pairs : Pairs} {inverse marks : List ℕ} (K : Standing g S pairs inverse marks) (a : ℕ) (row : List ℕ) where
   pub row-outside : g .n ≤ a → Row g S pairs a row (refused (because 7 0)) row
   row-outside l = record {
-    ruled = sym (judge-refused (needs 7 (decLt a (g .n))) (needs 8 (in? (unmatched S pairs) a) ∷ []) 0 (when-at (not? (decLt a (g .n))) 0 (λ h. omega arith)));
+    ruled = sym (judge-refused (needs 7 (decLt a (g .n))) (needs 8 (in? (unmatched S pairs) a) ∷ []) (index 0) (when-at (not? (decLt a (g .n))) 0 (λ h. omega arith)));
     written = refl;
   }
 
@@ -116,7 +116,7 @@ module _ {g : Graph} {S : Subset} {pairs : Pairs} {inverse marks : List ℕ} (K 
       ruled =
           sym
           (second-cause
-          ∙ judge-refused (needs 8 (in? (unmatched S pairs) a)) [] 0 (when-at (not? (in? (unmatched S pairs) a)) 0 (gone-at K a below e)));
+          ∙ judge-refused (needs 8 (in? (unmatched S pairs) a)) [] (index 0) (when-at (not? (in? (unmatched S pairs) a)) 0 (gone-at K a below e)));
       written = refl;
     }
 
@@ -149,7 +149,7 @@ module _ {g : Graph} {S : Subset} {pairs : Pairs} {inverse marks : List ℕ} (K 
 
   pub not-named : ¬ Named (g .n) a b → ruled ≡ refused (because 7 0)
   unfolding pick-ruling
-  not-named d = judge-refused seven (eight ∷ nine ∷ ten ∷ []) 0 (when-at (not? (named? (g .n) a b)) 0 d)
+  not-named d = judge-refused seven (eight ∷ nine ∷ ten ∷ []) (index 0) (when-at (not? (named? (g .n) a b)) 0 d)
 
   module _ (h : Named (g .n) a b) where
     from-eight : ruled ≡ decision.judge (eight ∷ nine ∷ ten ∷ [])
@@ -159,7 +159,7 @@ module _ {g : Graph} {S : Subset} {pairs : Pairs} {inverse marks : List ℕ} (K 
     matched : ¬ ((a ∈ unmatched S pairs) × (b ∈ unmatched S pairs)) → ruled ≡ refused (because 8 0)
     matched d =
         from-eight
-        ∙ judge-refused eight (nine ∷ ten ∷ []) 0
+        ∙ judge-refused eight (nine ∷ ten ∷ []) (index 0)
         (when-at (not? (both? (in? (unmatched S pairs) a) (in? (unmatched S pairs) b))) 0 d)
 
     pub first-matched : getD marks a 0 ≡ 0 → ruled ≡ refused (because 8 0)
@@ -178,7 +178,7 @@ module _ {g : Graph} {S : Subset} {pairs : Pairs} {inverse marks : List ℕ} (K 
       pub not-adjacent : cell g a b ≢ 1 → ruled ≡ refused (because 9 0)
       not-adjacent d =
           from-nine
-          ∙ judge-refused nine (ten ∷ []) 0 (when-at (not? (adjacent? g (pair-of a b))) 0 (λ e. d (sym (cell-pair (K .in-order) a b h) ∙ e)))
+          ∙ judge-refused nine (ten ∷ []) (index 0) (when-at (not? (adjacent? g (pair-of a b))) 0 (λ e. d (sym (cell-pair (K .in-order) a b h) ∙ e)))
 
       module _ (e : cell g a b ≡ 1) where
         from-ten : ruled ≡ decision.judge (ten ∷ [])
@@ -193,7 +193,7 @@ module _ {g : Graph} {S : Subset} {pairs : Pairs} {inverse marks : List ℕ} (K 
         pub none-remains : table (g .n) inverse a b ≡ 0 → ruled ≡ refused (because 10 0)
         none-remains z =
             from-ten
-            ∙ judge-refused ten [] 0 (when-at (not? (nonsingular? modulus-prime g S (pair-of a b ∷ pairs))) 0 (λ n. remains .0 n (equals z)))
+            ∙ judge-refused ten [] (index 0) (when-at (not? (nonsingular? modulus-prime g S (pair-of a b ∷ pairs))) 0 (λ n. remains .0 n (equals z)))
 
         pub may-match : table (g .n) inverse a b ≢ 0 → ruled ≡ accepted
         may-match d =

@@ -1,12 +1,27 @@
-// A refusal, a ruling and a finding: what every check of the library answers. The functions make a refusal of a cause and a place.
+// A refusal, a ruling and a finding: what every check of the library answers. The functions make a refusal of a cause and a place, and a
+// number of a place.
 ghost use mathlib.Core.Path.{_≡_};
-ghost use Rattle.matching.specs.Decision.{because, refused};
-ghost use Rattle.refusals.specs.Meaning.{refusal-of, ruling-of};
+ghost use Rattle.matching.specs.Decision.{place-number, because, because-cell, refused};
+ghost use Rattle.refusals.specs.Meaning.{place-of, refusal-of, ruling-of};
+
+// A faulty cell of the adjacency table. Its kind is the first that holds: 1 if it is not 0 or 1, 2 if it is not 0 on the diagonal, 3 if it
+// differs from its mirror.
+pub struct Fault {
+    pub row: u8,
+    pub column: u8,
+    pub kind: u8,
+}
+
+// The place returned with a cause: an index, or a faulty cell.
+pub enum Place {
+    Index(usize),
+    Cell(Fault),
+}
 
 // Why a call is refused: the number of the cause, and the place returned with it.
 pub struct Refusal {
     pub cause: u8,
-    pub place: usize,
+    pub place: Place,
 }
 
 // A ruling on a call: no cause applies, or the call is refused.
@@ -15,23 +30,48 @@ pub enum Ruling {
     Refused(Refusal),
 }
 
-// Whether a cause applies, and if so its place.
+// The lowest number with a property, or none.
 pub enum Finding {
     Absent,
     At(usize),
 }
 
-// Returns the refusal for a cause at a place.
-pub fn because(cause: u8, place: usize) -> Refusal
-    ensures { λ r. ⌜ refusal-of r ≡ because cause place ⌝ }
+// Returns the refusal for a cause at an index.
+pub fn because(cause: u8, index: usize) -> Refusal
+    ensures { λ r. ⌜ refusal-of r ≡ because cause index ⌝ }
 {
-    Refusal { cause, place }
+    Refusal {
+        cause,
+        place: Place::Index(index),
+    }
 }
 
-// Refuses for a cause at a place.
-pub fn refuse(cause: u8, place: usize) -> Ruling
-    ensures { λ r. ⌜ ruling-of r ≡ refused (because cause place) ⌝ }
+// Refuses for a cause at an index.
+pub fn refuse(cause: u8, index: usize) -> Ruling
+    ensures { λ r. ⌜ ruling-of r ≡ refused (because cause index) ⌝ }
 {
-    let refusal = because(cause, place);
+    let refusal = because(cause, index);
     Ruling::Refused(refusal)
+}
+
+// Refuses for cause 3, the only one whose place is a cell.
+pub fn refuse_cell(fault: Fault) -> Ruling
+    ensures { λ r. ⌜ ruling-of r ≡ refused (because-cell (fault .row) (fault .column) (fault .kind)) ⌝ }
+{
+    Ruling::Refused(Refusal {
+        cause: 3,
+        place: Place::Cell(fault),
+    })
+}
+
+// Returns a place as one number: an index as it is; of a cell the row, the column and the kind of fault, 8 bits each.
+pub fn place_number(place: Place) -> usize
+    ensures { λ r. ⌜ r ≡ place-number (place-of place) ⌝ }
+{
+    match place {
+        Place::Index(index) => index,
+        Place::Cell(fault) => {
+            fault.row as usize + 256 * (fault.column as usize) + 65536 * (fault.kind as usize)
+        }
+    }
 }

@@ -8,13 +8,13 @@ use lib.ListN.{length, take}
 use lib.Seq.{take-all}
 use Rattle.lists.specs.Onto.{onto, onto-front-same}
 use Rattle.residue.specs.Modulus.{modulus, modulus-prime}
-use Rattle.matching.specs.Decision.{Refusal, Ruling, accepted, refused}
+use Rattle.matching.specs.Decision.{place-number, Refusal, Ruling, accepted, refused}
 use Rattle.matching.specs.Edition.{first-edition}
 use Rattle.matching.specs.Session.{Session, State, state}
 use Rattle.matching.specs.Calls.{state-after}
 use Rattle.matching.specs.Host.{words, Bytes, bytes-of, refusal-number, unpacked-state, handed-back}
 use Rattle.matching.specs.Replay.{call-count, calls-of, lent-answers, list-causes, replay-ruling, Replays, refuses-replay, replays, replay-number, replay-stored, HostReplays, HostDemandThree}
-use Rattle.laws.specs.Numbers.{replays-small, host-replay-session}
+use Rattle.laws.specs.Numbers.{place-below, replays-small, host-replay-session}
 use Rattle.laws.specs.Words.{stored-words, own-front}
 use Rattle.numbers.specs.Bits.{RulingFits, ruling-fits}
 use Rattle.crossing.specs.Needed.{needed-weights, needed-agree, needed-counted}
@@ -71,8 +71,8 @@ module _ (n made : ℕ) (adjacency weights inverse sequence : List ℕ) (numbers
     refuses =
         room-first n made adjacency weights inverse sequence modulus (lent-answers (call-count numbers) (length answers) ∷ []) (list-causes numbers) e
 
-    pub refusal-fits : r .place < 2 ^ 16
-    refusal-fits = replays-small modulus-prime (refuses-replay r refuses) .place-below
+    pub refusal-fits : place-number (r .place) < 2 ^ 24
+    refusal-fits = place-below (replays-small modulus-prime (refuses-replay r refuses))
 
     pub host-refuses : HostReplays first-edition host numbers answers (refusal-number r) (handed-back host (refusal-number r) inverse sequence) answers
     host-refuses = handed (host .session) inverse sequence (refused-through refuses)

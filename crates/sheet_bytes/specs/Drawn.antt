@@ -8,14 +8,14 @@ use lib.ListN.{length}
 use Rattle.lists.specs.Choose.{choose}
 use Rattle.lists.specs.Onto.{onto}
 use Rattle.draws.specs.Draws.{draw, draws}
-use Rattle.matching.specs.Decision.{because, absent, at, when, unless, Ruling, accepted, refused}
+use Rattle.matching.specs.Decision.{index, because, absent, at, when, unless, Ruling, accepted, refused}
 use Rattle.matching.specs.Edition.{first-edition}
 use Rattle.matching.specs.Graph.{largest, pair-count}
 use Rattle.matching.specs.Host.{words, bytes-of, refusal-number, draws-ruling, draws-number, HostDraws}
 
 -- the ruling by its two decisions
 abbrev ruled : (n : ℕ) (weights : List ℕ) (c : Dec (largest < n)) (d : Dec (length (words 2 weights) < pair-count n)) → Ruling
-ruled n weights c d = unless (when c 0) 1 (unless (choose d (at 2) absent) 2 accepted)
+ruled n weights c d = unless (when c 0) 1 (unless (choose d (at (index 2)) absent) 2 accepted)
 
 module _ (n seed : ℕ) (weights : List ℕ) where
   too-many : largest < n → draws-ruling first-edition n weights ≡ refused (because 1 0)

@@ -8,7 +8,7 @@ use native.Mathlib.Decide.{decLt}
 use lib.ListN.{length, take, drop, length-append}
 use Rattle.lists.specs.Choose.{choose}
 use Rattle.lists.specs.Onto.{onto}
-use Rattle.matching.specs.Decision.{absent, at, unless, accepted}
+use Rattle.matching.specs.Decision.{index, absent, at, unless, accepted}
 use Rattle.matching.specs.Edition.{first-edition}
 use Rattle.matching.specs.Graph.{largest, pair-count}
 use Rattle.matching.specs.Pairs.{Pair}
@@ -47,8 +47,8 @@ room-same : (n : ℕ) (adjacency values ws : List ℕ) → (pair-count n ≤ len
 room-same n adjacency values ws f g = go (decLt (length values) (pair-count n)) (decLt (length ws) (pair-count n))
   where
     go : (c : Dec (length values < pair-count n)) (d : Dec (length ws < pair-count n))
-        → unless (choose (decLt (length adjacency) (n * n)) (at 1) (choose c (at 2) absent)) 2 accepted
-        ≡ unless (choose (decLt (length adjacency) (n * n)) (at 1) (choose d (at 2) absent)) 2 accepted
+        → unless (choose (decLt (length adjacency) (n * n)) (at (index 1)) (choose c (at (index 2)) absent)) 2 accepted
+        ≡ unless (choose (decLt (length adjacency) (n * n)) (at (index 1)) (choose d (at (index 2)) absent)) 2 accepted
     go (yes _) (yes _) = refl
     go (no _) (no _) = refl
     go (yes c) (no d) = absurd (omega (arith, g (omega arith)))
@@ -58,7 +58,7 @@ room-same n adjacency values ws f g = go (decLt (length values) (pair-count n)) 
 room-weights : (n : ℕ) (adjacency ws : List ℕ) → room n adjacency ws ≡ accepted → pair-count n ≤ length ws
 room-weights n adjacency ws = go (decLt (length adjacency) (n * n)) (decLt (length ws) (pair-count n))
   where
-    go : (c : Dec (length adjacency < n * n)) (d : Dec (length ws < pair-count n)) → unless (choose c (at 1) (choose d (at 2) absent)) 2 accepted ≡ accepted
+    go : (c : Dec (length adjacency < n * n)) (d : Dec (length ws < pair-count n)) → unless (choose c (at (index 1)) (choose d (at (index 2)) absent)) 2 accepted ≡ accepted
         → pair-count n ≤ length ws
     go _ (no d) e = omega arith
     go (yes c) (yes d) e = absurd (let z : _≡_ {A = ℕ} 0 1 = cc in omega arith)

@@ -5,7 +5,7 @@ use Prim.Native.Nat.{ℕ, _*_, _≤_}
 use native.Mathlib.Omega.{arith}
 use lib.ListN.{length}
 use Rattle.residue.specs.Modulus.{modulus}
-use Rattle.matching.specs.Decision.{Refusal, because, Cause, accepted, refused, judge, not?}
+use Rattle.matching.specs.Decision.{index, Refusal, because, Cause, accepted, refused, judge, not?}
 use Rattle.matching.specs.Graph.{over}
 use Rattle.matching.specs.Pairs.{unmatched, pairs-on}
 use Rattle.matching.specs.Session.{State, state, in-play, graph-of, pairs-of, InverseTable, WellFormed}
@@ -72,7 +72,7 @@ module _ (s : State) where
     unfolding session-ruling ill-formed
     refused-five d =
         judge-second four (five ∷ six ∷ []) ok
-        ∙ judge-refused five (six ∷ []) 0 (when-at (not? (well-formed? (graph-of s) (s .session .made) (s .sequence))) 0 d)
+        ∙ judge-refused five (six ∷ []) (index 0) (when-at (not? (well-formed? (graph-of s) (s .session .made) (s .sequence))) 0 d)
 
     module _ (W : WellFormed (graph-of s) (s .session .made) (s .sequence)) where
       rest : session-ruling modulus s ≡ judge (six ∷ [])
@@ -86,7 +86,7 @@ module _ (s : State) where
       unfolding not-inverse
       refused-six d =
           rest
-          ∙ judge-refused six [] 0 (when-at (not? (inverse-table? modulus (graph-of s) (unmatched (in-play s) (pairs-of s)) (s .inverse))) 0 d)
+          ∙ judge-refused six [] (index 0) (when-at (not? (inverse-table? modulus (graph-of s) (unmatched (in-play s) (pairs-of s)) (s .inverse))) 0 d)
 
       pub confirmed : InverseTable modulus (graph-of s) (unmatched (in-play s) (pairs-of s)) (s .inverse)
           → session-ruling modulus s ≡ accepted

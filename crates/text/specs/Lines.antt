@@ -10,7 +10,7 @@ use native.Mathlib.Omega.{arith}
 use lib.ListN.{length, getD, take, length-append}
 use lib.Seq.{length-take-le, take-suc}
 use Rattle.lists.specs.Choose.{choose, choose-yes, choose-no}
-use Rattle.matching.specs.Decision.{Refusal}
+use Rattle.matching.specs.Decision.{place-number, Refusal}
 use Rattle.matching.specs.Pairs.{Pair, pairs-on}
 use Rattle.matching.specs.Listing.{decimal, text-sleeves, text-links, text-pair, text-witness, text-refused, text-at, space, line-feed, first-line, pair-line, pair-lines, witness-lines, refused-line}
 use Rattle.text.specs.Decimal.{decimal-length, decimal-most}
@@ -35,7 +35,7 @@ pair-length e h l =
 -- the length of the line of a refusal
 pub refused-length : (r : Refusal) → r .cause < 1000 → length (refused-line r) ≤ 36
 refused-length r h =
-    omega (arith, line-length text-refused (r .cause) text-at (r .place), decimal-length 2 (r .cause) h, decimal-most (r .place))
+    omega (arith, line-length text-refused (r .cause) text-at (place-number (r .place)), decimal-length 2 (r .cause) h, decimal-most (place-number (r .place)))
 
 -- the word of a witness at an index: nothing for 0, else a line
 pub witness-none : (i w : ℕ) → w ≡ 0 → witness-lines i (w ∷ []) ≡ []

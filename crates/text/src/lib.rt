@@ -2,6 +2,7 @@
 ghost use mathlib.Core.List.{[], _∷_};
 ghost use Prim.Native.Nat.{_+_, _*_, _≤_, _<_};
 ghost use lib.ListN.{length};
+ghost use Rattle.matching.specs.Decision.{because};
 ghost use Rattle.matching.specs.Pairs.{pairs-on};
 ghost use Rattle.matching.specs.Listing.{decimal, first-line, pair-line, pair-lines, witness-lines, line-full, line-none, refused-line};
 ghost use Rattle.text.specs.Puts.{Puts};
@@ -69,12 +70,12 @@ pub fn pair_line(text: &mut [u8], at: usize, smaller: usize, larger: usize) -> u
     line(text, at, b"pair ", smaller, b" ", larger)
 }
 
-// Writes the line of a refusal.
-pub fn refused_line(text: &mut [u8], at: usize, cause: usize, place: usize) -> usize
-    requires { ⌜ at + length (refused-line (record { cause = cause; place = place })) ≤ length (now text) ⌝ }
-    ensures { λ r. ⌜ Puts at (refused-line (record { cause = cause; place = place })) (now (text .entry)) (now (text .exit)) r ⌝ }
+// Writes the line of a refusal for a cause at an index.
+pub fn refused_line(text: &mut [u8], at: usize, cause: usize, index: usize) -> usize
+    requires { ⌜ at + length (refused-line (because cause index)) ≤ length (now text) ⌝ }
+    ensures { λ r. ⌜ Puts at (refused-line (because cause index)) (now (text .entry)) (now (text .exit)) r ⌝ }
 {
-    line(text, at, b"refused ", cause, b" at ", place)
+    line(text, at, b"refused ", cause, b" at ", index)
 }
 
 // Writes the verdict that all vertices are matched.

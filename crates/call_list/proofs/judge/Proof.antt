@@ -12,25 +12,25 @@ first-unknown-requires c κs = search needs
 enum-known-i : tie.Need-enum-known-i
 enum-known-i c = search needs
 
-place-requires : tie.Need-place-requires
-place-requires c κs = search needs
+short-index-requires : tie.Need-short-index-requires
+short-index-requires c κs = search needs
 
 returns : tie.Need-returns
 returns c =
     c .refuse .ensures
-    ∙ ap (λ p. refused (because 12 p)) (c .before .place .ensures)
+    ∙ ap (λ p. refused (because 12 p)) (c .before .short-index .ensures)
     ∙ sym (kind-unknown _ (rw (c .before .before .before .i .given .1) at (c .before .before .before .before .before .first-unknown .ensures)))
 
 enum-told : tie.Need-enum-told
 enum-told c = search needs
 
-place-requires-2 : tie.Need-place-requires-2
-place-requires-2 c κs = search needs
+short-index-requires-2 : tie.Need-short-index-requires-2
+short-index-requires-2 c κs = search needs
 
 returns-2 : tie.Need-returns-2
 returns-2 c =
     c .refuse2 .ensures
-    ∙ ap (λ p. refused (because 13 p)) (c .before .place2 .ensures)
+    ∙ ap (λ p. refused (because 13 p)) (c .before .short-index2 .ensures)
     ∙ sym (list-cut _ (rw (c .before .before .before .enum-told .given .1) at (c .before .before .before .before .before .first-unknown .ensures)) (c .before .before .if1 .taken))
 
 returns-3 : tie.Need-returns-3
@@ -45,4 +45,4 @@ refuse-requires-2 c κs = search needs
 pub judge-spec : {M : Type 1} → statement M
 judge-spec =
     tie.close
-    (tie.spec first-unknown-requires enum-known-i place-requires refuse-requires returns enum-told place-requires-2 refuse-requires-2 returns-2 returns-3)
+    (tie.spec first-unknown-requires enum-known-i short-index-requires refuse-requires returns enum-told short-index-requires-2 refuse-requires-2 returns-2 returns-3)

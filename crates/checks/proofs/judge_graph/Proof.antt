@@ -1,8 +1,6 @@
 -- `checks::judge_graph` meets its contract: each return is a case of the definition.
 -- Assumes nothing.
 use mathlib.Core.Path.{sym, _∙_}
-use native.Mathlib.Nat.{mul-le-mul}
-use native.Mathlib.Omega.{arith}
 use borrow.Author.Needs.{needs}
 use Rattle.checks.specs.Opening.{cell-refused, weight-refused, graph-accepted}
 use Rattle.checks.proofs.judge_graph.Statement.{statement}
@@ -14,35 +12,16 @@ first-fault-requires c κs = search needs
 enum-known-fault : tie.Need-enum-known-fault
 enum-known-fault c = search needs
 
-mul-place : tie.Need-mul-place
-mul-place c =
-    let at = c .before .before in
-    let found = at .before .before in
-    let start = found .before .before .before in
-    let located = rw (at .fault .given .1) at (found .first-fault .ensures (start .args .weights .now)) in
-    omega (
-      arith,
-      mul-le-mul {n₁ = at .fault .given .0 .0 .row} {m₁ = start .args .n} {n₂ = 96} {m₂ = 96} (omega arith) (omega arith),
-    )
-
-add-place : tie.Need-add-place
-add-place c =
-    let at = c .before .before .before in
-    let found = at .before .before in
-    let start = found .before .before .before in
-    let located = rw (at .fault .given .1) at (found .first-fault .ensures (start .args .weights .now)) in
-    omega (
-      arith,
-      mul-le-mul {n₁ = at .fault .given .0 .0 .row} {m₁ = start .args .n} {n₂ = 96} {m₂ = 96} (omega arith) (omega arith),
-    )
+refuse-cell-requires : tie.Need-refuse-cell-requires
+refuse-cell-requires c κs = search needs
 
 returns : tie.Need-returns
 returns c =
-    let at = c .before .before .before .before in
+    let at = c .before .before in
     let found = at .before .before in
     let start = found .before .before .before in
-    let located = rw (at .fault .given .1) at (found .first-fault .ensures (start .args .weights .now)) in
-    c .refuse .ensures ∙ sym (cell-refused _ _ _ (located .place))
+    c .refuse-cell .ensures
+    ∙ sym (cell-refused _ _ _ _ _ (rw (at .fault .given .1) at (found .first-fault .ensures (start .args .weights .now))))
 
 enum-told : tie.Need-enum-told
 enum-told c = search needs
@@ -53,13 +32,16 @@ first-outside-requires c κs = search needs
 enum-known-place : tie.Need-enum-known-place
 enum-known-place c = search needs
 
+refuse-requires : tie.Need-refuse-requires
+refuse-requires c κs = search needs
+
 returns-2 : tie.Need-returns-2
 returns-2 c =
     let outside = c .before .before .before .before in
     let cells = outside .before in
     let found = cells .before .before in
     let args = found .before .before .before .args in
-    c .refuse2 .ensures
+    c .refuse .ensures
     ∙ sym
     (weight-refused _ _ _
     (rw (cells .enum-told .given .1) at (found .first-fault .ensures (args .weights .now)))
@@ -79,13 +61,7 @@ returns-3 c =
     (rw (cells .enum-told .given .1) at (found .first-fault .ensures (args .weights .now)))
     (rw (c .enum-told2 .given .1) at (outside .first-outside .ensures (args .adjacency .now))))
 
-refuse-requires : tie.Need-refuse-requires
-refuse-requires c κs = search needs
-
-refuse-requires-2 : tie.Need-refuse-requires-2
-refuse-requires-2 c κs = search needs
-
 pub judge-graph-spec : {M : Type 1} → statement M
 judge-graph-spec =
     tie.close
-    (tie.spec first-fault-requires enum-known-fault mul-place add-place refuse-requires returns enum-told first-outside-requires enum-known-place refuse-requires-2 returns-2 enum-told-2 returns-3)
+    (tie.spec first-fault-requires enum-known-fault refuse-cell-requires returns enum-told first-outside-requires enum-known-place refuse-requires returns-2 enum-told-2 returns-3)

@@ -58,6 +58,12 @@ shared-slice-read-cell-fault-2 c =
 cell-fault-requires : tie.Need-cell-fault-requires Inv-loop μ-loop
 cell-fault-requires c κs = search needs
 
+cast-row : tie.Need-cast-row Inv-loop μ-loop
+cast-row c = omega arith
+
+cast-column : tie.Need-cast-column Inv-loop μ-loop
+cast-column c = omega arith
+
 returns : tie.Need-returns Inv-loop μ-loop
 returns c =
     let at = c .before .before .before .before .before in
@@ -118,6 +124,8 @@ row-fault-spec =
     shared-slice-read-cell-fault
     shared-slice-read-cell-fault-2
     cell-fault-requires
+    cast-row
+    cast-column
     returns
     add-column
     add-index

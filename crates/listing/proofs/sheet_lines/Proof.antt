@@ -6,6 +6,7 @@ use borrow.Author.Needs.{needs}
 use lib.ListN.{length}
 use lib.Seq.{length-take-le}
 use Rattle.lists.specs.Table.{square-small}
+use Rattle.matching.specs.Decision.{because}
 use Rattle.checks.specs.Weights.{needed-small}
 use Rattle.text.specs.Lines.{refused-length}
 use Rattle.listing.specs.Sheets.{Sheet, sheet-read, sheet-refused}
@@ -34,12 +35,17 @@ read-requires c κs = search needs
 enum-known-read : tie.Need-enum-known-read
 enum-known-read c = search needs
 
+place-number-requires : tie.Need-place-number-requires
+place-number-requires c κs = search needs
+
 cast-refused-line : tie.Need-cast-refused-line
 cast-refused-line c = search needs
 
 refused-line-requires : tie.Need-refused-line-requires
 refused-line-requires c κs =
-    omega (arith, refused-length (record { cause = c .before .before .before .read2 .given .0 .0 .cause; place = c .before .before .before .read2 .given .0 .0 .place }) (omega (arith, c .struct-known .given)), c .before .before .before .before .before .before .before .before .before .before .before .before .before .before .before .before .pre .text-fits)
+    let number = c .before .before in
+    let line = because (number .before .before .read2 .given .0 .0 .cause) (number .place-number .result) in
+    omega (arith, refused-length line (omega (arith, c .struct-known .given)), c .before .before .before .before .before .before .before .before .before .before .before .before .before .before .before .before .before .pre .text-fits)
 
 enum-known-read-2 : tie.Need-enum-known-read-2
 enum-known-read-2 c = search needs
@@ -81,13 +87,14 @@ same-length-3 c = search needs
 returns : tie.Need-returns
 returns c =
     let last = c .before .before in
-    let told = last .before .before .before .before in
+    let number = last .before .before .before in
+    let told = number .before .before in
     let at = told .before .before .before .before .before .before in
     let start = at .before .before .before .before .before .before .before in
     record {
       text = _;
       lines = sheet-refused (start .pre .cells-room) (start .pre .weights-room) (rw (told .read2 .given .1) at (at .read .ensures));
-      puts = last .refused-line .ensures;
+      puts = rw (number .place-number .ensures) at (last .refused-line .ensures);
     }
 
 same-length-4 : tie.Need-same-length-4
@@ -112,6 +119,7 @@ sheet-lines-spec =
     (tie.spec
     read-requires
     enum-known-read
+    place-number-requires
     cast-refused-line
     refused-line-requires
     enum-known-read-2

@@ -2,7 +2,7 @@
 -- Assumes nothing.
 use mathlib.Core.Path.{_≡_}
 use Rattle.residue.specs.Modulus.{modulus}
-use Rattle.matching.specs.Decision.{because, refused}
+use Rattle.matching.specs.Decision.{refused}
 use Rattle.matching.specs.Edition.{first-edition}
 use Rattle.matching.specs.Graph.{over}
 use Rattle.matching.specs.Opening.{Buffers, ruling}
@@ -10,6 +10,7 @@ use Rattle.matching.specs.Host.{words, unpacked, HostOpens}
 use Rattle.laws.specs.OpeningOutcome.{host-opened-exactly}
 use Rattle.refusals.specs.declared.Refusal.{Refusal}
 use Rattle.refusals.specs.declared.Ruling.the-variants.{Refused}
+use Rattle.refusals.specs.Meaning.{refusal-of}
 use Rattle.opening.specs.Meaning.{buffers}
 use Rattle.opening_bytes.specs.Opened.{room-refused, room-accepted, host-refuses, refusal-small}
 use borrow.Author.Needs.{needs}
@@ -20,7 +21,7 @@ abbrev host : tie.After-judge-room → Buffers
 host at = let a = at .before .before .before .before .before .before .before .args in buffers (a .inverse .now) (a .sequence .now) (a .witness .now) (a .work .now)
 
 refuses : (at : tie.After-judge-room) {why : Refusal} → at .judge-room .result ≡ Refused why
-    → (let a = at .before .before .before .before .before .before .before .args in ruling modulus (over (a .n) (a .adjacency .now) (words 2 (a .weights .now))) (unpacked first-edition (host at)) ≡ refused (because (why .cause) (why .place)))
+    → (let a = at .before .before .before .before .before .before .before .args in ruling modulus (over (a .n) (a .adjacency .now) (words 2 (a .weights .now))) (unpacked first-edition (host at)) ≡ refused (refusal-of why))
 refuses at e =
     let a = at .before .before .before .before .before .before .before .args in
     room-refused (a .n) (a .adjacency .now) (a .weights .now) (host at) (rw e at (at .judge-room .ensures))

@@ -6,7 +6,7 @@ use Rattle.matching.specs.Session.{State, state}
 use Rattle.matching.specs.Model.{automatic}
 use Rattle.matching.specs.Calls.{unsound}
 use Rattle.matching.specs.Host.{unpacked-state}
-use Rattle.laws.specs.Numbers.{handles-small}
+use Rattle.laws.specs.Numbers.{place-below, handles-small}
 use Rattle.crossing.specs.HostFits.{room-refused, room-accepted}
 use Rattle.row_bytes.specs.HostRow.{host-refuses}
 use Rattle.row_bytes.proofs.row.Statement.{statement}
@@ -28,8 +28,9 @@ refused-requires : tie.Need-refused-requires
 refused-requires c κs =
     let at = c .before .before .before in
     let a = start at .args in
-    handles-small modulus-prime {s = unpacked-state first-edition (host at)} {c = automatic}
-    (unsound _ (room-refused (a .n) (a .made) (a .adjacency .now) (a .weights .now) (a .inverse .now) (a .sequence .now) modulus (rw (c .before .lengths .given .1) at (at .judge-lengths .ensures)))) .place-below
+    place-below
+    (handles-small modulus-prime {s = unpacked-state first-edition (host at)} {c = automatic}
+    (unsound _ (room-refused (a .n) (a .made) (a .adjacency .now) (a .weights .now) (a .inverse .now) (a .sequence .now) modulus (rw (c .before .lengths .given .1) at (at .judge-lengths .ensures)))))
 
 returns : tie.Need-returns
 returns c =

@@ -5,7 +5,7 @@ use native.Mathlib.Omega.{arith}
 use borrow.Author.Needs.{needs}
 use Rattle.lists.specs.Onto.{onto}
 use Rattle.draws.specs.Draws.{draw, draws}
-use Rattle.matching.specs.Decision.{Refusal}
+use Rattle.matching.specs.Decision.{place-number, Refusal}
 use Rattle.matching.specs.Graph.{pair-count}
 use Rattle.matching.specs.Host.{bytes-of, refusal-number}
 use Rattle.checks.specs.Weights.{needed-all, needed-small}
@@ -21,7 +21,7 @@ because-requires : tie.Need-because-requires
 because-requires c κs = search needs
 
 refused-requires : tie.Need-refused-requires
-refused-requires c κs = omega (arith, ap (λ (why : Refusal). why .place) (c .because .ensures))
+refused-requires c κs = omega (arith, ap (λ (why : Refusal). place-number (why .place)) (c .because .ensures))
 
 returns : tie.Need-returns
 returns c =
@@ -34,7 +34,7 @@ because-requires-2 : tie.Need-because-requires-2
 because-requires-2 c κs = search needs
 
 refused-requires-2 : tie.Need-refused-requires-2
-refused-requires-2 c κs = omega (arith, ap (λ (why : Refusal). why .place) (c .because2 .ensures))
+refused-requires-2 c κs = omega (arith, ap (λ (why : Refusal). place-number (why .place)) (c .because2 .ensures))
 
 returns-2 : tie.Need-returns-2
 returns-2 c =
