@@ -6,12 +6,13 @@ ghost use Prim.Native.Nat.{ℕ, _+_, _*_, _≤_, _<_};
 ghost use lib.ListN.{length, getD};
 ghost use Rattle.residue.specs.Modulus.{modulus};
 ghost use Rattle.matching.specs.Decision.{judge, Every};
-ghost use Rattle.matching.specs.Graph.{largest, pair-count, over, cell-fault};
+ghost use Rattle.matching.specs.Graph.{largest, pair-count, over};
 ghost use Rattle.matching.specs.Causes.{lent-always, lent-besides, first-short, opening-causes, opening-ruling};
 ghost use Rattle.matching.specs.Causes.{too-large, too-short, bad-cell, bad-weight};
 ghost use Rattle.checks.specs.Weights.{needed};
 ghost use Rattle.refusals.specs.Meaning.{finding-of, ruling-of};
 ghost use Rattle.checks.specs.Meaning.{then, InRow, Located};
+ghost use Rattle.checks.specs.declared.Cells.the-variants.{Faulty};
 use refusals::Fault;
 use refusals::Finding;
 use refusals::Refusal;
@@ -95,22 +96,14 @@ pub fn judge_lengths(
     }
 }
 
-// Returns the kind of fault of a cell at row and column with its mirror, and 0 if it has none.
-fn cell_fault(cell: u8, mirror: u8, row: usize, column: usize) -> u8
-    ensures { λ r. ⌜ r ≡ cell-fault cell mirror row column ⌝ }
+// Returns the faulty cell at row and column, with its kind of fault.
+fn faulty(row: usize, column: usize, kind: u8) -> Cells
+    requires { ⌜ (row < largest) × (column < largest) ⌝ }
+    ensures { λ r. ⌜ r ≡ Faulty (record { row = row; column = column; kind = kind }) ⌝ }
 {
-    if 1 < cell {
-        return 1;
-    }
-    if row == column {
-        if cell != 0 {
-            return 2;
-        }
-    }
-    if cell == mirror {
-        return 0;
-    }
-    3
+    let row = row as u8;
+    let column = column as u8;
+    Cells::Faulty(Fault { row, column, kind })
 }
 
 // Finds the first fault of a row from the diagonal on; start is the index of the diagonal cell.
@@ -118,16 +111,24 @@ fn row_fault(n: usize, adjacency: &[u8], row: usize, start: usize) -> Cells
     requires { ⌜ (n ≤ largest) × (n * n ≤ length (now adjacency)) × (row < n) × (start ≡ row * n + row) ⌝ }
     ensures { λ r. ⌜ InRow (over n (now (adjacency .entry)) []) row r ⌝ }
 {
-    let mut column = row;
-    let mut index = start;
-    let mut mirror = start;
+    let diagonal = adjacency[start];
+    if 1 < diagonal {
+        return faulty(row, row, 1);
+    }
+    if diagonal != 0 {
+        return faulty(row, row, 2);
+    }
+    let mut column = row + 1;
+    let mut index = start + 1;
+    let mut mirror = start + n;
     // index is the cell at row and column, and mirror the cell at column and row.
     while column < n {
-        let kind = cell_fault(adjacency[index], adjacency[mirror], row, column);
-        if kind != 0 {
-            let row = row as u8;
-            let column = column as u8;
-            return Cells::Faulty(Fault { row, column, kind });
+        let cell = adjacency[index];
+        if 1 < cell {
+            return faulty(row, column, 1);
+        }
+        if cell != adjacency[mirror] {
+            return faulty(row, column, 3);
         }
         column += 1;
         index += 1;
