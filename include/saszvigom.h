@@ -144,9 +144,10 @@ enum saszvigom_cause SASZVIGOM_ENUM_TYPE {
     /* The adjacency byte of row i and column j is not 0 or 1, or is not 0 though
        i = j, or differs from that of row j and column i. The place is the cell of
        the first such byte, row by row: its row i, its column j, and the first of
-       the three faults that it has. saszvigom_fault_row, saszvigom_fault_column
-       and saszvigom_fault_of of saszvigom_text.h return them. If two bytes
-       differ, both are at fault, so j is never below i. */
+       the three faults that it has, 1, 2 or 3 in this order, one of enum
+       saszvigom_fault. saszvigom_fault_row, saszvigom_fault_column and
+       saszvigom_fault_of return them. If two bytes differ, both are at fault, so
+       j is never smaller than i. */
     SASZVIGOM_ADJACENCY_FAULT = 3,
     /* A weight is 0 or above 65520, of adjacent vertices or of others. The place
        is the index of the first such weight: 0 for the first word, 1 for the
@@ -218,6 +219,21 @@ enum saszvigom_buffer SASZVIGOM_ENUM_TYPE {
     SASZVIGOM_BUFFER_ROW = 7,
     /* 8 and 9 name no buffer yet. */
     SASZVIGOM_BUFFER_ANSWERS = 10
+};
+
+/* What is wrong with the adjacency byte of SASZVIGOM_ADJACENCY_FAULT: bits 32 to
+   39 of the number returned. It is the first of the three that applies to that
+   byte. */
+enum saszvigom_fault SASZVIGOM_ENUM_TYPE {
+    /* Nothing: the cause is another one, or there is none, or the number is of a
+       version before 0.7.0. */
+    SASZVIGOM_NO_FAULT = 0,
+    /* It is not 0 or 1. */
+    SASZVIGOM_FAULT_VALUE = 1,
+    /* It is not 0 though its row is its column. */
+    SASZVIGOM_FAULT_DIAGONAL = 2,
+    /* It differs from the byte with row and column exchanged. */
+    SASZVIGOM_FAULT_MIRROR = 3
 };
 
 /* What a call found: bits 8 to 15 of the number returned. */
@@ -621,7 +637,8 @@ static inline enum saszvigom_kind saszvigom_kind_of(uint64_t number)
 
 /* Returns the place of the cause in full. It is the line of a text for the
    causes 14 and 16, and for SASZVIGOM_SIZE_TOO_LARGE of a text, unless it is 0:
-   then no line is at fault. It means nothing if the call was not refused. */
+   then no line is at fault. For SASZVIGOM_ADJACENCY_FAULT it is no index, but the
+   three parts of a cell. It means nothing if the call was not refused. */
 static inline uint64_t saszvigom_line_of(uint64_t number)
 {
     return number >> 16 & 0x7FFFFFFFFFFFu;
@@ -630,8 +647,8 @@ static inline uint64_t saszvigom_line_of(uint64_t number)
 /* Returns the place of the cause, or 4294967295 if it is that or larger, as only
    the line of a text can be: saszvigom_line_of returns that in full. For
    SASZVIGOM_ADJACENCY_FAULT it is row + 256 * column + 65536 * fault, and not an
-   index: use saszvigom_fault_row, saszvigom_fault_column and saszvigom_fault_of
-   of saszvigom_text.h. It means nothing if the call was not refused. */
+   index: use saszvigom_fault_row, saszvigom_fault_column and saszvigom_fault_of.
+   It means nothing if the call was not refused. */
 static inline unsigned saszvigom_place_of(uint64_t number)
 {
     const uint64_t place = saszvigom_line_of(number);
@@ -645,8 +662,37 @@ static inline enum saszvigom_buffer saszvigom_buffer_of(uint64_t number)
     return (enum saszvigom_buffer)(number >> 16 & 0xFFFFu);
 }
 
+/* Return the row, the column and the fault of the adjacency byte at fault. Row
+   and column count from 0, and mean nothing for a cause other than
+   SASZVIGOM_ADJACENCY_FAULT; saszvigom_fault_of returns SASZVIGOM_NO_FAULT for
+   another cause. They answer from the number alone: n and the table, which may
+   be null, make no difference. */
+static inline unsigned saszvigom_fault_row(uint64_t number, uint64_t n)
+{
+    (void)n;
+    return (unsigned)(number >> 16 & 0xFFu);
+}
+
+static inline unsigned saszvigom_fault_column(uint64_t number, uint64_t n)
+{
+    (void)n;
+    return (unsigned)(number >> 24 & 0xFFu);
+}
+
+static inline enum saszvigom_fault saszvigom_fault_of(uint64_t number, uint64_t n,
+                                                      const uint8_t *adjacency,
+                                                      size_t adjacency_len)
+{
+    (void)n;
+    (void)adjacency;
+    (void)adjacency_len;
+    if (saszvigom_cause_of(number) != SASZVIGOM_ADJACENCY_FAULT)
+        return SASZVIGOM_NO_FAULT;
+    return (enum saszvigom_fault)(number >> 32 & 0xFFu);
+}
+
 /* Returns the first dependent column f. It means nothing for a kind other than
-   SASZVIGOM_SINGULAR. */
+   SASZVIGOM_SINGULAR: the column of a cell is that of saszvigom_fault_column. */
 static inline unsigned saszvigom_column_of(uint64_t number)
 {
     return (unsigned)(number >> 16 & 0xFFu);
@@ -667,8 +713,8 @@ static inline unsigned saszvigom_larger_of(uint64_t number)
 }
 
 /* Returns the pairs made after the call, for the kinds SASZVIGOM_OPENED,
-   SASZVIGOM_PAIR, SASZVIGOM_ROW and SASZVIGOM_REPLAYED. If the call was
-   refused, the pairs made are those that were sent. */
+   SASZVIGOM_PAIR, SASZVIGOM_ROW and SASZVIGOM_REPLAYED. It means nothing if the
+   call was refused: the pairs made are then those that were sent. */
 static inline unsigned saszvigom_made_of(uint64_t number)
 {
     return (unsigned)(number >> 32 & 0xFFu);

@@ -171,49 +171,6 @@ static inline bool saszvigom_weight_vertices(uint64_t n, uint64_t index, unsigne
     return true;
 }
 
-/* What is wrong with the adjacency byte of SASZVIGOM_ADJACENCY_FAULT: bits 32 to
-   39 of the number returned. It is the first of the three that applies to that
-   byte. */
-enum saszvigom_fault SASZVIGOM_ENUM_TYPE {
-    /* Nothing: the cause is another one, or there is none. */
-    SASZVIGOM_NO_FAULT = 0,
-    /* It is not 0 or 1. */
-    SASZVIGOM_FAULT_VALUE = 1,
-    /* It is not 0 though its row is its column. */
-    SASZVIGOM_FAULT_DIAGONAL = 2,
-    /* It differs from the byte with row and column exchanged. */
-    SASZVIGOM_FAULT_MIRROR = 3
-};
-
-/* Return the row, the column and the fault of the adjacency byte at fault. Row
-   and column count from 0, and mean nothing for a cause other than
-   SASZVIGOM_ADJACENCY_FAULT; saszvigom_fault_of returns SASZVIGOM_NO_FAULT for
-   another cause. They answer from the number alone: n and the table, which may
-   be null, make no difference. */
-static inline unsigned saszvigom_fault_row(uint64_t number, uint64_t n)
-{
-    (void)n;
-    return (unsigned)(number >> 16 & 0xFFu);
-}
-
-static inline unsigned saszvigom_fault_column(uint64_t number, uint64_t n)
-{
-    (void)n;
-    return (unsigned)(number >> 24 & 0xFFu);
-}
-
-static inline enum saszvigom_fault saszvigom_fault_of(uint64_t number, uint64_t n,
-                                                      const uint8_t *adjacency,
-                                                      size_t adjacency_len)
-{
-    (void)n;
-    (void)adjacency;
-    (void)adjacency_len;
-    if (saszvigom_cause_of(number) != SASZVIGOM_ADJACENCY_FAULT)
-        return SASZVIGOM_NO_FAULT;
-    return (enum saszvigom_fault)(number >> 32 & 0xFFu);
-}
-
 /* Returns the fault that the byte at row i and column j of a table of n vertices
    has, or SASZVIGOM_NO_FAULT if the byte is in order or not there, or the table
    is null or has less than n * n bytes. Only for this header. */
@@ -264,7 +221,8 @@ static inline void saszvigom_line_number(struct saszvigom_line *line, const char
 }
 
 /* Writes which adjacency byte is at fault and what is wrong with it, as the
-   number says; with the bytes, if the table shows that fault there. */
+   number says; with the bytes, if the table shows that fault there. Only for
+   this header. */
 static inline void saszvigom_line_fault(struct saszvigom_line *line, uint64_t number, uint64_t n,
                                         const uint8_t *adjacency, size_t adjacency_len)
 {
@@ -276,16 +234,20 @@ static inline void saszvigom_line_fault(struct saszvigom_line *line, uint64_t nu
     saszvigom_line_text(line, ": the adjacency byte");
     switch (fault) {
     case SASZVIGOM_FAULT_VALUE:
+        if (shown)
+            saszvigom_line_number(line, " is ", adjacency[i * n + j]);
+        saszvigom_line_text(line, shown ? ", not 0 or 1" : " is not 0 or 1");
+        return;
     case SASZVIGOM_FAULT_DIAGONAL:
         if (shown)
             saszvigom_line_number(line, " is ", adjacency[i * n + j]);
-        saszvigom_line_text(line, shown ? ", not 0" : " is not 0");
-        saszvigom_line_text(line, fault == SASZVIGOM_FAULT_VALUE ? " or 1" : " on the diagonal");
+        saszvigom_line_text(line, shown ? ", but must be 0 on the diagonal"
+                                        : " is not 0 on the diagonal");
         return;
     case SASZVIGOM_FAULT_MIRROR:
         if (shown)
             saszvigom_line_number(line, " is ", adjacency[i * n + j]);
-        saszvigom_line_text(line, shown ? ", and that of" : " differs from that of");
+        saszvigom_line_text(line, shown ? ", but that of" : " differs from that of");
         saszvigom_line_number(line, " row ", j);
         saszvigom_line_number(line, ", column ", i);
         if (shown)
@@ -298,7 +260,7 @@ static inline void saszvigom_line_fault(struct saszvigom_line *line, uint64_t nu
 }
 
 /* Writes which weight is out of range, that of vertices i and j, and its value
-   if the weights show it. */
+   if the weights show it. Only for this header. */
 static inline void saszvigom_line_weight(struct saszvigom_line *line, uint64_t number, uint64_t n,
                                          const uint8_t *weights, size_t weights_len, unsigned i,
                                          unsigned j)
@@ -318,7 +280,8 @@ static inline void saszvigom_line_weight(struct saszvigom_line *line, uint64_t n
     }
 }
 
-/* Writes why the call was refused, without the cause's number and place. */
+/* Writes why the call was refused, without the cause's number and place. Only for
+   this header. */
 static inline void saszvigom_line_refusal(struct saszvigom_line *line, uint64_t number, uint64_t n,
                                           enum saszvigom_from from, const uint8_t *adjacency,
                                           size_t adjacency_len, const uint8_t *weights,
@@ -365,10 +328,10 @@ static inline void saszvigom_line_place(struct saszvigom_line *line, uint64_t nu
 }
 
 /*
- * Explain a number in one line. They do not know which session call it was: an
- * undo reads like a pick, and causes 7 and 11 name both cases.
+ * Both functions explain a number in one line. They do not know which session
+ * call it was: an undo reads like a pick, and causes 7 and 11 name both cases.
  * saszvigom_explain has only the number; saszvigom_explain_with also looks at
- * the graph that the call was lent, and says what is wrong there. Examples:
+ * the graph that the call was lent, and says what stands there. Examples:
  *
  *     refused: row 0, column 1: the adjacency byte is not 0 or 1 (cause 3)
  *     refused: row 0, column 1: the adjacency byte is 7, not 0 or 1 (cause 3)

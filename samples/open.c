@@ -62,8 +62,12 @@ static void open_graph(const char *name, size_t n, const struct edge *edges, siz
         print_words(witness, 1, n);
         break;
     default:
-        printf("refused, cause %u at place %u\n", saszvigom_cause_of(number),
-               saszvigom_place_of(number));
+        if (saszvigom_cause_of(number) == SASZVIGOM_ADJACENCY_FAULT)
+            printf("refused, cause 3 at row %u, column %u\n", saszvigom_fault_row(number, n),
+                   saszvigom_fault_column(number, n));
+        else
+            printf("refused, cause %u at place %u\n", saszvigom_cause_of(number),
+                   saszvigom_place_of(number));
     }
 }
 

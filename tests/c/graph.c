@@ -464,7 +464,7 @@ static void explained(void)
     check_line("refused: row 1, column 2: the adjacency byte is not 0 or 1 (cause 3)", number,
                call);
     number = saszvigom_graph_open(&graph);
-    check_line("refused: row 1, column 2: the adjacency byte is 1, and that of row 2, column 1 is "
+    check_line("refused: row 1, column 2: the adjacency byte is 1, but that of row 2, column 1 is "
                "0 (cause 3)",
                number, call);
     check("the edge", saszvigom_graph_set_edge(&graph, 1, 2));
@@ -476,7 +476,7 @@ static void explained(void)
                saszvigom_graph_automatic(&graph), call);
     graph.adjacency[2 * 8 + 2] = 1;
     number = saszvigom_graph_undo(&graph);
-    check_line("refused: row 2, column 2: the adjacency byte is 1, not 0 on the diagonal (cause 3)",
+    check_line("refused: row 2, column 2: the adjacency byte is 1, but must be 0 on the diagonal (cause 3)",
                number, call);
     graph.n = 2;
     check_line("refused: row 2, column 2: the adjacency byte is not 0 on the diagonal (cause 3)",

@@ -594,10 +594,10 @@ static void check_byte(const struct lent *lent, unsigned i, unsigned j, uint8_t 
 static void check_bytes(const struct lent *lent, unsigned i, unsigned j)
 {
     char differs[80], zero[80], one[80], damaged[80];
-    const char *const text = "is %u, and that of row %u, column %u is %u";
+    const char *const text = "is %u, but that of row %u, column %u is %u";
     if (i == j) {
-        check_byte(lent, i, i, 1, 1, SASZVIGOM_FAULT_DIAGONAL, "is 1, not 0 on the diagonal",
-                   "is not 0 on the diagonal");
+        check_byte(lent, i, i, 1, 1, SASZVIGOM_FAULT_DIAGONAL,
+                   "is 1, but must be 0 on the diagonal", "is not 0 on the diagonal");
         check_byte(lent, i, i, 7, 7, SASZVIGOM_FAULT_VALUE, "is 7, not 0 or 1", "is not 0 or 1");
         check_byte(lent, i, i, 255, 255, SASZVIGOM_FAULT_VALUE, "is 255, not 0 or 1",
                    "is not 0 or 1");
@@ -681,7 +681,7 @@ static void any_graph(void)
         const uint64_t number = place << 16 | (k % 2 ? 3 : 4);
         const char *const text = line_with(&lent, number);
         longest = strlen(text) > longest ? strlen(text) : longest;
-        shown += strstr(text, ", not 0") != NULL || strstr(text, ", and that of") != NULL;
+        shown += strstr(text, ", not 0") != NULL || strstr(text, ", but ") != NULL;
         give_back(&lent);
     }
     check("the longest line with a graph", longest > 100 && longest < SASZVIGOM_LINE_BYTES);

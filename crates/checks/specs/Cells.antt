@@ -9,18 +9,18 @@ use native.Mathlib.Decide.{ℕ-discrete, decLt}
 use lib.ListN.{getD}
 use Rattle.lists.specs.Table.{index-positive, row-below, column-below, index-of, index-row, index-column, index-below}
 use Rattle.matching.specs.Decision.{Every, faulty-cell, absent, at}
-use Rattle.matching.specs.Graph.{Graph, over, cell-fault, fault, Faulty}
+use Rattle.matching.specs.Graph.{Graph, over, cell-fault, fault, fault-at, Faulty}
 use Rattle.matching.specs.Causes.{first-faulty, cell-at, bad-cell}
-use Rattle.laws.specs.Faults.{fault-of-cell, fault-mirror, index-cell}
+use Rattle.laws.specs.Faults.{fault-of-cell, fault-mirror, bad-cell-at}
 use Rattle.laws.specs.Judge.{found-absent}
-use Rattle.refusals.specs.declared.Fault.{Fault}
+use Rattle.refusals.specs.declared.FaultyCell.{FaultyCell}
 use Rattle.checks.specs.Meaning.{FaultInRow, Located}
 use Rattle.checks.specs.declared.Cells.{Cells}
 use Rattle.checks.specs.declared.Cells.the-variants as variants
 
 -- the fault by the indices of the cell and of its mirror
-pub fault-at : (g : Graph) (i j x y : ℕ) → x ≡ i * g .n + j → y ≡ j * g .n + i → cell-fault (getD (g .adjacency) x 0) (getD (g .adjacency) y 0) i j ≡ fault g i j
-fault-at g i j x y ex ey = rw (ex, ey) (sym (fault-of-cell g i j))
+pub fault-by-index : (g : Graph) (i j x y : ℕ) → x ≡ i * g .n + j → y ≡ j * g .n + i → cell-fault (getD (g .adjacency) x 0) (getD (g .adjacency) y 0) i j ≡ fault g i j
+fault-by-index g i j x y ex ey = rw (ex, ey) (sym (fault-of-cell g i j))
 
 module _ (g : Graph) where
   -- the rows before i have no fault from the diagonal on
@@ -47,7 +47,7 @@ module _ (g : Graph) where
       left-of : x / g .n ≡ i → x % g .n < j
       left-of e = omega (arith, index-of (g .n) x, ap (λ k. k * g .n) e)
 
-      go : Dec (x / g .n < i) → Dec (x % g .n < x / g .n) → fault g (x / g .n) (x % g .n) ≡ 0
+      go : Dec (x / g .n < i) → Dec (x % g .n < x / g .n) → fault-at g x ≡ 0
       go (yes a) (no b) = rows (x / g .n) a (x % g .n) (omega arith) at-column
       go (yes a) (yes b) = fault-mirror g (x % g .n) (x / g .n) (λ e. omega arith) (rows (x % g .n) (omega arith) (x / g .n) (omega arith) at-row)
       go (no a) (yes b) =
@@ -59,7 +59,7 @@ module _ (g : Graph) where
       → bad-cell g .finding ≡ at (faulty-cell i j (fault g i j))
   cell-first i j hi hj d rows row =
       let below = index-below (g .n) i j hi hj in
-      index-cell g (i * g .n + j)
+      bad-cell-at g (i * g .n + j)
       (record { below = below; holds = rw (index-row (g .n) i j hj, index-column (g .n) i j hj) d; none-before = passed i j (omega arith) (omega arith) rows row })
       ∙ ap₂ (λ k l. at (faulty-cell k l (fault g k l))) (index-row (g .n) i j hj) (index-column (g .n) i j hj)
 
@@ -68,9 +68,9 @@ module _ (g : Graph) where
   cells-absent rows = found-absent (cell-at g) (first-faulty g) .1 (λ x l. passed (g .n) 0 (omega arith) (omega arith) rows (λ l a b. absurd (omega arith)) x (omega arith))
 
   -- a fault that is the first of its row is the first of all, if the rows before have none
-  pub first-in-row : (i : ℕ) → i < g .n → RowsPassed i → (f : Fault) → FaultInRow g i f → Located g (variants.Faulty f)
+  pub first-in-row : (i : ℕ) → i < g .n → RowsPassed i → (f : FaultyCell) → FaultInRow g i f → Located g (variants.Faulty f)
   first-in-row i hi rows f s =
-      rw (s .row, s .kind) (cell-first i (f .column) hi (s .column) (λ e. s .faulty (s .kind ∙ e)) rows (s .before))
+      rw (s .row, s .is) (cell-first i (f .column) hi (s .column) (λ e. s .faulty (s .is ∙ e)) rows (s .before))
 
   pub next-row : (i : ℕ) → RowsPassed i → ((l : ℕ) → i ≤ l → l < g .n → fault g i l ≡ 0) → RowsPassed (i + 1)
   next-row i rows row k a l b c = go (ℕ-discrete k i)

@@ -1,4 +1,5 @@
-// Checks a lent graph: causes 1 to 4 of document 01's table with their places, in that order.
+// Checks a lent graph: causes 1 to 4 of document 01's table, in that order, each with its place; that of 3 is the cell that document 02,
+// request 2, asks for.
 ghost use mathlib.Core.Path.{_≡_};
 ghost use mathlib.Core.Bool.{true};
 ghost use mathlib.Core.List.{List, [], _∷_, _++_};
@@ -13,7 +14,7 @@ ghost use Rattle.checks.specs.Weights.{needed};
 ghost use Rattle.refusals.specs.Meaning.{finding-of, ruling-of};
 ghost use Rattle.checks.specs.Meaning.{then, InRow, Located};
 ghost use Rattle.checks.specs.declared.Cells.the-variants.{Faulty};
-use refusals::Fault;
+use refusals::FaultyCell;
 use refusals::Finding;
 use refusals::Refusal;
 use refusals::Ruling;
@@ -25,7 +26,7 @@ pub const LARGEST: usize = 96;
 // The first faulty cell, or none.
 pub enum Cells {
     Faultless,
-    Faulty(Fault),
+    Faulty(FaultyCell),
 }
 
 // Returns n (n - 1) / 2, one for each two vertices.
@@ -96,14 +97,14 @@ pub fn judge_lengths(
     }
 }
 
-// Returns the faulty cell at row and column, with its kind of fault.
-fn faulty(row: usize, column: usize, kind: u8) -> Cells
+// Returns the cell in this row and column, with its fault.
+fn faulty(row: usize, column: usize, fault: u8) -> Cells
     requires { ⌜ (row < largest) × (column < largest) ⌝ }
-    ensures { λ r. ⌜ r ≡ Faulty (record { row = row; column = column; kind = kind }) ⌝ }
+    ensures { λ r. ⌜ r ≡ Faulty (record { row = row; column = column; fault = fault }) ⌝ }
 {
     let row = row as u8;
     let column = column as u8;
-    Cells::Faulty(Fault { row, column, kind })
+    Cells::Faulty(FaultyCell { row, column, fault })
 }
 
 // Finds the first fault of a row from the diagonal on; start is the index of the diagonal cell.
@@ -137,7 +138,7 @@ fn row_fault(n: usize, adjacency: &[u8], row: usize, start: usize) -> Cells
     Cells::Faultless
 }
 
-// Finds the first fault, row by row. A cell left of the diagonal has a fault only if its mirror, which comes earlier, has one.
+// Finds the first fault, row by row. A cell below the diagonal has a fault only if its mirror, which comes earlier, has one.
 fn first_fault(n: usize, adjacency: &[u8]) -> Cells
     requires { ⌜ (n ≤ largest) × (n * n ≤ length (now adjacency)) ⌝ }
     ensures { λ r. ⌜ ((weights : List ℕ) → Located (over n (now (adjacency .entry)) weights) r) ⌝ }
@@ -146,8 +147,8 @@ fn first_fault(n: usize, adjacency: &[u8]) -> Cells
     let mut start = 0;
     // start is the index of the diagonal cell of row.
     while row < n {
-        if let Cells::Faulty(fault) = row_fault(n, adjacency, row, start) {
-            return Cells::Faulty(fault);
+        if let Cells::Faulty(cell) = row_fault(n, adjacency, row, start) {
+            return Cells::Faulty(cell);
         }
         row += 1;
         start += n + 1;
@@ -229,8 +230,8 @@ fn judge_graph(n: usize, adjacency: &[u8], weights: &[u16]) -> Ruling
         let g = over n (now (adjacency .entry)) (now (weights .entry)) in
         ⌜ ruling-of r ≡ judge (bad-cell g ∷ bad-weight modulus g ∷ []) ⌝ }
 {
-    if let Cells::Faulty(fault) = first_fault(n, adjacency) {
-        return refusals::refuse_cell(fault);
+    if let Cells::Faulty(cell) = first_fault(n, adjacency) {
+        return refusals::refuse_cell(cell);
     }
     if let Finding::At(place) = first_outside(n, weights) {
         return refusals::refuse(4, place);

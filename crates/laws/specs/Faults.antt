@@ -9,7 +9,7 @@ use native.Mathlib.Decide.{ℕ-discrete, decLt}
 use Rattle.lists.specs.Choose.{choose-yes, choose-no}
 use Rattle.lists.specs.Table.{index-of, index-below, index-row, index-column, row-below, column-below}
 use Rattle.matching.specs.Decision.{both?, not?, Every, Lowest, Place, faulty-cell, at}
-use Rattle.matching.specs.Graph.{Graph, cell, cell-fault, fault, Faulty}
+use Rattle.matching.specs.Graph.{Graph, cell, cell-fault, fault, fault-at, Faulty}
 use Rattle.matching.specs.Causes.{first-faulty, cell-at, bad-cell}
 use Rattle.laws.specs.Judge.{stable, found-at, found-lowest}
 
@@ -52,32 +52,32 @@ cell-fault-mirror x y i j d e = go (decLt 1 x) (ℕ-discrete x y)
     go (no l) (no q) = absurd (omega (arith, fault-unequal x y i j (omega arith) (λ h. absurd (d h)) q))
 
 -- the three faults that the cell in row i, column j can have, in the order of document 01's table
-pub data Has (g : Graph) (i j : ℕ) : ℕ → Type 0 where
-  not-bit : 1 < cell g i j → Has g i j 1
-  not-empty : i ≡ j → cell g i j ≢ 0 → Has g i j 2
-  not-mirrored : cell g i j ≢ cell g j i → Has g i j 3
+pub data HasFault (g : Graph) (i j : ℕ) : ℕ → Type 0 where
+  not-bit : 1 < cell g i j → HasFault g i j 1
+  not-empty : i ≡ j → cell g i j ≢ 0 → HasFault g i j 2
+  not-mirrored : cell g i j ≢ cell g j i → HasFault g i j 3
 
 module _ (g : Graph) where
   -- the fault of a cell is the first of the three that it has, and 0 if it has none
-  pub fault-lowest : (i j : ℕ) → fault g i j ≢ 0 → Lowest 4 (Has g i j) (fault g i j)
+  pub fault-lowest : (i j : ℕ) → fault g i j ≢ 0 → Lowest 4 (HasFault g i j) (fault g i j)
   fault-lowest i j f = go (decLt 1 (cell g i j)) (both? (ℕ-discrete i j) (not? (ℕ-discrete (cell g i j) 0))) (ℕ-discrete (cell g i j) (cell g j i))
     where
-      first : Every 1 (λ k. ¬ Has g i j k)
+      first : Every 1 (λ k. ¬ HasFault g i j k)
       first k l (not-bit _) = omega arith
       first k l (not-empty _ _) = omega arith
       first k l (not-mirrored _) = omega arith
 
-      second : ¬ (1 < cell g i j) → Every 2 (λ k. ¬ Has g i j k)
+      second : ¬ (1 < cell g i j) → Every 2 (λ k. ¬ HasFault g i j k)
       second a k l (not-bit h) = a h
       second a k l (not-empty _ _) = omega arith
       second a k l (not-mirrored _) = omega arith
 
-      third : ¬ (1 < cell g i j) → ¬ ((i ≡ j) × (cell g i j ≢ 0)) → Every 3 (λ k. ¬ Has g i j k)
+      third : ¬ (1 < cell g i j) → ¬ ((i ≡ j) × (cell g i j ≢ 0)) → Every 3 (λ k. ¬ HasFault g i j k)
       third a b k l (not-bit h) = a h
       third a b k l (not-empty e z) = b (e, z)
       third a b k l (not-mirrored _) = omega arith
 
-      go : Dec (1 < cell g i j) → Dec ((i ≡ j) × (cell g i j ≢ 0)) → Dec (cell g i j ≡ cell g j i) → Lowest 4 (Has g i j) (fault g i j)
+      go : Dec (1 < cell g i j) → Dec ((i ≡ j) × (cell g i j ≢ 0)) → Dec (cell g i j ≡ cell g j i) → Lowest 4 (HasFault g i j) (fault g i j)
       go (yes a) _ _ =
           rw (fault-of-cell g i j ∙ fault-large (cell g i j) (cell g j i) i j a)
           (record { below = omega arith; holds = not-bit a; none-before = first })
@@ -90,7 +90,7 @@ module _ (g : Graph) where
       go (no a) (no b) (yes c) =
           absurd (f (fault-of-cell g i j ∙ fault-none (cell g i j) (cell g j i) i j (omega arith) (λ e. stable (ℕ-discrete (cell g i j) 0) (λ z. b (e, z))) c))
 
-  pub no-fault : (i j : ℕ) → fault g i j ≡ 0 → (k : ℕ) → ¬ Has g i j k
+  pub no-fault : (i j : ℕ) → fault g i j ≡ 0 → (k : ℕ) → ¬ HasFault g i j k
   no-fault i j f k (not-bit h) = omega (arith, f, fault-of-cell g i j, fault-large (cell g i j) (cell g j i) i j h)
   no-fault i j f k (not-empty e z) = go (decLt 1 (cell g i j))
     where
@@ -109,31 +109,59 @@ module _ (g : Graph) where
   fault-mirror i j d e = fault-of-cell g j i ∙ cell-fault-mirror (cell g i j) (cell g j i) i j d (sym (fault-of-cell g i j) ∙ e)
 
   -- cause 3 is found at the cell of the lowest faulty index x, row by row: row x / n, column x mod n; and only there
-  pub index-cell : (x : ℕ) → Lowest (g .n * g .n) (Faulty g) x → bad-cell g .finding ≡ at (cell-at g x)
+  pub bad-cell-at : (x : ℕ) → Lowest (g .n * g .n) (Faulty g) x → bad-cell g .finding ≡ at (cell-at g x)
   unfolding bad-cell
-  index-cell x h = found-at (cell-at g) (first-faulty g) x (h .below) (h .holds) (h .none-before)
+  bad-cell-at x h = found-at (cell-at g) (first-faulty g) x (h .below) (h .holds) (h .none-before)
 
-  pub cell-index : {place : Place} → bad-cell g .finding ≡ at place → (x : ℕ) × Lowest (g .n * g .n) (Faulty g) x × (place ≡ cell-at g x)
+  pub bad-cell-lowest : {place : Place} → bad-cell g .finding ≡ at place → (x : ℕ) × Lowest (g .n * g .n) (Faulty g) x × (place ≡ cell-at g x)
   unfolding bad-cell
-  cell-index e = found-lowest (cell-at g) (first-faulty g) e
+  bad-cell-lowest e = found-lowest (cell-at g) (first-faulty g) e
 
-  -- this cell is not left of the diagonal, and its fault is the first of the three that it has
-  pub cell-found : {i j f : ℕ} → bad-cell g .finding ≡ at (faulty-cell i j f) → (i ≤ j) × (j < g .n) × Lowest 4 (Has g i j) f
-  cell-found {i} {j} {f} e = go (cell-index e)
+  -- what this cell is: its index is the lowest of a faulty cell; it is not below the diagonal; its fault is the first that it has; fault 2
+  -- stands on the diagonal, and fault 3 never does
+  pub record FaultyAt (i j f : ℕ) : Type 0 where
+    pub lowest : Lowest (g .n * g .n) (Faulty g) (i * g .n + j)
+    pub right : i ≤ j
+    pub inside : j < g .n
+    pub has : Lowest 4 (HasFault g i j) f
+    pub on-diagonal : f ≡ 2 → i ≡ j
+    pub off-diagonal : f ≡ 3 → i < j
+
+  two-diagonal : {i j f : ℕ} → HasFault g i j f → f ≡ 2 → i ≡ j
+  two-diagonal (not-bit _) e = absurd (omega arith)
+  two-diagonal (not-empty d _) e = d
+  two-diagonal (not-mirrored _) e = absurd (omega arith)
+
+  three-apart : {i j f : ℕ} → HasFault g i j f → f ≡ 3 → i ≢ j
+  three-apart (not-bit _) e q = omega arith
+  three-apart (not-empty _ _) e q = omega arith
+  three-apart (not-mirrored d) e q = d (rw q refl)
+
+  pub bad-cell-upper : {i j f : ℕ} → bad-cell g .finding ≡ at (faulty-cell i j f) → FaultyAt i j f
+  bad-cell-upper {i} {j} {f} e = go (bad-cell-lowest e)
     where
-      go : (x : ℕ) × Lowest (g .n * g .n) (Faulty g) x × (faulty-cell i j f ≡ cell-at g x) → (i ≤ j) × (j < g .n) × Lowest 4 (Has g i j) f
+      go : (x : ℕ) × Lowest (g .n * g .n) (Faulty g) x × (faulty-cell i j f ≡ cell-at g x) → FaultyAt i j f
       go (x, h, q) =
           let qi : i ≡ x / g .n = cc in
           let qj : j ≡ x % g .n = cc in
-          let qf : f ≡ fault g (x / g .n) (x % g .n) = cc in
-          rw (qi, qj, qf) (upper, column-below (g .n) x (h .below), fault-lowest (x / g .n) (x % g .n) (h .holds))
+          let qf : f ≡ fault-at g x = cc in
+          let first = fault-lowest (x / g .n) (x % g .n) (h .holds) in
+          rw (qi, qj, qf)
+          (record {
+            lowest = rw (index-of (g .n) x) h;
+            right = upper;
+            inside = column-below (g .n) x (h .below);
+            has = first;
+            on-diagonal = two-diagonal (first .holds);
+            off-diagonal = λ three. let d = three-apart (first .holds) three in omega (arith, upper);
+          })
         where
           upper : x / g .n ≤ x % g .n
-          upper = right (decLt (x % g .n) (x / g .n))
+          upper = side (decLt (x % g .n) (x / g .n))
             where
-              right : Dec (x % g .n < x / g .n) → x / g .n ≤ x % g .n
-              right (no l) = omega arith
-              right (yes l) = absurd (h .holds (fault-mirror (x % g .n) (x / g .n) (λ q. omega arith) mirrored))
+              side : Dec (x % g .n < x / g .n) → x / g .n ≤ x % g .n
+              side (no l) = omega arith
+              side (yes l) = absurd (h .holds (fault-mirror (x % g .n) (x / g .n) (λ q. omega arith) mirrored))
                 where
                   row : x / g .n < g .n
                   row = row-below (g .n) x (h .below)
@@ -156,7 +184,7 @@ pub record Simple (g : Graph) : Type 0 where
 -- it is a table without a fault
 module _ (g : Graph) where
   abbrev pub Faultless : Type 0
-  Faultless = (x : ℕ) → x < g .n * g .n → fault g (x / g .n) (x % g .n) ≡ 0
+  Faultless = (x : ℕ) → x < g .n * g .n → fault-at g x ≡ 0
 
   cell-faultless : Faultless → (i j : ℕ) → i < g .n → j < g .n → cell-fault (cell g i j) (cell g j i) i j ≡ 0
   cell-faultless F i j hi hj =

@@ -26,6 +26,7 @@ pub mod Longest
 pub mod Outcomes
 -- The host: its number, words as bytes, reading, and demand 3 by single calls.
 pub mod Numbers
+pub mod HostCells
 pub mod Words
 pub mod HostFilling
 pub mod Sheets

@@ -1,5 +1,5 @@
 -- The host's number: each field is read back, different answers have different numbers, and the low byte is 0 exactly when a call was
--- carried out; and every call through the host has exactly one outcome. Assumes nothing.
+-- carried out; and every session call through the host has exactly one outcome. Assumes nothing.
 use mathlib.Core.Path.{_≡_, refl, sym, ap, ap₂, subst, _∙_}
 use mathlib.Core.Logic.{_≢_, _↔_}
 use mathlib.Core.List.{List, [], _∷_, _++_}
@@ -75,7 +75,7 @@ place-small k (index x) h = omega (arith, h .1)
 place-small k (faulty-cell i j f) h = omega (arith, h .1, h .2, h .4)
 
 -- two different places have different numbers: that of a cell needs more than 16 bits
-places-same : (k : ℕ) (x y : Place) → PlaceFits k x → PlaceFits k y → place-number x ≡ place-number y → x ≡ y
+pub places-same : (k : ℕ) (x y : Place) → PlaceFits k x → PlaceFits k y → place-number x ≡ place-number y → x ≡ y
 places-same k (index x) (index y) a b e = ap index e
 places-same k (index x) (faulty-cell i j f) a b e = absurd (omega (arith, a .1, b .3, e))
 places-same k (faulty-cell i j f) (index y) a b e = absurd (omega (arith, b .1, a .3, e))

@@ -3,13 +3,13 @@
 use mathlib.Core.Path.{_≡_, refl}
 use mathlib.Core.Logic.{_↔_}
 use mathlib.Core.List.{List, [], _∷_, _++_}
-use Prim.Native.Nat.{ℕ, _*_, _/_, _%_, _≤_, _<_}
+use Prim.Native.Nat.{ℕ, _*_, _≤_, _<_}
 use native.Mathlib.Omega.{arith}
 use native.Mathlib.Decide.{ℕ-discrete, decLt}
 use lib.ListN.{length}
 use Rattle.lists.specs.Choose.{choose}
 use Rattle.matching.specs.Decision.{Every, index, absent, at, when, Cause, accepted, judge}
-use Rattle.matching.specs.Graph.{Graph, largest, pair-count, fault, InRange, InOrder}
+use Rattle.matching.specs.Graph.{Graph, largest, pair-count, fault-at, InRange, InOrder}
 use Rattle.matching.specs.Session.{State, in-play, graph-of, pairs-of, InverseTable, WellFormed}
 use Rattle.matching.specs.Pairs.{unmatched}
 use Rattle.matching.specs.Decided.{inverse-table?, well-formed?}
@@ -75,11 +75,11 @@ size-ok n =
     let r = when-absent (decLt largest n) 0 in
     (λ e. let h : ¬ (largest < n) = r .0 e in omega arith, λ l. r .1 (λ h. omega arith))
 
-cells-ok : (g : Graph) → (bad-cell g .finding ≡ absent) ↔ Every (g .n * g .n) (λ x. fault g (x / g .n) (x % g .n) ≡ 0)
+cells-ok : (g : Graph) → (bad-cell g .finding ≡ absent) ↔ Every (g .n * g .n) (λ x. fault-at g x ≡ 0)
 unfolding bad-cell
 cells-ok g =
     let r = found-absent (cell-at g) (first-faulty g) in
-    (λ e x l. stable (ℕ-discrete (fault g (x / g .n) (x % g .n)) 0) (r .0 e x l), λ h. r .1 (λ x l d. d (h x l)))
+    (λ e x l. stable (ℕ-discrete (fault-at g x) 0) (r .0 e x l), λ h. r .1 (λ x l d. d (h x l)))
 
 weights-ok : (p : ℕ) (g : Graph) → (bad-weight p g .finding ≡ absent) ↔ Every (pair-count (g .n)) (InRange g p)
 unfolding bad-weight

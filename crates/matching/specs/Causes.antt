@@ -1,5 +1,6 @@
--- Causes 1 to 6 of document 01's table, each with its place, and the order in which opening and the session calls look at them. Causes 7 to
--- 11 are in Model, 12 to 15 in Records, 16 and 17 in Dimacs; a replay has 12 and 13 of its own, in Replay. Assumes nothing.
+-- Causes 1 to 6 of document 01's table, each with its place, that of 3 as document 02, request 2, has it; and the order in which opening and
+-- the session calls look at them. Causes 7 to 11 are in Model, 12 to 15 in Records, 16 and 17 in Dimacs; a replay has 12 and 13 of its own,
+-- in Replay. Assumes nothing.
 use mathlib.Core.List.{List, [], _∷_, _++_}
 use Prim.Native.Nat.{ℕ, _*_, _/_, _%_, _≤_}
 use native.Mathlib.Decide.{ℕ-discrete, decLt}
@@ -7,7 +8,7 @@ use lib.ListN.{length, getD}
 use Rattle.lists.specs.Choose.{choose}
 use Rattle.skew.specs.Subset.{Subset}
 use Rattle.matching.specs.Decision.{both?, not?, First, first?, Place, index, faulty-cell, Finding, absent, at, when, found, Cause, Ruling, judge}
-use Rattle.matching.specs.Graph.{Graph, largest, pair-count, fault, Faulty, InRange}
+use Rattle.matching.specs.Graph.{Graph, largest, pair-count, fault, fault-at, Faulty, InRange}
 use Rattle.matching.specs.Pairs.{unmatched}
 use Rattle.matching.specs.Session.{State, in-play, graph-of, pairs-of}
 use Rattle.matching.specs.Decided.{inverse-table?, well-formed?}
@@ -70,16 +71,17 @@ first-short (b ∷ later) = choose (decLt (b .length) (b .needed)) (at (index (b
 abbrev pub too-short : List Lent → Cause
 too-short buffers = record { number = 2; finding = first-short buffers }
 
--- 3: a cell of the adjacency table not 0 or 1, not 0 on the diagonal, or unequal to its mirror, at the first such cell, row by row, and
--- with the first of these three faults that it has
+-- the index of the first faulty cell, row by row
 unfoldable pub first-faulty : (g : Graph) → First (g .n * g .n) (Faulty g)
 unfolding first? fault ℕ-discrete
-first-faulty g = first? (Faulty g) (g .n * g .n) (λ x. not? (ℕ-discrete (fault g (x / g .n) (x % g .n)) 0))
+first-faulty g = first? (Faulty g) (g .n * g .n) (λ x. not? (ℕ-discrete (fault-at g x) 0))
 
 -- the cell with this index, row by row, and its fault
 abbrev pub cell-at : Graph → ℕ → Place
-cell-at g x = faulty-cell (x / g .n) (x % g .n) (fault g (x / g .n) (x % g .n))
+cell-at g x = faulty-cell (x / g .n) (x % g .n) (fault-at g x)
 
+-- 3: a cell of the adjacency table not 0 or 1, not 0 on the diagonal, or unequal to its mirror, at the first such cell, row by row, and
+-- with the first of these three faults that it has
 unfoldable pub bad-cell : Graph → Cause
 unfolding first-faulty
 bad-cell g = record { number = 3; finding = found (cell-at g) (first-faulty g) }

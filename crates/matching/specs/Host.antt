@@ -225,7 +225,7 @@ pub record HostReads (E : Edition) (sheet adjacency weights : List ℕ) (answer 
 abbrev pub line-place : ℕ → ℕ
 line-place line = choose (decLt line (2 ^ 47 - 1)) line (2 ^ 47 - 1)
 
--- an answer as the number carries it
+-- an answer to a text as its number carries it; a text is never refused at a cell
 abbrev pub capped : Read → Read
 capped (graph-read n m) = graph-read n m
 capped (not-read r) = not-read (because (r .cause) (line-place (place-number (r .place))))

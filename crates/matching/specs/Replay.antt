@@ -40,7 +40,7 @@ first-calls numbers (suc k) =
 abbrev pub calls-of : List ℕ → List Call
 calls-of numbers = first-calls numbers (call-count numbers)
 
--- the index of a call in the 16 bits of a place: 65535 stands for itself and every later one
+-- the index of a call as a place of 16 bits: 65535 stands for itself and every later one
 abbrev pub short-index : ℕ → ℕ
 short-index i = choose (decLt i 65535) i 65535
 

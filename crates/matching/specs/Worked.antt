@@ -8,12 +8,12 @@ use lib.ListN.{replicate}
 use Rattle.draws.specs.Draws.{next, draw, draws}
 use Rattle.residue.specs.Modulus.{modulus-prime}
 use Rattle.skew.specs.Decide.{first-dependent?}
-use Rattle.matching.specs.Decision.{because, because-cell, every?, first?, accepted, refused}
-use Rattle.matching.specs.Graph.{Graph, over, tutte}
+use Rattle.matching.specs.Decision.{faulty-cell, because, because-cell, every?, first?, accepted, refused}
+use Rattle.matching.specs.Graph.{Graph, over, tutte, fault}
 use Rattle.matching.specs.Pairs.{Pair, unmatched, sequence, pairs-on}
 use Rattle.matching.specs.Session.{State}
 use Rattle.matching.specs.Decided.{inverse-table?, witness?}
-use Rattle.matching.specs.Causes.{opening-ruling, session-ruling}
+use Rattle.matching.specs.Causes.{cell-at, opening-ruling, session-ruling}
 use Rattle.matching.specs.Opening.{opened, singular, not-opened, Buffers}
 use Rattle.matching.specs.Display.{of-inverse, of-witness, display}
 use Rattle.matching.specs.Model.{pick, automatic, undo, done, denied, nonsingular?, step, answered, pairs-after, picked, stopped}
@@ -89,6 +89,8 @@ worked =
     ∷ not-opening (over 3 (0 ∷ 0 ∷ 0 ∷ 0 ∷ 0 ∷ 1 ∷ 0 ∷ 2 ∷ 0 ∷ []) (ones 3)) (before 3) (because-cell 1 2 3)
     ∷ not-opening (over 3 (0 ∷ 0 ∷ 0 ∷ 0 ∷ 1 ∷ 0 ∷ 255 ∷ 0 ∷ 0 ∷ []) (ones 3)) (before 3) (because-cell 0 2 3)
     ∷ not-opening (over 3 (0 ∷ 0 ∷ 1 ∷ 0 ∷ 0 ∷ 0 ∷ 1 ∷ 0 ∷ 255 ∷ []) (ones 3)) (before 3) (because-cell 2 2 1)
+    ∷ not-opening (over 3 (0 ∷ 1 ∷ 2 ∷ 0 ∷ 0 ∷ 0 ∷ 2 ∷ 0 ∷ 0 ∷ []) (ones 3)) (before 3) (because-cell 0 1 3)
+    ∷ not-opening (two (2 ∷ 1 ∷ 0 ∷ 1 ∷ []) (1 ∷ [])) (lengths 4 2 2 3) (because 2 6)
     ∷ not-opening (two in-order (0 ∷ [])) (lengths 4 2 2 4) (because 4 0)
     ∷ not-opening (linked 3 [] (1 ∷ 65520 ∷ 65521 ∷ [])) (before 3) (because 4 2)
     -- a session call looks at 1 to 4 first, and at 5 and 6 before the vertices named
@@ -96,6 +98,7 @@ worked =
     ∷ spoiled (on (over 4 (complete .adjacency) []) 3 zeros first-pair) undo (because 2 2)
     ∷ spoiled (on complete 1 (0 ∷ []) first-pair) undo (because 2 3)
     ∷ spoiled (on complete 1 last-two (0 ∷ 1 ∷ 255 ∷ [])) undo (because 2 4)
+    ∷ spoiled (on (over 4 (1 ∷ zeros) (ones 4)) 3 last-two (0 ∷ 1 ∷ 255 ∷ [])) undo (because 2 4)
     ∷ spoiled (on (over 4 (1 ∷ zeros) (ones 4)) 3 last-two first-pair) (pick 9 9) (because-cell 0 0 2)
     ∷ spoiled (on (over 2 (0 ∷ 0 ∷ 1 ∷ 0 ∷ []) (ones 2)) 0 (replicate 4 0) (255 ∷ 255 ∷ [])) undo (because-cell 0 1 3)
     ∷ spoiled (on (over 2 (0 ∷ 0 ∷ 0 ∷ 7 ∷ []) (ones 2)) 0 (replicate 4 0) (255 ∷ 255 ∷ [])) automatic (because-cell 1 1 1)
@@ -134,6 +137,7 @@ worked =
     ∷ no-row (on complete 1 last-two first-pair) 4 (9 ∷ 9 ∷ 9 ∷ 9 ∷ []) (because 7 0)
     ∷ no-row (on complete 1 last-two first-pair) 0 (9 ∷ 9 ∷ 9 ∷ 9 ∷ []) (because 8 0)
     ∷ no-row (on complete 1 last-two first-pair) 4 (9 ∷ 9 ∷ 9 ∷ []) (because 2 7)
+    ∷ no-row (on (over 4 (0 ∷ 1 ∷ zeros) (ones 4)) 3 last-two first-pair) 4 (9 ∷ 9 ∷ 9 ∷ []) (because 2 7)
     ∷ no-row (on (over 4 (0 ∷ 1 ∷ zeros) (ones 4)) 3 last-two first-pair) 4 (9 ∷ 9 ∷ 9 ∷ 9 ∷ []) (because-cell 0 1 3)
     ∷ no-row (on complete 3 last-two first-pair) 4 (9 ∷ 9 ∷ 9 ∷ 9 ∷ []) (because 5 0)
     ∷ no-row (on complete 1 zeros first-pair) 4 (9 ∷ 9 ∷ 9 ∷ 9 ∷ []) (because 6 0)
@@ -169,7 +173,7 @@ worked =
     ∷ filling (1 ∷ 3 ∷ 3 ∷ 1 ∷ 2 ∷ 0 ∷ 0 ∷ 2 ∷ 2 ∷ 1 ∷ 4 ∷ []) (9 ∷ 9 ∷ 9 ∷ 9 ∷ 9 ∷ 9 ∷ 9 ∷ 9 ∷ []) (9 ∷ 9 ∷ 9 ∷ []) (not-read (because 2 1)) (9 ∷ 9 ∷ 9 ∷ 9 ∷ 9 ∷ 9 ∷ 9 ∷ 9 ∷ []) (9 ∷ 9 ∷ 9 ∷ [])
     ∷ filling (1 ∷ 3 ∷ 3 ∷ 1 ∷ 2 ∷ 0 ∷ 0 ∷ 2 ∷ 2 ∷ 1 ∷ 4 ∷ []) (9 ∷ 9 ∷ 9 ∷ 9 ∷ 9 ∷ 9 ∷ 9 ∷ 9 ∷ 9 ∷ []) (9 ∷ 9 ∷ []) (not-read (because 2 2)) (9 ∷ 9 ∷ 9 ∷ 9 ∷ 9 ∷ 9 ∷ 9 ∷ 9 ∷ 9 ∷ []) (9 ∷ 9 ∷ [])
     ∷ filling (1 ∷ 2 ∷ 3 ∷ 1 ∷ 2 ∷ 0 ∷ 0 ∷ 2 ∷ 1 ∷ 0 ∷ 4 ∷ []) (9 ∷ 9 ∷ 9 ∷ 9 ∷ 9 ∷ []) (9 ∷ 9 ∷ []) (graph-read 2 1) (0 ∷ 1 ∷ 1 ∷ 0 ∷ 9 ∷ []) (draw (next 513) ∷ 9 ∷ [])
-    -- the listed input; one vertex; a witness of five digits; empty input
+    -- the listed input; one vertex; a witness of five digits; empty input; a byte that is not due
     ∷ lists (1 ∷ 4 ∷ 3 ∷ 0 ∷ 0 ∷ 0 ∷ 0 ∷ 2 ∷ 0 ∷ 1 ∷ 2 ∷ 0 ∷ 2 ∷ 2 ∷ 1 ∷ 3 ∷ 4 ∷ [])
     (115 ∷ 108 ∷ 101 ∷ 101 ∷ 118 ∷ 101 ∷ 115 ∷ 32 ∷ 52 ∷ 32 ∷ 108 ∷ 105 ∷ 110 ∷ 107 ∷ 115 ∷ 32 ∷ 51 ∷ 10 ∷ 112 ∷ 97 ∷ 105 ∷ 114 ∷ 32 ∷ 48 ∷ 32 ∷ 50 ∷ 10 ∷ 112 ∷ 97 ∷ 105 ∷ 114 ∷ 32 ∷ 49 ∷ 32 ∷ 51 ∷ 10 ∷ 118 ∷ 101 ∷ 114 ∷ 100 ∷ 105 ∷ 99 ∷ 116 ∷ 32 ∷ 70 ∷ 10 ∷ [])
     ∷ lists-witness (1 ∷ 1 ∷ 3 ∷ 0 ∷ 0 ∷ 0 ∷ 0 ∷ 4 ∷ []) 0 (1 ∷ [])
@@ -177,6 +181,8 @@ worked =
     ∷ lists-witness (1 ∷ 3 ∷ 3 ∷ 112 ∷ 206 ∷ 0 ∷ 0 ∷ 2 ∷ 0 ∷ 1 ∷ 2 ∷ 2 ∷ 1 ∷ 4 ∷ []) 2 (65520 ∷ 0 ∷ 1 ∷ [])
     (115 ∷ 108 ∷ 101 ∷ 101 ∷ 118 ∷ 101 ∷ 115 ∷ 32 ∷ 51 ∷ 32 ∷ 108 ∷ 105 ∷ 110 ∷ 107 ∷ 115 ∷ 32 ∷ 50 ∷ 10 ∷ 119 ∷ 105 ∷ 116 ∷ 110 ∷ 101 ∷ 115 ∷ 115 ∷ 32 ∷ 48 ∷ 32 ∷ 54 ∷ 53 ∷ 53 ∷ 50 ∷ 48 ∷ 10 ∷ 119 ∷ 105 ∷ 116 ∷ 110 ∷ 101 ∷ 115 ∷ 115 ∷ 32 ∷ 50 ∷ 32 ∷ 49 ∷ 10 ∷ 118 ∷ 101 ∷ 114 ∷ 100 ∷ 105 ∷ 99 ∷ 116 ∷ 32 ∷ 78 ∷ 10 ∷ [])
     ∷ lists-refusal [] (because 13 0) (114 ∷ 101 ∷ 102 ∷ 117 ∷ 115 ∷ 101 ∷ 100 ∷ 32 ∷ 49 ∷ 51 ∷ 32 ∷ 97 ∷ 116 ∷ 32 ∷ 48 ∷ 10 ∷ [])
+    ∷ lists-refusal (1 ∷ 3 ∷ 3 ∷ 1 ∷ 2 ∷ 0 ∷ 0 ∷ 2 ∷ 0 ∷ 1 ∷ 2 ∷ 1 ∷ 2 ∷ 7 ∷ []) (because 12 13)
+    (114 ∷ 101 ∷ 102 ∷ 117 ∷ 115 ∷ 101 ∷ 100 ∷ 32 ∷ 49 ∷ 50 ∷ 32 ∷ 97 ∷ 116 ∷ 32 ∷ 49 ∷ 51 ∷ 10 ∷ [])
     -- the host's numbers
     ∷ host-opening (opened (record { size = 4; made = 0 })) 256
     ∷ host-opening (singular 2) 131584
@@ -211,7 +217,7 @@ worked =
 
 pub worked-hold : All Holds worked
 unfolding worked Shown ShownFilling words bytes-of draws ShownSingular ShownHandled ShownReturned ShownRun ShownListed ShownWitness modulus-prime answered pairs-after step nonsingular? inverse-table? witness? first-dependent? first? every? tutte opening-ruling session-ruling row-ruling open-row display cells unmatched pairs-on decLt read digits pair-lines witness-lines graph sequence
-worked-hold = all worked (refl, (refl, (refl, (refl, (refl, (refl, (refl, (refl, (refl, (refl, (refl, (refl, (refl, (refl, (refl, (refl, (refl, (refl, (refl, (refl, (refl, (refl, (refl, (refl, (refl, (refl, (refl, (refl, (refl, (refl, (refl, (refl, (refl, (refl, (refl, (refl, (refl, (refl, (refl, ((refl, refl), ((refl, refl), ((refl, refl), ((refl, refl), ((tt, refl), (refl, ((tt, refl), ((refl, refl, refl, tt, refl), ((refl, refl, refl, tt, refl), ((refl, refl, refl, tt, refl), (((refl, refl, refl), ((refl, refl, refl, tt, refl), ((refl, refl, refl), ((refl, refl, refl, tt, refl), ((refl, refl, refl), ((refl, refl, refl, tt, refl), ((refl, refl, refl, tt, refl), tt))))))), (((refl, refl, refl, tt, refl), ((refl, refl, refl, tt, refl), ((refl, refl, refl), tt))), ((refl, refl), ((refl, refl), (refl, (refl, (refl, (refl, (refl, (refl, (refl, (refl, (refl, (refl, (refl, (refl, (refl, (refl, (refl, (refl, (refl, (refl, (refl, (refl, (refl, (refl, (refl, (refl, (refl, (refl, (refl, (refl, (refl, (refl, (refl, (refl, (refl, ((refl, refl, refl), ((refl, refl, refl), ((refl, refl, refl, refl), ((tt, picked refl (picked refl (stopped refl)), refl), ((refl, (tt, tt, tt), refl), ((refl, (tt, tt, tt), refl), ((refl, refl), (refl, (refl, (refl, (refl, (refl, (refl, (refl, (refl, (refl, (refl, (refl, (refl, (refl, (refl, (refl, (refl, (((refl, refl, refl, tt, refl), refl, refl), (((refl, refl, refl, refl), refl, refl), (((refl, refl, refl), refl, refl), ((refl, refl), ((refl, refl), ((refl, refl), tt)))))))))))))))))))))))))))))))))))))))))))))))))))))))))))))))))))))))))))))))))))))))))))))))))))))))))))))))))))
+worked-hold = all worked (refl, (refl, (refl, (refl, (refl, (refl, (refl, (refl, (refl, (refl, (refl, (refl, (refl, (refl, (refl, (refl, (refl, (refl, (refl, (refl, (refl, (refl, (refl, (refl, (refl, (refl, (refl, (refl, (refl, (refl, (refl, (refl, (refl, (refl, (refl, (refl, (refl, (refl, (refl, (refl, (refl, (refl, ((refl, refl), ((refl, refl), ((refl, refl), ((refl, refl), ((tt, refl), (refl, ((tt, refl), ((refl, refl, refl, tt, refl), ((refl, refl, refl, tt, refl), ((refl, refl, refl, tt, refl), (((refl, refl, refl), ((refl, refl, refl, tt, refl), ((refl, refl, refl), ((refl, refl, refl, tt, refl), ((refl, refl, refl), ((refl, refl, refl, tt, refl), ((refl, refl, refl, tt, refl), tt))))))), (((refl, refl, refl, tt, refl), ((refl, refl, refl, tt, refl), ((refl, refl, refl), tt))), ((refl, refl), ((refl, refl), (refl, (refl, (refl, (refl, (refl, (refl, (refl, (refl, (refl, (refl, (refl, (refl, (refl, (refl, (refl, (refl, (refl, (refl, (refl, (refl, (refl, (refl, (refl, (refl, (refl, (refl, (refl, (refl, (refl, (refl, (refl, (refl, (refl, (refl, ((refl, refl, refl), ((refl, refl, refl), ((refl, refl, refl, refl), ((tt, picked refl (picked refl (stopped refl)), refl), ((refl, (tt, tt, tt), refl), ((refl, (tt, tt, tt), refl), ((refl, refl), ((refl, refl), (refl, (refl, (refl, (refl, (refl, (refl, (refl, (refl, (refl, (refl, (refl, (refl, (refl, (refl, (refl, (refl, (((refl, refl, refl, tt, refl), refl, refl), (((refl, refl, refl, refl), refl, refl), (((refl, refl, refl), refl, refl), ((refl, refl), ((refl, refl), ((refl, refl), tt))))))))))))))))))))))))))))))))))))))))))))))))))))))))))))))))))))))))))))))))))))))))))))))))))))))))))))))))))))))))
 
 -- replays
 pub worked-replays : List Claim
@@ -245,6 +251,11 @@ worked-replays =
 pub worked-replays-hold : All Holds worked-replays
 unfolding worked-replays Shown ShownReplay words bytes-of ShownHandled ShownReturned ShownRun modulus-prime step nonsingular? inverse-table? first? every? tutte replay-ruling session-ruling first-calls state-after cells unmatched pairs-on decLt sequence
 worked-replays-hold = all worked-replays (refl, (refl, (refl, (refl, (refl, (refl, (refl, (refl, (refl, (refl, ((refl, ((refl, refl, refl, tt, refl), ((refl, refl, refl, tt, refl), ((refl, refl, refl), ((refl, refl, refl, tt, refl), tt)))), refl, refl), ((refl, tt, refl, refl), (((refl, ((refl, refl, refl, tt, refl), tt), refl, refl), refl, refl), tt)))))))))))))
+
+-- document 02's index 3127 of a table of 96 vertices: row 32, column 55
+pub cell-3127 : cell-at (over 96 [] []) 3127 ≡ faulty-cell 32 55 0
+unfolding fault
+cell-3127 = refl
 
 -- the place of a call, up to 16 bits and past them
 pub places-cut : map short-index (0 ∷ 65534 ∷ 65535 ∷ 65536 ∷ []) ≡ 0 ∷ 65534 ∷ 65535 ∷ 65535 ∷ []

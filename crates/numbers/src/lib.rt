@@ -3,8 +3,9 @@ use refusals::Refusal;
 use refusals::Ruling;
 ghost use mathlib.Core.Path.{_≡_};
 ghost use Prim.Native.Nat.{ℕ, _<_, _^_};
-ghost use Rattle.matching.specs.Decision.{place-number, because};
-ghost use Rattle.matching.specs.Host.{number, refusal-number, ruled-number, line-place};
+ghost use Rattle.matching.specs.Decision.{place-number};
+ghost use Rattle.matching.specs.Filling.{not-read};
+ghost use Rattle.matching.specs.Host.{number, refusal-number, ruled-number, read-number, capped};
 ghost use Rattle.refusals.specs.Meaning.{place-of, refusal-of, ruling-of};
 ghost use Rattle.numbers.specs.Bits.{RulingFits};
 
@@ -25,9 +26,9 @@ pub fn refused(refusal: Refusal) -> u64
     refusal.cause as u64 + 65536 * (refusals::place_number(place) as u64)
 }
 
-// Returns the number of a refusal whose place is a line of any number.
+// Returns the number of a refusal of a text: a line of 2^47 - 1 or later is given as that.
 pub fn refused_at_line(refusal: Refusal) -> u64
-    ensures { λ r. ⌜ r ≡ refusal-number (because (refusal .cause) (line-place (place-number (place-of (refusal .place))))) ⌝ }
+    ensures { λ r. ⌜ r ≡ read-number (capped (not-read (refusal-of refusal))) ⌝ }
 {
     let place = refusal.place;
     let line = refusals::place_number(place) as u64;

@@ -15,17 +15,17 @@ fn end_line() {
     io::write_all(STDOUT_FILENO, b"\n");
 }
 
-// Writes the place of a refusal: an index, or the row, the column and the kind of fault of a cell.
+// Writes the place of a refusal: an index, or the row, the column and the fault of a cell.
 fn show_place(place: Place) {
     io::write_all(STDOUT_FILENO, b" at");
     match place {
         Place::Index(index) => {
             item(index as u64);
         }
-        Place::Cell(fault) => {
-            item(fault.row as u64);
-            item(fault.column as u64);
-            item(fault.kind as u64);
+        Place::Cell(cell) => {
+            item(cell.row as u64);
+            item(cell.column as u64);
+            item(cell.fault as u64);
         }
     }
 }

@@ -12,7 +12,7 @@ use Rattle.refusals.specs.declared.Ruling.the-variants.{Accepted, Refuse
 
 abbrev pub place-of : Place → decision.Place
 place-of (Index x) = index x
-place-of (Cell f) = faulty-cell (f .row) (f .column) (f .kind)
+place-of (Cell c) = faulty-cell (c .row) (c .column) (c .fault)
 
 abbrev pub refusal-of : Refusal → decision.Refusal
 refusal-of r = record { cause = r .cause; place = place-of (r .place) }

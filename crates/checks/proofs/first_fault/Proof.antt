@@ -33,15 +33,15 @@ loop-holds c = record {
 row-fault-requires : tie.Need-row-fault-requires Inv-loop μ-loop
 row-fault-requires c κs = omega arith
 
-enum-known-fault : tie.Need-enum-known-fault Inv-loop μ-loop
-enum-known-fault c = search needs
+enum-known-cell : tie.Need-enum-known-cell Inv-loop μ-loop
+enum-known-cell c = search needs
 
 returns : tie.Need-returns Inv-loop μ-loop
 returns c =
     let found = c .before .before .before in
     let at = found .before .before in
     whatever-weights _ _ (variants.Faulty _)
-    (first-in-row _ (at .loop .row) (omega arith) (at .loop .inv .passed) _ (rw (c .before .fault .given .1) at (found .row-fault .ensures)))
+    (first-in-row _ (at .loop .row) (omega arith) (at .loop .inv .passed) _ (rw (c .before .cell .given .1) at (found .row-fault .ensures)))
 
 enum-told : tie.Need-enum-told Inv-loop μ-loop
 enum-told c = search needs
@@ -85,7 +85,7 @@ first-fault-spec =
     μ-loop
     loop-holds
     row-fault-requires
-    enum-known-fault
+    enum-known-cell
     returns
     enum-told
     add-row

@@ -9,8 +9,8 @@ use Rattle.checks.proofs.judge_graph.Tie as tie
 first-fault-requires : tie.Need-first-fault-requires
 first-fault-requires c κs = search needs
 
-enum-known-fault : tie.Need-enum-known-fault
-enum-known-fault c = search needs
+enum-known-cell : tie.Need-enum-known-cell
+enum-known-cell c = search needs
 
 refuse-cell-requires : tie.Need-refuse-cell-requires
 refuse-cell-requires c κs = search needs
@@ -21,7 +21,7 @@ returns c =
     let found = at .before .before in
     let start = found .before .before .before in
     c .refuse-cell .ensures
-    ∙ sym (cell-refused _ _ _ _ _ (rw (at .fault .given .1) at (found .first-fault .ensures (start .args .weights .now))))
+    ∙ sym (cell-refused _ _ _ _ _ (rw (at .cell .given .1) at (found .first-fault .ensures (start .args .weights .now))))
 
 enum-told : tie.Need-enum-told
 enum-told c = search needs
@@ -64,4 +64,4 @@ returns-3 c =
 pub judge-graph-spec : {M : Type 1} → statement M
 judge-graph-spec =
     tie.close
-    (tie.spec first-fault-requires enum-known-fault refuse-cell-requires returns enum-told first-outside-requires enum-known-place refuse-requires returns-2 enum-told-2 returns-3)
+    (tie.spec first-fault-requires enum-known-cell refuse-cell-requires returns enum-told first-outside-requires enum-known-place refuse-requires returns-2 enum-told-2 returns-3)

@@ -11,7 +11,7 @@ use lib.ListN.{getD}
 use Rattle.lists.specs.Table.{index-below}
 use Rattle.matching.specs.Graph.{Graph, fault, over}
 use Rattle.laws.specs.Faults.{fault-large, fault-diagonal, fault-unequal, fault-none}
-use Rattle.checks.specs.Cells.{fault-at}
+use Rattle.checks.specs.Cells.{fault-by-index}
 use Rattle.checks.proofs.row_fault.Statement.{statement}
 use Rattle.checks.proofs.row_fault.Tie as tie
 
@@ -36,16 +36,16 @@ module _ (g : Graph) (i j x y : ℕ) (at-x : x ≡ i * g .n + j) (at-y : y ≡ j
   cell-of k = getD (g .adjacency) k 0
 
   large : 1 < cell-of x → 1 ≡ fault g i j
-  large l = sym (fault-large _ _ _ _ l) ∙ fault-at g i j x y at-x at-y
+  large l = sym (fault-large _ _ _ _ l) ∙ fault-by-index g i j x y at-x at-y
 
   on-diagonal : i ≡ j → cell-of x ≤ 1 → cell-of x ≢ 0 → 2 ≡ fault g i j
-  on-diagonal d l z = sym (fault-diagonal _ _ _ _ l d z) ∙ fault-at g i j x y at-x at-y
+  on-diagonal d l z = sym (fault-diagonal _ _ _ _ l d z) ∙ fault-by-index g i j x y at-x at-y
 
   unequal : i ≢ j → cell-of x ≤ 1 → cell-of x ≢ cell-of y → 3 ≡ fault g i j
-  unequal d l e = sym (fault-unequal _ _ _ _ l (λ q. absurd (d q)) e) ∙ fault-at g i j x y at-x at-y
+  unequal d l e = sym (fault-unequal _ _ _ _ l (λ q. absurd (d q)) e) ∙ fault-by-index g i j x y at-x at-y
 
   none : (i ≡ j → cell-of x ≡ 0) → cell-of x ≤ 1 → cell-of x ≡ cell-of y → fault g i j ≡ 0
-  none z l e = sym (fault-at g i j x y at-x at-y) ∙ fault-none _ _ _ _ l z e
+  none z l e = sym (fault-by-index g i j x y at-x at-y) ∙ fault-none _ _ _ _ l z e
 
 abbrev Inv-loop : tie.InvT-loop
 Inv-loop n adjacency row start diagonal column₀ index₀ mirror₀ column index mirror = Scanned (over n adjacency []) row column index mirror
@@ -66,8 +66,9 @@ returns c =
     rw (c .faulty .ensures)
     (record {
       row = refl;
+      from-diagonal = omega arith;
       column = omega arith;
-      kind = large _ _ _ _ _ (start .pre .3) (start .pre .3) (c .before .if1 .taken);
+      is = large _ _ _ _ _ (start .pre .3) (start .pre .3) (c .before .if1 .taken);
       faulty = λ e. omega arith;
       before = λ l a b. absurd (omega arith);
     })
@@ -81,8 +82,9 @@ returns-2 c =
     rw (c .faulty2 .ensures)
     (record {
       row = refl;
+      from-diagonal = omega arith;
       column = omega arith;
-      kind = on-diagonal _ _ _ _ _ (start .pre .3) (start .pre .3) refl (c .before .before .if1 .left) (c .before .if2 .taken);
+      is = on-diagonal _ _ _ _ _ (start .pre .3) (start .pre .3) refl (c .before .before .if1 .left) (c .before .if2 .taken);
       faulty = λ e. omega arith;
       before = λ l a b. absurd (omega arith);
     })
@@ -140,8 +142,9 @@ returns-3 c =
     rw (c .faulty3 .ensures)
     (record {
       row = refl;
+      from-diagonal = omega arith;
       column = omega arith;
-      kind = large _ _ _ _ _ (inv .here) (inv .across) (c .before .if3 .taken);
+      is = large _ _ _ _ _ (inv .here) (inv .across) (c .before .if3 .taken);
       faulty = λ e. omega arith;
       before = inv .clean;
     })
@@ -162,8 +165,9 @@ returns-4 c =
     rw (c .faulty4 .ensures)
     (record {
       row = refl;
+      from-diagonal = omega arith;
       column = omega arith;
-      kind = unequal _ _ _ _ _ (inv .here) (inv .across) (λ e. omega (arith, inv .from)) (c .before .before .before .if3 .left) (c .before .if4 .taken);
+      is = unequal _ _ _ _ _ (inv .here) (inv .across) (λ e. omega (arith, inv .from)) (c .before .before .before .if3 .left) (c .before .if4 .taken);
       faulty = λ e. omega arith;
       before = inv .clean;
     })
