@@ -476,11 +476,18 @@ static void explained(void)
                saszvigom_graph_automatic(&graph), call);
     graph.adjacency[2 * 8 + 2] = 1;
     number = saszvigom_graph_undo(&graph);
-    check_line("refused: row 2, column 2: the adjacency byte is 1, but must be 0 on the diagonal (cause 3)",
+    check_line("refused: row 2, column 2: the adjacency byte is 1, but must be 0 on the diagonal "
+               "(cause 3)",
                number, call);
     graph.n = 2;
     check_line("refused: row 2, column 2: the adjacency byte is not 0 on the diagonal (cause 3)",
                number, call);
+
+    make_ring(96);
+    graph.adjacency[3127] = 1; /* the index of document 02: 32 * 96 + 55 */
+    check_line("refused: row 32, column 55: the adjacency byte is 1, but that of row 55, column 32 "
+               "is 0 (cause 3)",
+               saszvigom_graph_open(&graph), call);
 
     open_ring(6);
     check_line("opened: there is an inverse, and a perfect matching", 0x100, call);
