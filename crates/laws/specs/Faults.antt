@@ -58,10 +58,21 @@ pub data HasFault (g : Graph) (i j : ℕ) : ℕ → Type 0 where
   not-mirrored : cell g i j ≢ cell g j i → HasFault g i j 3
 
 module _ (g : Graph) where
-  -- the fault of a cell is the first of the three that it has, and 0 if it has none
-  pub fault-lowest : (i j : ℕ) → fault g i j ≢ 0 → Lowest 4 (HasFault g i j) (fault g i j)
-  fault-lowest i j f = go (decLt 1 (cell g i j)) (both? (ℕ-discrete i j) (not? (ℕ-discrete (cell g i j) 0))) (ℕ-discrete (cell g i j) (cell g j i))
+  -- a cell has one of the three faults and none before it, which is its fault; or it has none, and its fault is 0
+  data Judged (i j : ℕ) : Type 0 where
+    faulty : Lowest 4 (HasFault g i j) (fault g i j) → Judged i j
+    clean : fault g i j ≡ 0 → ((k : ℕ) → ¬ HasFault g i j k) → Judged i j
+
+  judged : (i j : ℕ) → Judged i j
+  judged i j = go (decLt 1 (cell g i j)) (both? (ℕ-discrete i j) (not? (ℕ-discrete (cell g i j) 0))) (ℕ-discrete (cell g i j) (cell g j i))
     where
+      is : {f : ℕ} → cell-fault (cell g i j) (cell g j i) i j ≡ f → fault g i j ≡ f
+      is e = fault-of-cell g i j ∙ e
+
+      -- on the diagonal the cell is 0, unless it has fault 2
+      zero-there : ¬ ((i ≡ j) × (cell g i j ≢ 0)) → i ≡ j → cell g i j ≡ 0
+      zero-there b e = stable (ℕ-discrete (cell g i j) 0) (λ z. b (e, z))
+
       first : Every 1 (λ k. ¬ HasFault g i j k)
       first k l (not-bit _) = omega arith
       first k l (not-empty _ _) = omega arith
@@ -77,33 +88,38 @@ module _ (g : Graph) where
       third a b k l (not-empty e z) = b (e, z)
       third a b k l (not-mirrored _) = omega arith
 
-      go : Dec (1 < cell g i j) → Dec ((i ≡ j) × (cell g i j ≢ 0)) → Dec (cell g i j ≡ cell g j i) → Lowest 4 (HasFault g i j) (fault g i j)
-      go (yes a) _ _ =
-          rw (fault-of-cell g i j ∙ fault-large (cell g i j) (cell g j i) i j a)
-          (record { below = omega arith; holds = not-bit a; none-before = first })
+      none : ¬ (1 < cell g i j) → ¬ ((i ≡ j) × (cell g i j ≢ 0)) → cell g i j ≡ cell g j i → (k : ℕ) → ¬ HasFault g i j k
+      none a b c k (not-bit h) = a h
+      none a b c k (not-empty e z) = b (e, z)
+      none a b c k (not-mirrored d) = d c
+
+      go : Dec (1 < cell g i j) → Dec ((i ≡ j) × (cell g i j ≢ 0)) → Dec (cell g i j ≡ cell g j i) → Judged i j
+      go (yes a) _ _ = faulty (rw (is (fault-large _ _ i j a)) (record { below = omega arith; holds = not-bit a; none-before = first }))
       go (no a) (yes b) _ =
-          rw (fault-of-cell g i j ∙ fault-diagonal (cell g i j) (cell g j i) i j (omega arith) (b .0) (b .1))
-          (record { below = omega arith; holds = not-empty (b .0) (b .1); none-before = second a })
+          faulty (rw (is (fault-diagonal _ _ i j (omega arith) (b .0) (b .1))) (record { below = omega arith; holds = not-empty (b .0) (b .1); none-before = second a }))
       go (no a) (no b) (no c) =
-          rw (fault-of-cell g i j ∙ fault-unequal (cell g i j) (cell g j i) i j (omega arith) (λ e. stable (ℕ-discrete (cell g i j) 0) (λ z. b (e, z))) c)
-          (record { below = omega arith; holds = not-mirrored c; none-before = third a b })
-      go (no a) (no b) (yes c) =
-          absurd (f (fault-of-cell g i j ∙ fault-none (cell g i j) (cell g j i) i j (omega arith) (λ e. stable (ℕ-discrete (cell g i j) 0) (λ z. b (e, z))) c))
+          faulty (rw (is (fault-unequal _ _ i j (omega arith) (zero-there b) c)) (record { below = omega arith; holds = not-mirrored c; none-before = third a b }))
+      go (no a) (no b) (yes c) = clean (is (fault-none _ _ i j (omega arith) (zero-there b) c)) (none a b c)
+
+  -- the fault of a cell is the first of the three that it has, and 0 if it has none
+  pub fault-lowest : (i j : ℕ) → fault g i j ≢ 0 → Lowest 4 (HasFault g i j) (fault g i j)
+  fault-lowest i j f = go (judged i j)
+    where
+      go : Judged i j → Lowest 4 (HasFault g i j) (fault g i j)
+      go (faulty h) = h
+      go (clean e _) = absurd (f e)
 
   pub no-fault : (i j : ℕ) → fault g i j ≡ 0 → (k : ℕ) → ¬ HasFault g i j k
-  no-fault i j f k (not-bit h) = omega (arith, f, fault-of-cell g i j, fault-large (cell g i j) (cell g j i) i j h)
-  no-fault i j f k (not-empty e z) = go (decLt 1 (cell g i j))
+  no-fault i j f = go (judged i j)
     where
-      go : Dec (1 < cell g i j) → ⊥
-      go (yes h) = omega (arith, f, fault-of-cell g i j, fault-large (cell g i j) (cell g j i) i j h)
-      go (no h) = omega (arith, f, fault-of-cell g i j, fault-diagonal (cell g i j) (cell g j i) i j (omega arith) e z)
-  no-fault i j f k (not-mirrored d) = go (decLt 1 (cell g i j)) (both? (ℕ-discrete i j) (not? (ℕ-discrete (cell g i j) 0)))
-    where
-      go : Dec (1 < cell g i j) → Dec ((i ≡ j) × (cell g i j ≢ 0)) → ⊥
-      go (yes h) _ = omega (arith, f, fault-of-cell g i j, fault-large (cell g i j) (cell g j i) i j h)
-      go (no h) (yes b) = omega (arith, f, fault-of-cell g i j, fault-diagonal (cell g i j) (cell g j i) i j (omega arith) (b .0) (b .1))
-      go (no h) (no b) =
-          omega (arith, f, fault-of-cell g i j, fault-unequal (cell g i j) (cell g j i) i j (omega arith) (λ e. stable (ℕ-discrete (cell g i j) 0) (λ z. b (e, z))) d)
+      nothing : (k : ℕ) → HasFault g i j k → k ≢ 0
+      nothing k (not-bit _) e = omega arith
+      nothing k (not-empty _ _) e = omega arith
+      nothing k (not-mirrored _) e = omega arith
+
+      go : Judged i j → (k : ℕ) → ¬ HasFault g i j k
+      go (faulty h) = absurd (nothing (fault g i j) (h .holds) f)
+      go (clean _ n) = n
 
   pub fault-mirror : (i j : ℕ) → i ≢ j → fault g i j ≡ 0 → fault g j i ≡ 0
   fault-mirror i j d e = fault-of-cell g j i ∙ cell-fault-mirror (cell g i j) (cell g j i) i j d (sym (fault-of-cell g i j) ∙ e)
