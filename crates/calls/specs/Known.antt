@@ -12,15 +12,16 @@ use Rattle.matching.specs.Decision.{Refusal, because, accepted, refused, Every,
 use Rattle.matching.specs.Graph.{Graph, over, tutte}
 use Rattle.matching.specs.Pairs.{Pair, Pairs, pair-of, unmatched, pairs-on}
 use Rattle.matching.specs.Pairs as spelling
+use Rattle.matching.specs.Matching.{Matching, another}
 use Rattle.matching.specs.Session.{State, in-play, with-pairs, InverseTable, state}
 use Rattle.matching.specs.Causes.{Lent, session-ruling}
 use Rattle.matching.specs.Model.{Call, pick, automatic, done, denied, skew, pick-ruling, Allowed, OpenPartner, step, picks, pick-refused, picks-lowest, none-left}
 use Rattle.matching.specs.Calls.{Handles, unsound, refuses, carries}
 use Rattle.laws.specs.ModelLaws.{allowed-of-accepted, unmatched-without, open-partner}
 use Rattle.laws.specs.Rules.{rule-step}
-use Rattle.laws.specs.History.{Valid, cons, allowed-appendable}
+use Rattle.laws.specs.History.{allowed-appendable}
 use Rattle.laws.specs.Sound.{SessionFits, Sound, session-accepted}
-use Rattle.laws.specs.Sequence.{length-pairs-on, length-sequence, sequence-on, pairs-on-sequence, well-formed-sequence, valid-on}
+use Rattle.laws.specs.Sequence.{length-pairs-on, length-sequence, sequence-on, pairs-on-sequence, well-formed-sequence, matching-on}
 use Rattle.laws.specs.OpeningOutcome.{table-over}
 use Rattle.laws.specs.Demand.{handles-sound}
 use Rattle.refusals.specs.declared.Ruling.{Ruling}
@@ -118,8 +119,8 @@ module _ {n made : ℕ} {adjacency weights inverse sequence marks : List ℕ} (K
   pub words : InverseTable modulus g (unmatched (in-play s) pairs) (take (n * n) inverse)
   words = table-over inverse _ (λ x h. getD-take (n * n) inverse x 0 h) (ok .1 .as-defined)
 
-  pub valid : Valid modulus-prime g (in-play s) pairs
-  valid = valid-on modulus-prime g (in-play s) made sequence (ok .1 .well-formed) (λ x l. refl)
+  pub matching : Matching g (in-play s) pairs
+  matching = matching-on g (in-play s) made sequence (ok .1 .well-formed) (λ x l. refl)
 
   -- the sequence is that of the session's pairs
   pub spelled : sequence ≡ spelling.sequence n pairs ++ drop n sequence
@@ -132,14 +133,14 @@ module _ {n made : ℕ} {adjacency weights inverse sequence marks : List ℕ} (K
     abbrev e : Pair
     e = pair-of a b
 
-    with-pair : Valid modulus-prime g (in-play s) (e ∷ pairs)
-    with-pair = cons (allowed-appendable modulus-prime g (in-play s) pairs a b A) valid
+    with-pair : Matching g (in-play s) (e ∷ pairs)
+    with-pair = another (allowed-appendable modulus-prime g (in-play s) pairs a b A) matching
 
     counted : length (e ∷ pairs) ≡ made + 1
     counted = omega (arith, length-pairs-on sequence made)
 
     two-left : suc (length pairs) + suc (length pairs) ≤ n
-    two-left = well-formed-sequence modulus-prime g (in-play s) (e ∷ pairs) [] with-pair .few
+    two-left = well-formed-sequence g (in-play s) (e ∷ pairs) [] with-pair .few
 
     pub append-room : AppendRoom n made inverse sequence marks a b
     append-room = record {
@@ -153,7 +154,7 @@ module _ {n made : ℕ} {adjacency weights inverse sequence marks : List ℕ} (K
     }
 
     removed : Without (unmatched (in-play s) pairs) a b (unmatched (in-play s) (e ∷ pairs))
-    removed = unmatched-without modulus-prime g (in-play s) pairs a b (A .named .2) (A .a-left) (A .b-left)
+    removed = unmatched-without (in-play s) pairs a b (A .named .2) (A .a-left) (A .b-left)
 
     -- the pair appended
     module _ {x : Pair} {inverse′ sequence′ marks′ : List ℕ} (W : Appended modulus n made a b inverse sequence marks x inverse′ sequence′ marks′) where
@@ -174,7 +175,7 @@ module _ {n made : ℕ} {adjacency weights inverse sequence marks : List ℕ} (K
       after : with-pairs g (e ∷ pairs) (W .words) s ≡ state n (made + 1) adjacency weights inverse′ sequence′
       after =
           same-state n adjacency weights counted (sym (W .inverse-is))
-          (ap (λ k. spelling.sequence n (e ∷ pairs) ++ drop k sequence) (length-sequence modulus-prime g (in-play s) (e ∷ pairs) with-pair) ∙ sym spelled′)
+          (ap (λ k. spelling.sequence n (e ∷ pairs) ++ drop k sequence) (length-sequence g (in-play s) (e ∷ pairs) with-pair) ∙ sym spelled′)
 
       pub appends : (c : Call) → step modulus-prime g (in-play s) pairs c ≡ record { answer = done e; pairs = e ∷ pairs }
           → Handles modulus-prime s c (done x) (state n (made + 1) adjacency weights inverse′ sequence′)
@@ -187,7 +188,7 @@ module _ {n made : ℕ} {adjacency weights inverse sequence marks : List ℕ} (K
       appends-left = record {
         size = rw (W .marks-is) (simp length-set (K .left .size));
         same = λ v h.
-            rw (W .marks-is, W .pair, spelled′, ← counted, pairs-on-sequence modulus-prime g (in-play s) (e ∷ pairs) (drop n sequence))
+            rw (W .marks-is, W .pair, spelled′, ← counted, pairs-on-sequence n (e ∷ pairs) (drop n sequence))
             (unmarked marks (unmatched (in-play s) pairs) (K .left .size) (below .0) (below .1) (K .left .same) v h);
       }
         where

@@ -14,17 +14,18 @@ use Rattle.matching.specs.Decision.{because}
 use Rattle.matching.specs.Graph.{Graph, over}
 use Rattle.matching.specs.Pairs.{Pair, Pairs, unmatched, pairs-on, unused}
 use Rattle.matching.specs.Pairs as spelling
+use Rattle.matching.specs.Matching.{Appendable, Matching, another}
 use Rattle.matching.specs.Session.{State, in-play, with-pairs, state}
 use Rattle.matching.specs.Model.{undo, done, denied, no-pair, undo-refused, undoes}
 use Rattle.matching.specs.Calls.{Handles, carries}
 use Rattle.laws.specs.Rules.{rule-step}
-use Rattle.laws.specs.History.{Appendable, Valid, cons}
-use Rattle.laws.specs.Sequence.{length-pairs-on, length-sequence, pairs-on-sequence, appendable-without, well-formed-sequence}
+use Rattle.laws.specs.Matchings.{appendable-without}
+use Rattle.laws.specs.Sequence.{length-pairs-on, length-sequence, pairs-on-sequence, well-formed-sequence}
 use Rattle.sequence.specs.Formed.{Left, remarked}
 use Rattle.pairing.specs.Appended.{AppendRoom}
 use Rattle.pairing.specs.Removed.{GrownTo, Removed}
 use Rattle.calls.specs.Bytes.{bytes-removed}
-use Rattle.calls.specs.Known.{Known, few, tables, sequence-fits, denies, words, valid, spelled, same-state}
+use Rattle.calls.specs.Known.{Known, few, tables, sequence-fits, denies, words, matching, spelled, same-state}
 
 -- if there is no pair
 pub undo-none : {n made : ℕ} {adjacency weights inverse sequence marks : List ℕ} (K : Known n made adjacency weights inverse sequence marks) → made ≡ 0
@@ -33,11 +34,11 @@ unfolding pairs-on
 undo-none {n} {made} {adjacency} {weights} {sequence = sequence} K e =
     denies K undo (rule-step modulus-prime (over n adjacency weights) _ (no-pair (ap (pairs-on sequence) e)))
 
-newest-appendable : {g : Graph} {S : Subset} {e : Pair} {earlier : Pairs} → Valid modulus-prime g S (e ∷ earlier) → Appendable modulus-prime g S e earlier
-newest-appendable (cons f _) = f
+newest-appendable : {g : Graph} {S : Subset} {e : Pair} {earlier : Pairs} → Matching g S (e ∷ earlier) → Appendable g S e earlier
+newest-appendable (another f _) = f
 
-earlier-valid : {g : Graph} {S : Subset} {e : Pair} {earlier : Pairs} → Valid modulus-prime g S (e ∷ earlier) → Valid modulus-prime g S earlier
-earlier-valid (cons _ v) = v
+earlier-matching : {g : Graph} {S : Subset} {e : Pair} {earlier : Pairs} → Matching g S (e ∷ earlier) → Matching g S earlier
+earlier-matching (another _ M) = M
 
 module _ {n k : ℕ} {adjacency weights inverse sequence marks : List ℕ} (K : Known n (suc k) adjacency weights inverse sequence marks) where
   abbrev g : Graph
@@ -56,14 +57,14 @@ module _ {n k : ℕ} {adjacency weights inverse sequence marks : List ℕ} (K : 
   unfolding pairs-on
   split = refl
 
-  valid-pair : Valid modulus-prime g (in-play s) (e ∷ earlier)
-  valid-pair = rw split at (valid K)
+  with-newest : Matching g (in-play s) (e ∷ earlier)
+  with-newest = rw split at (matching K)
 
-  fitting : Appendable modulus-prime g (in-play s) e earlier
-  fitting = newest-appendable valid-pair
+  fitting : Appendable g (in-play s) e earlier
+  fitting = newest-appendable with-newest
 
-  before : Valid modulus-prime g (in-play s) earlier
-  before = earlier-valid valid-pair
+  before : Matching g (in-play s) earlier
+  before = earlier-matching with-newest
 
   counted : length earlier ≡ k
   counted = length-pairs-on sequence k
@@ -80,7 +81,7 @@ module _ {n k : ℕ} {adjacency weights inverse sequence marks : List ℕ} (K : 
   }
 
   removed : Without (unmatched (in-play s) earlier) (e .smaller) (e .larger) (unmatched (in-play s) (e ∷ earlier))
-  removed = appendable-without modulus-prime g (in-play s) e earlier fitting
+  removed = appendable-without g (in-play s) e earlier fitting
 
   module _ {r : Bool} {inverse′ sequence′ marks′ : List ℕ} (R : Removed modulus g k (e .smaller) (e .larger) inverse sequence marks r inverse′ sequence′ marks′) where
     grown : GrownTo modulus g (unmatched (in-play s) earlier) (take (n * n) inverse) r (R .words)
@@ -106,12 +107,12 @@ module _ {n k : ℕ} {adjacency weights inverse sequence marks : List ℕ} (K : 
           R .sequence-is q
           ∙ ap (λ l. set (set l (k + k) unused) (k + k + 1) unused) (spelled K ∙ ap (λ ps. spelling.sequence n ps ++ drop n sequence) split)
           ∙ ap (λ m. set (set (spelling.sequence n (e ∷ earlier) ++ drop n sequence) (m + m) unused) (m + m + 1) unused) (sym counted)
-          ∙ bytes-removed n earlier e (drop n sequence) (well-formed-sequence modulus-prime g (in-play s) (e ∷ earlier) [] valid-pair .few)
+          ∙ bytes-removed n earlier e (drop n sequence) (well-formed-sequence g (in-play s) (e ∷ earlier) [] with-newest .few)
 
       after : with-pairs g earlier (R .words) s ≡ state n k adjacency weights inverse′ sequence′
       after =
           same-state n adjacency weights counted (sym (R .inverse-is))
-          (ap (λ m. spelling.sequence n earlier ++ drop m sequence) (length-sequence modulus-prime g (in-play s) earlier before) ∙ sym spelled′)
+          (ap (λ m. spelling.sequence n earlier ++ drop m sequence) (length-sequence g (in-play s) earlier before) ∙ sym spelled′)
 
       pub undo-done : Handles modulus-prime s undo (done e) (state n k adjacency weights inverse′ sequence′)
       undo-done =
@@ -123,7 +124,7 @@ module _ {n k : ℕ} {adjacency weights inverse sequence marks : List ℕ} (K : 
       read-off =
           ap (λ m. pairs-on sequence′ m) (sym counted)
           ∙ ap (λ l. pairs-on l (length earlier)) spelled′
-          ∙ pairs-on-sequence modulus-prime g (in-play s) earlier (drop n sequence)
+          ∙ pairs-on-sequence n earlier (drop n sequence)
 
       pub done-left : Left n sequence′ k marks′
       unfolding unmatched

@@ -13,6 +13,7 @@ use Rattle.skew.specs.Matching.{invertible-even}
 use Rattle.matching.specs.Decision.{Refusal, Every, At, Ruling, accepted, refused}
 use Rattle.matching.specs.Graph.{Graph, tutte, largest, InOrder}
 use Rattle.matching.specs.Pairs.{Pair, Pairs, sequence, unmatched}
+use Rattle.matching.specs.Matching.{Matching}
 use Rattle.matching.specs.Session.{State, in-play, graph-of, pairs-of, with-pairs, session, InverseTable, WellFormed}
 use Rattle.matching.specs.Causes.{session-ruling}
 use Rattle.matching.specs.Model.{Call, undo, Answer, done, denied, Step, skew, Nonsingular, nonsingular?, undoes, remove-last, step, answered, pairs-after}
@@ -22,8 +23,8 @@ use Rattle.laws.specs.Sound.{GraphFits, SessionFits, Sound, session-acce
 use Rattle.laws.specs.OpeningOutcome.{inverse-table-unique, table-over}
 use Rattle.laws.specs.ModelLaws.{open-partner, picks-to-come, step-nonsingular, after-nonsingular, unlike}
 use Rattle.laws.specs.Rules.{rule-step}
-use Rattle.laws.specs.History.{Valid, Change, appended, removed, unchanged, change, change-valid, Moves, stays, change-moves, appended-once}
-use Rattle.laws.specs.Sequence.{length-sequence, well-formed-sequence, pairs-on-sequence, length-pairs-on, sequence-on, Inside, valid-on, place-in}
+use Rattle.laws.specs.History.{Change, appended, removed, unchanged, change, change-matching, Moves, stays, change-moves, appended-once}
+use Rattle.laws.specs.Sequence.{length-sequence, well-formed-sequence, pairs-on-sequence, length-pairs-on, sequence-on, Inside, matching-on, place-in}
 use Rattle.laws.specs.CallOutcome.{refused-keeps}
 
 denied-unchanged : {p : ℕ} {P : OddPrime p} {g : Graph} {S : Subset} {pairs : Pairs} (s : Step) {r : Refusal} → Change P g S pairs s
@@ -51,11 +52,11 @@ once-at g made s v x small W below l e = record {
     go y h q (yes a) (no _) (yes c) = absurd (W .different x l y c (q ∙ sym e))
     go y h q (yes a) (no b) (no c) = omega arith
 
--- the state of valid pairs, over the buffers of a first state
+-- the state of a matching, over the buffers of a first state
 module _ {p : ℕ} (P : OddPrime p) (g : Graph) (first : State) where
   pub record Stands (pairs : Pairs) (s : State) : Type 0 where
     pub state : StateOf P g (in-play first) first pairs s
-    pub valid : Valid P g (in-play first) pairs
+    pub matching : Matching g (in-play first) pairs
 
   -- given pairs have only one state
   pub stands-same : {pairs : Pairs} {s t : State} → Stands pairs s → Stands pairs t → s ≡ t
@@ -70,20 +71,20 @@ module _ {p : ℕ} (P : OddPrime p) (g : Graph) (first : State) where
 
   module _ (long : GraphFits g) (order : InOrder p g) where
     -- the state is sound
-    pub stands-sound : (pairs : Pairs) (words : List ℕ) → length words ≡ g .n * g .n → InverseTable p g (unmatched (in-play first) pairs) words → Valid P g (in-play first) pairs
+    pub stands-sound : (pairs : Pairs) (words : List ℕ) → length words ≡ g .n * g .n → InverseTable p g (unmatched (in-play first) pairs) words → Matching g (in-play first) pairs
         → session-ruling p (with-pairs g pairs words first) ≡ accepted
-    stands-sound pairs words l I v =
+    stands-sound pairs words l I m =
         session-accepted p (with-pairs g pairs words first) .1 (
           record {
             graph = long;
             inverse-fits = omega (arith, length-append words (drop (length words) (first .inverse)), l);
-            sequence-fits = omega (arith, length-append (sequence (g .n) pairs) (drop (length (sequence (g .n) pairs)) (first .sequence)), length-sequence P g (in-play first) pairs v);
+            sequence-fits = omega (arith, length-append (sequence (g .n) pairs) (drop (length (sequence (g .n) pairs)) (first .sequence)), length-sequence g (in-play first) pairs m);
           },
           record {
             in-order = order;
-            well-formed = well-formed-sequence P g (in-play first) pairs _ v;
+            well-formed = well-formed-sequence g (in-play first) pairs _ m;
             as-defined =
-                rw (pairs-on-sequence P g (in-play first) pairs (drop (length (sequence (g .n) pairs)) (first .sequence)))
+                rw (pairs-on-sequence (g .n) pairs (drop (length (sequence (g .n) pairs)) (first .sequence)))
                 (table-over words _ (λ x h. List·getD-append words _ 0 x (omega (arith, l))) I);
           },
         )
@@ -100,10 +101,10 @@ module _ {p : ℕ} (P : OddPrime p) (g : Graph) (first : State) where
         u = with-pairs g pairs (N .words) first
 
         ok : session-ruling p u ≡ accepted
-        ok = stands-sound pairs (N .words) (N .words-length) (N .words-inverse) (M .valid)
+        ok = stands-sound pairs (N .words) (N .words-length) (N .words-inverse) (M .matching)
 
         same : pairs-of u ≡ pairs
-        same = pairs-on-sequence P g (in-play first) pairs _
+        same = pairs-on-sequence (g .n) pairs _
 
         go : (a : Answer) (t : State) → Handles P u c a t → Change P g (in-play first) pairs (step P g (in-play first) pairs c)
             → (a ≡ step P g (in-play first) pairs c .answer) × Stands (step P g (in-play first) pairs c .pairs) t
@@ -113,21 +114,21 @@ module _ {p : ℕ} (P : OddPrime p) (g : Graph) (first : State) where
               sym q',
               rw (denied-unchanged _ {r = r} k q') (record {
                 state = record { words = N .words; words-length = N .words-length; words-inverse = N .words-inverse; is = refl };
-                valid = M .valid;
+                matching = M .matching;
               }),
             )
         go _ _ (carries x ps words e q l K) k =
             let q' : step P g (in-play first) pairs c ≡ record { answer = done x; pairs = ps } = rw same at q in
-            let v : Valid P g (in-play first) ps = rw q' at (change-valid P g (in-play first) pairs _ k (M .valid)) in (
+            let ms : Matching g (in-play first) ps = rw q' at (change-matching P g (in-play first) pairs _ k (M .matching)) in (
               sym (ap (λ z. z .answer) q'),
               rw q' (record {
                 state = record {
                   words = words;
                   words-length = l;
                   words-inverse = K;
-                  is = rw (onto-again (N .words) words (first .inverse) (l ∙ sym (N .words-length)), onto-again (sequence (g .n) pairs) (sequence (g .n) ps) (first .sequence) (length-sequence P g (in-play first) ps v ∙ sym (length-sequence P g (in-play first) pairs (M .valid))));
+                  is = rw (onto-again (N .words) words (first .inverse) (l ∙ sym (N .words-length)), onto-again (sequence (g .n) pairs) (sequence (g .n) ps) (first .sequence) (length-sequence g (in-play first) ps ms ∙ sym (length-sequence g (in-play first) pairs (M .matching))));
                 };
-                valid = v;
+                matching = ms;
               }),
             )
 
@@ -251,7 +252,7 @@ module _ {p : ℕ} (P : OddPrime p) (g : Graph) (s : State) (long : GraphFits g)
       once none-left v l m =
           let N = at (length calls) in
           let x = place-in (g .n) (in-play s) ps _ v m (out (member? (unmatched (in-play s) ps) v)) in
-          rw (N .state .is) (once-at g (length ps) _ v (x .0) (order .size) (well-formed-sequence P g (in-play s) ps _ (N .valid)) l (x .1) (x .2))
+          rw (N .state .is) (once-at g (length ps) _ v (x .0) (order .size) (well-formed-sequence g (in-play s) ps _ (N .matching)) l (x .1) (x .2))
         where
           out : Member (unmatched (in-play s) ps) v → v ∉ unmatched (in-play s) ps
           out (inside i) = absurd (none-left v l i)
@@ -275,25 +276,29 @@ module _ {p : ℕ} (P : OddPrime p) (s : State) (ok : session-ruling p s ≡ acc
           rw (length-pairs-on (s .sequence) (s .session .made), onto-front-same (n * n) (s .inverse) (sound .0 .inverse-fits), sequence-on (graph-of s) (s .session .made) (s .sequence) (sound .0 .sequence-fits) (sound .1 .well-formed), onto-front-same n (s .sequence) (sound .0 .sequence-fits))
           refl;
     };
-    valid = valid-on P (graph-of s) (in-play s) (s .session .made) (s .sequence) (sound .1 .well-formed) play;
+    matching = matching-on (graph-of s) (in-play s) (s .session .made) (s .sequence) (sound .1 .well-formed) play;
   }
     where
       n : ℕ
       n = s .session .size
+
+  -- its pairs are a matching
+  pub sound-matching : Matching (graph-of s) (in-play s) (pairs-of s)
+  sound-matching = sound-stands .matching
 
   -- a call goes as the plain model goes from the pairs made
   pub handles-model : {c : Call} {a : Answer} {t : State} → Handles P s c a t
       → (a ≡ step P (graph-of s) (in-play s) (pairs-of s) c .answer) × (pairs-of t ≡ step P (graph-of s) (in-play s) (pairs-of s) c .pairs)
   handles-model {c} {a} {t} h =
       let M = stands-step P (graph-of s) s long (sound .1 .in-order) (pairs-of s) s t c a sound-stands h in
-      (M .0, rw (M .1 .state .is) (pairs-on-sequence P (graph-of s) (in-play s) _ _))
+      (M .0, rw (M .1 .state .is) (pairs-on-sequence (s .session .size) _ _))
 
   -- a call leaves the session sound
   pub handles-sound : {c : Call} {a : Answer} {t : State} → Handles P s c a t → session-ruling p t ≡ accepted
   handles-sound {c} {a} {t} h =
       let M = stands-step P (graph-of s) s long (sound .1 .in-order) (pairs-of s) s t c a sound-stands h .1 in
       let N = M .state in
-      rw (N .is) (stands-sound P (graph-of s) s long (sound .1 .in-order) _ (N .words) (N .words-length) (N .words-inverse) (M .valid))
+      rw (N .is) (stands-sound P (graph-of s) s long (sound .1 .in-order) _ (N .words) (N .words-length) (N .words-inverse) (M .matching))
 
   -- and a list of calls on it goes as the plain model goes, from these pairs on
   pub follows : (calls : List Call) (returned : List Returned) → Runs P s calls returned → FollowsModel P (graph-of s) (in-play s) (pairs-of s) calls s returned

@@ -8,11 +8,11 @@ use Rattle.modular.specs.Prime.{OddPrime}
 use Rattle.matching.specs.Decision.{accepted}
 use Rattle.matching.specs.Graph.{Graph, over}
 use Rattle.matching.specs.Pairs.{bytes, sequence, unmatched, pairs-on}
+use Rattle.matching.specs.Matching.{empty}
 use Rattle.matching.specs.Session.{Session, session, State, with-pairs}
 use Rattle.matching.specs.Causes.{session-ruling}
 use Rattle.matching.specs.Opening.{opened, Buffers, with-inverse, players, Opens, opens, opened-state}
 use Rattle.matching.specs.Demand.{DemandThree}
-use Rattle.laws.specs.History.{nil}
 use Rattle.laws.specs.Sound.{opening-accepted, session-accepted}
 use Rattle.laws.specs.Demand.{stands-sound, sound-stands, follows}
 
@@ -24,7 +24,7 @@ module _ {p : ℕ} (P : OddPrime p) (g : Graph) where
   opened-sound {b} (opens words e l I) =
       let k = opening-accepted p g (length (b .inverse)) (length (b .sequence)) (length (b .witness)) (length (b .work)) .0 e in
       let none : g .n - 0 ≡ g .n = omega arith in (
-        rw none at (stands-sound P g (opened-state g (session (g .n) []) b) (k .0 .graph) (k .1) [] words l I nil),
+        rw none at (stands-sound P g (opened-state g (session (g .n) []) b) (k .0 .graph) (k .1) [] words l I empty),
         refl,
       )
 

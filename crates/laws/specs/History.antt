@@ -1,5 +1,5 @@
--- What calls on the plain model keep: each appends one valid pair, removes the newest, or changes nothing; so every pair that stands was
--- appended to exactly the pairs below it. Assumes nothing.
+-- What calls on the plain model keep: each appends one pair, removes the newest, or changes nothing; so a matching stays a matching, and every
+-- pair that stands was appended to exactly the pairs below it. Assumes nothing.
 use mathlib.Core.Path.{_≡_, refl, sym, ap, _∙_}
 use mathlib.Core.List.{[], _∷_, _++_}
 use Prim.Native.Nat.{ℕ, zero, suc, _≤_, _<_}
@@ -7,36 +7,25 @@ use native.Mathlib.Omega.{arith}
 use native.Mathlib.Decide.{ℕ-discrete, decLt}
 use lib.ListN.{length, length-append}
 use Rattle.modular.specs.Prime.{OddPrime}
-use Rattle.skew.specs.Subset.{Subset, _∈_}
+use Rattle.skew.specs.Subset.{Subset}
 use Rattle.matching.specs.Decision.{because, Ruling, accepted, refused}
 use Rattle.matching.specs.Graph.{Graph}
-use Rattle.matching.specs.Pairs.{Pair, pair-of, Pairs, unmatched}
-use Rattle.matching.specs.Model.{Call, pick, automatic, undo, done, denied, Step, Nonsingular, nonsingular?, Adjacent, pick-ruling, Allowed, append, remove-last, step}
+use Rattle.matching.specs.Pairs.{Pair, pair-of, Pairs}
+use Rattle.matching.specs.Matching.{Adjacent, Appendable, Matching, another}
+use Rattle.matching.specs.Model.{Call, pick, automatic, undo, done, denied, Step, Nonsingular, nonsingular?, pick-ruling, Allowed, append, remove-last, step}
 use Rattle.laws.specs.ModelLaws.{pair-of-smaller, pair-of-larger, allowed-of-accepted, refused-pick, Automatic, lowest, nobody, automatic-cases, lowest-allowed}
-
--- the smaller vertex first, both left unmatched by the earlier pairs, and adjacent
-pub record Appendable {p : ℕ} (P : OddPrime p) (g : Graph) (S : Subset) (e : Pair) (earlier : Pairs) : Type 0 where
-  pub ordered : e .smaller < e .larger
-  pub below : e .larger < g .n
-  pub smaller-left : e .smaller ∈ unmatched S earlier
-  pub larger-left : e .larger ∈ unmatched S earlier
-  pub adjacent : Adjacent g e
-
-pub data Valid {p : ℕ} (P : OddPrime p) (g : Graph) (S : Subset) : Pairs → Type 0 where
-  nil : Valid P g S []
-  cons : {e : Pair} {earlier : Pairs} → Appendable P g S e earlier → Valid P g S earlier → Valid P g S (e ∷ earlier)
 
 -- what a call can make of the pairs
 pub data Change {p : ℕ} (P : OddPrime p) (g : Graph) (S : Subset) (pairs : Pairs) : Step → Type 0 where
-  appended : (e : Pair) → Appendable P g S e pairs → Nonsingular P g S (e ∷ pairs) → Change P g S pairs (record { answer = done e; pairs = e ∷ pairs })
+  appended : (e : Pair) → Appendable g S e pairs → Nonsingular P g S (e ∷ pairs) → Change P g S pairs (record { answer = done e; pairs = e ∷ pairs })
   removed : (e : Pair) (earlier : Pairs) → pairs ≡ e ∷ earlier → Nonsingular P g S earlier → Change P g S pairs (record { answer = done e; pairs = earlier })
   unchanged : (k : ℕ) → Change P g S pairs (record { answer = denied (because k 0); pairs = pairs })
 
 module _ {p : ℕ} (P : OddPrime p) (g : Graph) (S : Subset) where
-  pub allowed-appendable : (pairs : Pairs) (a b : ℕ) → Allowed P g S pairs a b → Appendable P g S (pair-of a b) pairs
+  pub allowed-appendable : (pairs : Pairs) (a b : ℕ) → Allowed P g S pairs a b → Appendable g S (pair-of a b) pairs
   allowed-appendable pairs a b h = go (decLt a b) (decLt b a) (h .adjacent)
     where
-      go : Dec (a < b) → Dec (b < a) → Adjacent g (pair-of a b) → Appendable P g S (pair-of a b) pairs
+      go : Dec (a < b) → Dec (b < a) → Adjacent g (pair-of a b) → Appendable g S (pair-of a b) pairs
       go (yes l) _ k =
           rw (pair-of-smaller a b l)
           (record { ordered = l; below = h .named .1; smaller-left = h .a-left; larger-left = h .b-left; adjacent = rw (pair-of-smaller a b l) at k })
@@ -67,13 +56,13 @@ module _ {p : ℕ} (P : OddPrime p) (g : Graph) (S : Subset) where
       go (yes J) = removed e earlier refl J
       go (no _) = unchanged 10
 
-  pub change-valid : (pairs : Pairs) (s : Step) → Change P g S pairs s → Valid P g S pairs → Valid P g S (s .pairs)
-  change-valid pairs _ (appended e f _) v = cons f v
-  change-valid pairs _ (removed e earlier q _) v = tail (rw q at v)
+  pub change-matching : (pairs : Pairs) (s : Step) → Change P g S pairs s → Matching g S pairs → Matching g S (s .pairs)
+  change-matching pairs _ (appended e f _) M = another f M
+  change-matching pairs _ (removed e earlier q _) M = tail (rw q at M)
     where
-      tail : Valid P g S (e ∷ earlier) → Valid P g S earlier
-      tail (cons _ w) = w
-  change-valid pairs _ (unchanged k) v = v
+      tail : Matching g S (e ∷ earlier) → Matching g S earlier
+      tail (another _ rest) = rest
+  change-matching pairs _ (unchanged k) M = M
 
 -- two lists of pairs, of which the second has one pair more than the first, or lacks its newest, or is the same
 pub data Moves (a b : Pairs) : Type 0 where

@@ -1,4 +1,6 @@
 -- What is proved of the definitions of document 01, in reading order.
+-- Matchings.
+pub mod Matchings
 -- The plain model: picks, partners, picks to come; its rules; what calls keep.
 pub mod ModelLaws
 pub mod Rules
@@ -15,8 +17,8 @@ pub mod CallOutcome
 -- Demand 3.
 pub mod Demand
 pub mod Fresh
--- Edges in a table; what either reader fills; the reader of a sheet, and one outcome for the row of a vertex, replay, the reader and the
--- listing.
+-- Edges in a table; what either reader fills; the reader of a sheet; one outcome for the row of a vertex, replay, the reader and the listing;
+-- the digits of a number; what the letter of a verdict says.
 pub mod Cells
 pub mod Edges
 pub mod Filling
@@ -24,6 +26,8 @@ pub mod Reading
 pub mod Bounds
 pub mod Longest
 pub mod Outcomes
+pub mod Decimal
+pub mod Verdicts
 -- The host: its number, words as bytes, reading, and demand 3 by single calls.
 pub mod Numbers
 pub mod HostCells

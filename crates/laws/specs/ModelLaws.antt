@@ -10,13 +10,15 @@ use Rattle.lists.specs.Choose.{choose-yes, choose-no}
 use Rattle.modular.specs.Congruence.{Congruent, equals, _⨾_, _⊖_, linear}
 use Rattle.modular.specs.Operations.{negative-plus}
 use Rattle.modular.specs.Prime.{OddPrime}
-use Rattle.skew.specs.Subset.{Subset, _∈_, _∉_, Member, inside, outside, member?, Without, swap, without, without-same, count, count-of-empty, count-without}
+use Rattle.skew.specs.Subset.{Subset, _∈_, Without, swap, without, without-same, count, count-without}
 use Rattle.skew.specs.Same.{inverse-same}
 use Rattle.skew.specs.Matching.{pick-exists}
 use Rattle.matching.specs.Decision.{index, Refusal, because, First, nowhere, first-at, first?, both?, Ruling, accepted, refused, judge, Accepted, accepted?, Every, Lowest}
 use Rattle.matching.specs.Graph.{Graph, cell, upper, tutte, tutte-upper, tutte-lower, tutte-diagonal}
 use Rattle.matching.specs.Pairs.{Pair, pair-of, Pairs, unmatched, in?}
-use Rattle.matching.specs.Model.{Call, pick, automatic, undo, Answer, done, denied, named?, needs, skew, Nonsingular, nonsingular?, Adjacent, adjacent?, pick-ruling, Allowed, append, remove-last, step, pairs-after, OpenPartner, PicksToCome, stopped, picked}
+use Rattle.matching.specs.Matching.{Adjacent, adjacent?}
+use Rattle.matching.specs.Model.{Call, pick, automatic, undo, Answer, done, denied, named?, needs, skew, Nonsingular, nonsingular?, pick-ruling, Allowed, append, remove-last, step, pairs-after, OpenPartner, PicksToCome, stopped, picked}
+use Rattle.laws.specs.Matchings.{none-counted}
 
 pub pair-of-smaller : (a b : ℕ) → a < b → pair-of a b ≡ record { smaller = a; larger = b }
 unfolding pair-of
@@ -27,6 +29,17 @@ unfolding pair-of
 pair-of-larger a b l =
     let h : ¬ (a < b) = λ k. omega arith in
     rw (choose-no (decLt a b) a b h, choose-no (decLt a b) b a h)
+
+-- a pair of two unmatched vertices removes them from the unmatched ones
+pub unmatched-without : (S : Subset) (pairs : Pairs) (a b : ℕ) → a ≢ b → a ∈ unmatched S pairs → b ∈ unmatched S pairs
+    → Without (unmatched S pairs) a b (unmatched S (pair-of a b ∷ pairs))
+unfolding unmatched
+unmatched-without S pairs a b d ha hb = go (decLt a b) (decLt b a)
+  where
+    go : Dec (a < b) → Dec (b < a) → Without (unmatched S pairs) a b (unmatched S (pair-of a b ∷ pairs))
+    go (yes l) _ = rw (pair-of-smaller a b l) (without (unmatched S pairs) a b d ha hb)
+    go (no _) (yes l) = rw (pair-of-larger a b l) (swap (without (unmatched S pairs) b a (λ e. d (sym e)) hb ha))
+    go (no h) (no k) = absurd (d (omega arith))
 
 pub unlike : {a : Answer} {q : Pair} {r : Refusal} → a ≡ done q → a ≡ denied r → ⊥
 unlike u w = let z : _≡_ {A = ℕ} 0 1 = cc in omega arith
@@ -82,17 +95,6 @@ module _ {p : ℕ} (P : OddPrime p) (g : Graph) (S : Subset) where
       (adjacent? g (pair-of a b)) (nonsingular? P g S (pair-of a b ∷ pairs))
       .1 (h .named, h .a-left, h .b-left, h .adjacent, h .nonsingular)
 
-  -- an allowed pick removes two vertices from the unmatched ones
-  pub unmatched-without : (pairs : Pairs) (a b : ℕ) → a ≢ b → a ∈ unmatched S pairs → b ∈ unmatched S pairs
-      → Without (unmatched S pairs) a b (unmatched S (pair-of a b ∷ pairs))
-  unfolding unmatched
-  unmatched-without pairs a b d ha hb = go (decLt a b) (decLt b a)
-    where
-      go : Dec (a < b) → Dec (b < a) → Without (unmatched S pairs) a b (unmatched S (pair-of a b ∷ pairs))
-      go (yes l) _ = rw (pair-of-smaller a b l) (without (unmatched S pairs) a b d ha hb)
-      go (no _) (yes l) = rw (pair-of-larger a b l) (swap (without (unmatched S pairs) b a (λ e. d (sym e)) hb ha))
-      go (no h) (no k) = absurd (d (omega arith))
-
   -- two vertices at which the Tutte matrix is not 0 are adjacent
   nonzero-upper : (i j : ℕ) → ¬ Congruent p (upper g i j) 0 → cell g i j ≡ 1
   unfolding upper
@@ -123,7 +125,7 @@ module _ {p : ℕ} (P : OddPrime p) (g : Graph) (S : Subset) where
       let s = pick-exists P (g .n) (tutte g p) (skew P g) I c hc l in
       let k = s .2 in
       let d = k .sets .differ in
-      let w = unmatched-without pairs c (s .0) d l (k .sets .b-in) in (
+      let w = unmatched-without S pairs c (s .0) d l (k .sets .b-in) in (
         s .0,
         k .b-below,
         accepted-of-allowed pairs c (s .0) (record {
@@ -193,14 +195,7 @@ module _ {p : ℕ} (P : OddPrime p) (g : Graph) (S : Subset) where
   fewer : (pairs : Pairs) (c r : ℕ) → Allowed P g S pairs c r
       → count (g .n) (unmatched S pairs) ≡ suc (suc (count (g .n) (unmatched S (pair-of c r ∷ pairs))))
   fewer pairs c r a =
-      count-without (g .n) (unmatched-without pairs c r (a .named .2) (a .a-left) (a .b-left)) (a .named .0) (a .named .1)
-
-  none-counted : (pairs : Pairs) → Every (g .n) (λ k. ¬ (k ∈ unmatched S pairs)) → count (g .n) (unmatched S pairs) ≡ 0
-  none-counted pairs h = count-of-empty (g .n) (unmatched S pairs) (λ i l. not-in i (h i l) (member? (unmatched S pairs) i))
-    where
-      not-in : (i : ℕ) → ¬ (i ∈ unmatched S pairs) → Member (unmatched S pairs) i → i ∉ unmatched S pairs
-      not-in i d (inside k) = absurd (d k)
-      not-in i d (outside o) = o
+      count-without (g .n) (unmatched-without S pairs c r (a .named .2) (a .a-left) (a .b-left)) (a .named .0) (a .named .1)
 
   -- picks to come are half of the unmatched vertices, and no other number is
   pub picks-to-come : (m : ℕ) (pairs : Pairs) → Nonsingular P g S pairs → count (g .n) (unmatched S pairs) ≡ m + m → PicksToCome P g S pairs m
@@ -213,7 +208,7 @@ module _ {p : ℕ} (P : OddPrime p) (g : Graph) (S : Subset) where
     where
       go : Automatic pairs → ((q : Pairs) → Nonsingular P g S q → count (g .n) (unmatched S q) ≡ m + m → PicksToCome P g S q m)
           → PicksToCome P g S pairs (suc m)
-      go (nobody h t) _ = absurd (omega (arith, none-counted pairs h))
+      go (nobody h t) _ = absurd (omega (arith, none-counted (g .n) (unmatched S pairs) h))
       go (lowest c r C R t) next =
           let rest : PicksToCome P g S (pair-of c r ∷ pairs) m =
           next (pair-of c r ∷ pairs) (lowest-allowed pairs c r R .nonsingular) (omega (arith, fewer pairs c r (lowest-allowed pairs c r R))) in
@@ -223,7 +218,7 @@ module _ {p : ℕ} (P : OddPrime p) (g : Graph) (S : Subset) where
   picks-to-come-half m pairs I (stopped {r = why} e) = go (automatic-cases pairs I)
     where
       go : Automatic pairs → count (g .n) (unmatched S pairs) ≡ 0
-      go (nobody h t) = none-counted pairs h
+      go (nobody h t) = none-counted (g .n) (unmatched S pairs) h
       go (lowest c r C R t) = absurd (unlike {r = why} (ap (λ s. s .answer) t) e)
   picks-to-come-half (suc m) pairs I (picked {e = e} a rest) =
       go (automatic-cases pairs I) (picks-to-come-half m (step P g S pairs automatic .pairs) (step-nonsingular pairs automatic I) rest)

@@ -7,6 +7,7 @@ use native.Mathlib.Omega.{arith}
 use lib.ListN.{length, take, replicate}
 use Rattle.lists.specs.Onto.{onto}
 use Rattle.modular.specs.Prime.{OddPrime}
+use Rattle.skew.specs.Subset.{Subset}
 use Rattle.skew.specs.Decide.{Outcome, inverse, column, outcome, witness-singular}
 use Rattle.skew.specs.Matching.{invertible-even}
 use Rattle.matching.specs.Decision.{Refusal, Ruling, accepted, refused, judge}
@@ -22,7 +23,7 @@ use Rattle.matching.specs.Replay.{call-count, calls-of, lent-answers, list-caus
 use Rattle.matching.specs.Filling.{graph, Read, not-read}
 use Rattle.matching.specs.Records.{Reading, sheet, unread, ReadsFrom, ReadsAs, FillsFrom, refuses-records, reads-records}
 use Rattle.matching.specs.Computed.{read-from, read}
-use Rattle.matching.specs.Listing.{players-of, input-limit, first-line, pair-lines, witness-lines, line-full, line-none, refused-line, Lists, refuses-sheet, pairs-up, shows-witness}
+use Rattle.matching.specs.Listing.{input-limit, first-line, GraphLines, pairs-up, shows-witness, players-of, Lists, refuses-sheet, lists-sheet}
 use Rattle.laws.specs.Sound.{more-accepted}
 use Rattle.laws.specs.CallOutcome.{runs-some, runs-unique}
 use Rattle.laws.specs.ModelLaws.{picks-to-come, picks-to-come-half}
@@ -80,7 +81,7 @@ fills-some E bytes at adjacency weights = go (read-from E bytes at .reading) (re
     go (sheet n drawn edges) R = let h = filled-some n drawn edges adjacency weights in (_, _, _, reads-records R (h .3))
 
 -- equal sheets have equal parts
-sheets : {n n′ : ℕ} {drawn drawn′ : List ℕ} {edges edges′ : List Pair} → sheet n drawn edges ≡ sheet n′ drawn′ edges′
+pub sheets : {n n′ : ℕ} {drawn drawn′ : List ℕ} {edges edges′ : List Pair} → sheet n drawn edges ≡ sheet n′ drawn′ edges′
     → (n ≡ n′) × (drawn ≡ drawn′) × (edges ≡ edges′)
 sheets e = (cc, cc, cc)
 
@@ -92,63 +93,41 @@ fills-unique (reads-records R F) (refuses-records R′) = let q = reads-unique R
 fills-unique (reads-records R F) (reads-records R′ F′) =
     let q = sheets (reads-unique R′ R) in filled-unique F (rw (q .0, q .1, q .2) at F′)
 
+-- the lines of a graph after the first
+module _ {p : ℕ} (P : OddPrime p) (g : Graph) (S : Subset) where
+  pub lines-some : (lines : List ℕ) × GraphLines P g S lines
+  unfolding unmatched
+  lines-some = go (outcome P (g .n) (tutte g p) (skew P g) S)
+    where
+      go : Outcome p (g .n) (tutte g p) S → (lines : List ℕ) × GraphLines P g S lines
+      go (inverse T I) =
+          let J : Nonsingular P g S [] = (T, I) in
+          let m = invertible-even P (g .n) (tutte g p) (skew P g) J in
+          (_, pairs-up J (picks-to-come P g S (m .0) [] J (m .1)))
+      go (column f w F W) = let s = singular-of P g S F W in (_, shows-witness (s .1) (s .2))
+
+  pub lines-unique : {a b : List ℕ} → GraphLines P g S a → GraphLines P g S b → a ≡ b
+  unfolding unmatched
+  lines-unique (pairs-up {m = m} I c) (pairs-up {m = m′} I′ c′) =
+      let h = picks-to-come-half P g S m [] I c in
+      let h′ = picks-to-come-half P g S m′ [] I′ c′ in
+      let q : m ≡ m′ = omega arith in
+      rw q refl
+  lines-unique (pairs-up I c) (shows-witness l s) = absurd (witness-singular P (g .n) (tutte g p) (skew P g) S (s .kernel) I)
+  lines-unique (shows-witness l s) (pairs-up I c) = absurd (witness-singular P (g .n) (tutte g p) (skew P g) S (s .kernel) I)
+  lines-unique (shows-witness l s) (shows-witness l′ s′) = let q = singular-unique P g S l l′ s s′ .1 in rw q refl
+
 pub lists-some : (E : Edition) (input : List ℕ) → (text : List ℕ) × Lists E input text
-unfolding graph unmatched
 lists-some E input = go (read E (take input-limit input) .reading) (read E (take input-limit input) .reads)
   where
     go : (r : Reading) → ReadsAs E (take input-limit input) r → (text : List ℕ) × Lists E input text
     go (unread why) R = (_, refuses-sheet R)
-    go (sheet n weights edges) R =
-        ends (outcome (E .prime) (g .n) (tutte g (E .modulus)) (skew (E .prime) g) (players-of (g .n)))
-      where
-        g : Graph
-        g = graph n weights edges
-
-        ends : Outcome (E .modulus) (g .n) (tutte g (E .modulus)) (players-of (g .n)) → (text : List ℕ) × Lists E input text
-        ends (inverse T I) =
-            let J : Nonsingular (E .prime) g (players-of (g .n)) [] = (T, I) in
-            let m = invertible-even (E .prime) (g .n) (tutte g (E .modulus)) (skew (E .prime) g) J in
-            (_, pairs-up R J (picks-to-come (E .prime) g (players-of (g .n)) (m .0) [] J (m .1)))
-        ends (column f w F W) =
-            let s = singular-of (E .prime) g (players-of (g .n)) F W in (_, shows-witness R (s .1) (s .2))
-
--- what a sheet can be listed as
-data Listed (E : Edition) (n : ℕ) (weights : List ℕ) (edges : List Pair) : List ℕ → Type 0 where
-  paired : (m : ℕ) → Nonsingular (E .prime) (graph n weights edges) (players-of n) []
-      → PicksToCome (E .prime) (graph n weights edges) (players-of n) [] m
-      → Listed E n weights edges
-      (first-line n (length edges) ++ pair-lines (pairs-after (E .prime) (graph n weights edges) (players-of n) [] (replicate m automatic) m) ++ line-full)
-  witnessed : (f : ℕ) (words : List ℕ) → length words ≡ n → Singular (E .modulus) (graph n weights edges) (players-of n) f words
-      → Listed E n weights edges (first-line n (length edges) ++ witness-lines 0 words ++ line-none)
-
-listed : {E : Edition} {input text : List ℕ} {n : ℕ} {weights : List ℕ} {edges : List Pair} → ReadsAs E (take input-limit input) (sheet n weights edges) → Lists E input text
-    → Listed E n weights edges text
-listed R (refuses-sheet R′) = let q = reads-unique R R′ in never (cc)
-listed R (pairs-up {m = m} R′ I c) = let q = sheets (reads-unique R R′) in rw (q .0, q .1, q .2) (paired m I c)
-listed R (shows-witness {f = f} {words = ws} R′ l s) = let q = sheets (reads-unique R R′) in rw (q .0, q .1, q .2) (witnessed f ws l s)
-
-listed-unique : {E : Edition} {n : ℕ} {weights : List ℕ} {edges : List Pair} {text text′ : List ℕ} → Listed E n weights edges text → Listed E n weights edges text′ → text ≡ text′
-unfolding graph unmatched
-listed-unique {E} {n} {weights} {edges} (paired m I c) (paired m′ I′ c′) =
-    let h = picks-to-come-half (E .prime) (graph n weights edges) (players-of n) m [] I c in
-    let h′ = picks-to-come-half (E .prime) (graph n weights edges) (players-of n) m′ [] I′ c′ in
-    let q : m ≡ m′ = omega arith in
-    rw q refl
-listed-unique {E} {n} {weights} {edges} (paired m I c) (witnessed f ws l s) =
-    absurd (witness-singular (E .prime) n (tutte (graph n weights edges) (E .modulus)) (skew (E .prime) (graph n weights edges)) (players-of n) (s .kernel) I)
-listed-unique {E} {n} {weights} {edges} (witnessed f ws l s) (paired m I c) =
-    absurd (witness-singular (E .prime) n (tutte (graph n weights edges) (E .modulus)) (skew (E .prime) (graph n weights edges)) (players-of n) (s .kernel) I)
-listed-unique {E} {n} {weights} {edges} (witnessed f ws l s) (witnessed f′ ws′ l′ s′) =
-    let q = singular-unique (E .prime) (graph n weights edges) (players-of n) l l′ s s′ .1 in rw q refl
-
-listed-refusal : {E : Edition} {input text : List ℕ} {r : Refusal} → ReadsAs E (take input-limit input) (unread r) → Lists E input text → text ≡ refused-line r
-listed-refusal {r = r} R (refuses-sheet {r = r′} R′) = let e = reads-unique R R′ in let q : r′ ≡ r = cc in rw q refl
-listed-refusal R (pairs-up R′ I c) = let q = reads-unique R R′ in never (cc)
-listed-refusal R (shows-witness R′ l s) = let q = reads-unique R R′ in never (cc)
+    go (sheet n weights edges) R = (_, lists-sheet R (lines-some (E .prime) (graph n weights edges) (players-of n) .1))
 
 pub lists-unique : {E : Edition} {input text text′ : List ℕ} → Lists E input text → Lists E input text′ → text ≡ text′
-lists-unique {E} {input} {text} {text′} a b = go (read E (take input-limit input) .reading) (read E (take input-limit input) .reads)
-  where
-    go : (r : Reading) → ReadsAs E (take input-limit input) r → text ≡ text′
-    go (sheet n weights edges) R = listed-unique (listed R a) (listed R b)
-    go (unread why) R = listed-refusal R a ∙ sym (listed-refusal R b)
+lists-unique (refuses-sheet {r = r} R) (refuses-sheet {r = r′} R′) = let e = reads-unique R R′ in let q : r ≡ r′ = cc in rw q refl
+lists-unique (refuses-sheet R) (lists-sheet R′ G′) = let q = reads-unique R R′ in never (cc)
+lists-unique (lists-sheet R G) (refuses-sheet R′) = let q = reads-unique R R′ in never (cc)
+lists-unique {E} (lists-sheet {n = n} {weights = weights} {edges = edges} R G) (lists-sheet R′ G′) =
+    let q = sheets (reads-unique R′ R) in
+    rw (q .0, q .2) (ap (λ l. first-line n (length edges) ++ l) (lines-unique (E .prime) (graph n weights edges) (players-of n) G (rw (q .0, q .1, q .2) at G′)))

@@ -1,4 +1,4 @@
--- The bytes of valid pairs as a sequence: the pairs can be read back, and it is well formed. Assumes nothing.
+-- The bytes of a matching as a sequence: the pairs can be read back, and it is well formed. Assumes nothing.
 use mathlib.Core.Path.{_≡_, refl, sym, ap, _∙_}
 use mathlib.Core.Logic.{_≢_}
 use mathlib.Core.List.{List, [], _∷_, _++_, append-assoc}
@@ -7,13 +7,13 @@ use native.Mathlib.Omega.{arith}
 use native.Mathlib.Decide.{ℕ-discrete, decLt}
 use lib.ListN.{length, getD, take, replicate, length-append, length-replicate, getD-replicate, List·getD-append}
 use lib.Seq.{getD-append-seam, getD-append-add, take-suc, length-take-le, getD-take, ext-getD}
-use Rattle.modular.specs.Prime.{OddPrime}
-use Rattle.skew.specs.Subset.{Subset, _∈_, _∉_, clash, Without, without, smaller, remove, remove-same, remove-other, count, count-without, count-most}
+use Rattle.skew.specs.Subset.{Subset, _∈_, _∉_, clash, Without, smaller, remove, remove-same, remove-other, count-most}
 use Rattle.matching.specs.Decision.{Every}
 use Rattle.matching.specs.Graph.{Graph, cell}
 use Rattle.matching.specs.Pairs.{Pair, Pairs, unused, bytes, sequence, pairs-on, unmatched}
+use Rattle.matching.specs.Matching.{Appendable, Matching, empty, another}
 use Rattle.matching.specs.Session.{WellFormed}
-use Rattle.laws.specs.History.{Appendable, Valid, nil, cons}
+use Rattle.laws.specs.Matchings.{appendable-without, count-left}
 
 pub length-bytes : (pairs : Pairs) → length (bytes pairs) ≡ length pairs + length pairs
 unfolding bytes
@@ -41,14 +41,18 @@ pairs-on-bytes [] rest = refl
 pairs-on-bytes (e ∷ earlier) rest =
     rw (newest e earlier rest, at-smaller earlier (e .smaller) (e .larger) rest, at-larger earlier (e .smaller) (e .larger) rest, pairs-on-bytes earlier (e .smaller ∷ e .larger ∷ rest))
 
-module _ {p : ℕ} (P : OddPrime p) (g : Graph) (S : Subset) where
-  -- a property of the two vertices of every valid pair holds of their two bytes
-  pub every-pair : (Q : ℕ → ℕ → Type 0) → ((e : Pair) (earlier : Pairs) → Appendable P g S e earlier → Q (e .smaller) (e .larger))
-      → (pairs : Pairs) (rest : List ℕ) → Valid P g S pairs
+pub pairs-on-sequence : (n : ℕ) (pairs : Pairs) (rest : List ℕ) → pairs-on (sequence n pairs ++ rest) (length pairs) ≡ pairs
+unfolding sequence
+pairs-on-sequence n pairs rest = rw append-assoc (pairs-on-bytes pairs (replicate (n - (length pairs + length pairs)) unused ++ rest))
+
+module _ (g : Graph) (S : Subset) where
+  -- a property of the two vertices of every pair of a matching holds of their two bytes
+  pub every-pair : (Q : ℕ → ℕ → Type 0) → ((e : Pair) (earlier : Pairs) → Appendable g S e earlier → Q (e .smaller) (e .larger))
+      → (pairs : Pairs) (rest : List ℕ) → Matching g S pairs
       → Every (length pairs) (λ k. Q (getD (bytes pairs ++ rest) (k + k) 0) (getD (bytes pairs ++ rest) (k + k + 1) 0))
-  every-pair Q q [] rest nil k l = absurd (omega arith)
-  every-pair Q q (e ∷ earlier) rest (cons f v) k l =
-      rw (newest e earlier rest) (go (ℕ-discrete k (length earlier)) (every-pair Q q earlier (e .smaller ∷ e .larger ∷ rest) v k))
+  every-pair Q q [] rest empty k l = absurd (omega arith)
+  every-pair Q q (e ∷ earlier) rest (another f M) k l =
+      rw (newest e earlier rest) (go (ℕ-discrete k (length earlier)) (every-pair Q q earlier (e .smaller ∷ e .larger ∷ rest) M k))
     where
       xs : List ℕ
       xs = bytes earlier ++ e .smaller ∷ e .larger ∷ rest
@@ -57,26 +61,20 @@ module _ {p : ℕ} (P : OddPrime p) (g : Graph) (S : Subset) where
       go (yes h) r = rw (h, at-smaller earlier (e .smaller) (e .larger) rest, at-larger earlier (e .smaller) (e .larger) rest) (q e earlier f)
       go (no d) r = r (omega arith)
 
-  pub appendable-without : (e : Pair) (earlier : Pairs) → Appendable P g S e earlier
-      → Without (unmatched S earlier) (e .smaller) (e .larger) (unmatched S (e ∷ earlier))
-  unfolding unmatched
-  appendable-without e earlier f =
-      without (unmatched S earlier) (e .smaller) (e .larger) (λ q. omega (arith, f .ordered)) (f .smaller-left) (f .larger-left)
-
   -- every byte of the pairs is a vertex that they match
-  pub every-byte : (pairs : Pairs) (rest : List ℕ) → Valid P g S pairs
+  pub every-byte : (pairs : Pairs) (rest : List ℕ) → Matching g S pairs
       → Every (length pairs + length pairs) (λ x. getD (bytes pairs ++ rest) x 0 ∉ unmatched S pairs)
-  every-byte [] rest nil x l = absurd (omega arith)
-  every-byte (e ∷ earlier) rest (cons f v) x l =
+  every-byte [] rest empty x l = absurd (omega arith)
+  every-byte (e ∷ earlier) rest (another f M) x l =
       rw (newest e earlier rest)
       (go (ℕ-discrete x (length earlier + length earlier)) (ℕ-discrete x (length earlier + length earlier + 1))
-      (every-byte earlier (e .smaller ∷ e .larger ∷ rest) v x))
+      (every-byte earlier (e .smaller ∷ e .larger ∷ rest) M x))
     where
       xs : List ℕ
       xs = bytes earlier ++ e .smaller ∷ e .larger ∷ rest
 
       w : Without (unmatched S earlier) (e .smaller) (e .larger) (unmatched S (e ∷ earlier))
-      w = appendable-without e earlier f
+      w = appendable-without g S e earlier f
 
       go : Dec (x ≡ length earlier + length earlier) → Dec (x ≡ length earlier + length earlier + 1)
           → (x < length earlier + length earlier → getD xs x 0 ∉ unmatched S earlier) → getD xs x 0 ∉ unmatched S (e ∷ earlier)
@@ -85,13 +83,13 @@ module _ {p : ℕ} (P : OddPrime p) (g : Graph) (S : Subset) where
       go (no d) (no c) r = smaller w (getD xs x 0) (r (omega arith))
 
   -- all bytes of the pairs are different
-  pub all-different : (pairs : Pairs) (rest : List ℕ) → Valid P g S pairs
+  pub all-different : (pairs : Pairs) (rest : List ℕ) → Matching g S pairs
       → Every (length pairs + length pairs) (λ y. Every y (λ x. getD (bytes pairs ++ rest) x 0 ≢ getD (bytes pairs ++ rest) y 0))
-  all-different [] rest nil y l x o = absurd (omega arith)
-  all-different (e ∷ earlier) rest (cons f v) y l x o =
+  all-different [] rest empty y l x o = absurd (omega arith)
+  all-different (e ∷ earlier) rest (another f M) y l x o =
       rw (newest e earlier rest)
       (go (ℕ-discrete y (length earlier + length earlier)) (ℕ-discrete y (length earlier + length earlier + 1))
-      (λ m. all-different earlier (e .smaller ∷ e .larger ∷ rest) v y m x o) (every-byte earlier (e .smaller ∷ e .larger ∷ rest) v x))
+      (λ m. all-different earlier (e .smaller ∷ e .larger ∷ rest) M y m x o) (every-byte earlier (e .smaller ∷ e .larger ∷ rest) M x))
     where
       xs : List ℕ
       xs = bytes earlier ++ e .smaller ∷ e .larger ∷ rest
@@ -116,33 +114,25 @@ module _ {p : ℕ} (P : OddPrime p) (g : Graph) (S : Subset) where
           rw (h, at-larger earlier (e .smaller) (e .larger) rest) (last (ℕ-discrete x (length earlier + length earlier)) b (omega arith))
       go (no d) (no c) r b = r (omega arith)
 
-  -- each pair leaves two fewer vertices unmatched
-  pub count-left : (pairs : Pairs) → Valid P g S pairs → count (g .n) (unmatched S pairs) + (length pairs + length pairs) ≡ count (g .n) S
-  unfolding unmatched
-  count-left [] nil = omega arith
-  count-left (e ∷ earlier) (cons f v) =
-      omega
-      (arith, count-left earlier v, count-without (g .n) (appendable-without e earlier f) (omega (arith, f .ordered, f .below)) (f .below))
+-- the sequence of a matching, whatever stands after it, is well formed
+module _ (g : Graph) (S : Subset) where
+  half : (pairs : Pairs) → Matching g S pairs → length pairs + length pairs ≤ g .n
+  half pairs M = omega (arith, count-left g S pairs M, count-most (g .n) S)
 
--- the sequence of valid pairs of a graph, whatever stands after it, is well formed
-module _ {p : ℕ} (P : OddPrime p) (g : Graph) (S : Subset) where
-  half : (pairs : Pairs) → Valid P g S pairs → length pairs + length pairs ≤ g .n
-  half pairs v = omega (arith, count-left P g S pairs v, count-most (g .n) S)
-
-  pub length-sequence : (pairs : Pairs) → Valid P g S pairs → length (sequence (g .n) pairs) ≡ g .n
+  pub length-sequence : (pairs : Pairs) → Matching g S pairs → length (sequence (g .n) pairs) ≡ g .n
   unfolding sequence
-  length-sequence pairs v =
+  length-sequence pairs M =
       length-append (bytes pairs) (replicate (g .n - (length pairs + length pairs)) unused)
-      ∙ omega (arith, length-bytes pairs, length-replicate (g .n - (length pairs + length pairs)) unused, half pairs v)
+      ∙ omega (arith, length-bytes pairs, length-replicate (g .n - (length pairs + length pairs)) unused, half pairs M)
 
-  pub well-formed-sequence : (pairs : Pairs) (rest : List ℕ) → Valid P g S pairs → WellFormed g (length pairs) (sequence (g .n) pairs ++ rest)
+  pub well-formed-sequence : (pairs : Pairs) (rest : List ℕ) → Matching g S pairs → WellFormed g (length pairs) (sequence (g .n) pairs ++ rest)
   unfolding sequence
-  well-formed-sequence pairs rest v = rw append-assoc (record {
-    few = half pairs v;
-    ordered = every-pair P g S (λ a b. a < b) (λ e earlier f. f .ordered) pairs after v;
-    below = every-pair P g S (λ a b. b < g .n) (λ e earlier f. f .below) pairs after v;
-    adjacent = every-pair P g S (λ a b. cell g a b ≡ 1) (λ e earlier f. f .adjacent) pairs after v;
-    different = all-different P g S pairs after v;
+  well-formed-sequence pairs rest M = rw append-assoc (record {
+    few = half pairs M;
+    ordered = every-pair g S (λ a b. a < b) (λ e earlier f. f .ordered) pairs after M;
+    below = every-pair g S (λ a b. b < g .n) (λ e earlier f. f .below) pairs after M;
+    adjacent = every-pair g S (λ a b. cell g a b ≡ 1) (λ e earlier f. f .adjacent) pairs after M;
+    different = all-different g S pairs after M;
     rest = unused-rest;
   })
     where
@@ -162,10 +152,6 @@ module _ {p : ℕ} (P : OddPrime p) (g : Graph) (S : Subset) where
           ∙ getD-append-add (bytes pairs) after k 0
           ∙ List·getD-append spare rest 0 k o'
           ∙ getD-replicate (g .n - (length pairs + length pairs)) k unused 0 o
-
-  pub pairs-on-sequence : (pairs : Pairs) (rest : List ℕ) → pairs-on (sequence (g .n) pairs ++ rest) (length pairs) ≡ pairs
-  unfolding sequence
-  pairs-on-sequence pairs rest = rw append-assoc (pairs-on-bytes pairs (replicate (g .n - (length pairs + length pairs)) unused ++ rest))
 
 -- a well-formed sequence is that of the pairs read off it
 pub length-pairs-on : (s : List ℕ) (k : ℕ) → length (pairs-on s k) ≡ k
@@ -245,12 +231,12 @@ used-on S s (suc k) x l = go (ℕ-discrete (getD s x 0) (getD s (k + k + 1) 0)) 
         before (no _) (yes q) = absurd (d (ap (λ y. getD s y 0) q))
         before (no f) (no g) = omega arith
 
-module _ {p : ℕ} (P : OddPrime p) (g : Graph) (S : Subset) (made : ℕ) (s : List ℕ) (W : WellFormed g made s) (I : Inside S made s) where
-  valid-up-to : (k : ℕ) → k ≤ made → Valid P g S (pairs-on s k)
+module _ (g : Graph) (S : Subset) (made : ℕ) (s : List ℕ) (W : WellFormed g made s) (I : Inside S made s) where
+  matching-up-to : (k : ℕ) → k ≤ made → Matching g S (pairs-on s k)
   unfolding pairs-on
-  valid-up-to zero l = nil
-  valid-up-to (suc k) l =
-      cons
+  matching-up-to zero l = empty
+  matching-up-to (suc k) l =
+      another
       (record {
         ordered = W .ordered k (omega arith);
         below = W .below k (omega arith);
@@ -258,10 +244,10 @@ module _ {p : ℕ} (P : OddPrime p) (g : Graph) (S : Subset) (made : ℕ) (s : L
         larger-left = left-on S s _ k (I (k + k + 1) (omega arith)) (λ x h. W .different (k + k + 1) (omega arith) x (omega arith));
         adjacent = W .adjacent k (omega arith);
       })
-      (valid-up-to k (omega arith))
+      (matching-up-to k (omega arith))
 
-  pub valid-on : Valid P g S (pairs-on s made)
-  valid-on = valid-up-to made (omega arith)
+  pub matching-on : Matching g S (pairs-on s made)
+  matching-on = matching-up-to made (omega arith)
 
 -- a vertex in play that is matched stands among the bytes
 place-of : (S : Subset) (pairs : Pairs) (rest : List ℕ) (v : ℕ) → v ∈ S → v ∉ unmatched S pairs

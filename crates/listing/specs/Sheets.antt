@@ -1,6 +1,6 @@
 -- From the lines of a graph to the listing of a sheet. Assumes nothing.
 use mathlib.Core.Path.{_≡_, refl}
-use mathlib.Core.List.{List, [], _++_, append-assoc}
+use mathlib.Core.List.{List, []}
 use Prim.Native.Nat.{ℕ, _*_, _≤_}
 use native.Mathlib.Omega.{arith}
 use lib.ListN.{length, take, drop, length-append, length-drop}
@@ -13,7 +13,7 @@ use Rattle.matching.specs.Pairs.{Pair}
 use Rattle.matching.specs.Filling.{cells, graph, graph-read, not-read, lacks-room, fills}
 use Rattle.matching.specs.Records.{sheet, ReadsAs, Fills, refuses-records, reads-records}
 use Rattle.matching.specs.Listing as definition
-use Rattle.matching.specs.Listing.{input-limit, text-room, first-line, refused-line, Lists, refuses-sheet, pairs-up, shows-witness, ListsInto, lists-into}
+use Rattle.matching.specs.Listing.{input-limit, text-room, refused-line, Lists, refuses-sheet, lists-sheet, ListsInto, lists-into}
 use Rattle.laws.specs.Cells.{cells-length}
 use Rattle.laws.specs.Edges.{few-edges}
 use Rattle.laws.specs.Filling.{graph-in-order}
@@ -21,7 +21,7 @@ use Rattle.laws.specs.Reading.{reads-fit}
 use Rattle.checks.specs.Weights.{needed, needed-all, needed-small}
 use Rattle.filling.specs.Written.{room-enough, drawn-needed}
 use Rattle.text.specs.Puts.{puts-first}
-use Rattle.verdict.specs.Lines.{Writes, Verdict, full, none, GraphLines, Acceptable}
+use Rattle.verdict.specs.Lines.{Writes, AllLines, Acceptable}
 
 -- the listing of every input whose first `input-limit` bytes are these
 abbrev pub ListsBytes : List ℕ → List ℕ → Type 0
@@ -39,17 +39,14 @@ pub record Sheet (bytes : List ℕ) (n m : ℕ) (adjacency weights : List ℕ) :
   pub small : n ≤ largest
   pub few-edges : m ≤ 4560
   pub lent : Acceptable (over n (take (n * n) adjacency) (take (needed n) weights))
-  pub lists : {text : List ℕ} → GraphLines (over n (take (n * n) adjacency) (take (needed n) weights)) m text → ListsBytes bytes text
+  pub lists : {text : List ℕ} → AllLines (over n (take (n * n) adjacency) (take (needed n) weights)) m text → ListsBytes bytes text
 
 -- the lines of the graph of a sheet are its listing
 sheet-lists : {bytes drawn text : List ℕ} {n : ℕ} {edges : List Pair} → ReadsAs first-edition bytes (sheet n drawn edges)
-    → GraphLines (over n (cells n edges) drawn) (length edges) text → ListsBytes bytes text
+    → AllLines (over n (cells n edges) drawn) (length edges) text → ListsBytes bytes text
 unfolding graph
-sheet-lists {bytes} {drawn} {text} {n} {edges} R G input e = rw (G .all) (go (G .verdict))
-  where
-    go : {rest : List ℕ} → Verdict (over n (cells n edges) drawn) rest → Lists first-edition input (first-line n (length edges) ++ rest)
-    go (full I C) = rw (← append-assoc) (pairs-up {n = n} {weights = drawn} {edges = edges} (rw e R) I C)
-    go (none l S) = rw (← append-assoc) (shows-witness {n = n} {weights = drawn} {edges = edges} (rw e R) l S)
+sheet-lists {drawn = drawn} {n = n} {edges = edges} R A input e =
+    rw (A .all) (lists-sheet {n = n} {weights = drawn} {edges = edges} (rw e R) (A .lines))
 
 pub sheet-read : {bytes adjacency weights adjacency′ weights′ : List ℕ} {n m : ℕ} → Fills first-edition bytes adjacency weights (graph-read n m) adjacency′ weights′
     → Sheet bytes n m adjacency′ weights′

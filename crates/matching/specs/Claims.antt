@@ -9,13 +9,15 @@ use Rattle.lists.specs.Table.{vector}
 use Rattle.lists.specs.Onto.{onto}
 use Rattle.draws.specs.Draws.{draws}
 use Rattle.residue.specs.Modulus.{modulus, modulus-prime}
+use Rattle.skew.specs.Subset.{Subset, count}
 use Rattle.skew.specs.Decide.{first-dependent?}
-use Rattle.matching.specs.Decision.{Refusal, Ruling, every?, accepted, refused}
+use Rattle.matching.specs.Decision.{Refusal, Ruling, not?, every?, accepted, refused}
 use Rattle.matching.specs.Edition.{first-edition}
 use Rattle.matching.specs.Graph.{Graph, over, pair-count, tutte}
-use Rattle.matching.specs.Pairs.{Pair, everything, unmatched}
+use Rattle.matching.specs.Pairs.{Pair, Pairs, everything, unmatched}
+use Rattle.matching.specs.Matching.{Perfect}
 use Rattle.matching.specs.Session.{Session, session, State, graph-of, with-pairs, InverseTable}
-use Rattle.matching.specs.Decided.{inverse-table?, witness?}
+use Rattle.matching.specs.Decided.{inverse-table?, witness?, perfect?}
 use Rattle.matching.specs.Causes.{session-ruling}
 use Rattle.matching.specs.Opening.{Opening, opened, singular, not-opened, Buffers, Singular, Opens, opens, refuses-opening, finds-singular, with-inverse, with-witness, ruling}
 use Rattle.matching.specs.Display.{Part, display}
@@ -27,7 +29,7 @@ use Rattle.matching.specs.Dimacs as dimacs
 use Rattle.matching.specs.Dimacs.{ReadsText, FillsText, refuses-lines, reads-lines}
 use Rattle.matching.specs.Computed.{read}
 use Rattle.matching.specs.DimacsComputed.{read-text}
-use Rattle.matching.specs.Listing.{input-limit, first-line, pair-lines, witness-lines, line-full, line-none, refused-line, Lists, refuses-sheet, pairs-up, shows-witness}
+use Rattle.matching.specs.Listing.{input-limit, first-line, pair-lines, witness-lines, letter-full, witness-letter, verdict-line, refused-line, pairs-up, shows-witness, Lists, refuses-sheet, lists-sheet}
 use Rattle.matching.specs.Host.{opening-number, answer-number, row-number, words, bytes-of, unpacked-state, state-stored, HostHandles, read-number, weights-stored, HostReads, capped, HostReadsText, draws-ruling, draws-number, draws-stored, HostDraws}
 use Rattle.matching.specs.Replay.{calls-of, numbers-of, replay-ruling, Replays, refuses-replay, replays, replay-number, replay-stored, HostReplays}
 
@@ -65,6 +67,9 @@ abbrev pub ring : Graph
 ring = linked 4 (edge 0 1 ∷ edge 1 2 ∷ edge 2 3 ∷ edge 0 3 ∷ []) (1 ∷ 1 ∷ 1 ∷ 65520 ∷ 1 ∷ 1 ∷ [])
 
 pub data Claim : Type 0 where
+  -- these pairs are a perfect matching of a set of vertices, and they are not
+  perfect : Graph → Subset → Pairs → Claim
+  not-perfect : Graph → Subset → Pairs → Claim
   -- opening gives this inverse
   opening : Graph → List ℕ → Claim
   -- opening gives this witness, with its column
@@ -140,6 +145,8 @@ full n inverse words =
     record { inverse = inverse; sequence = replicate n 255; witness = words; work = replicate (n * n) 0 }
 
 unfoldable pub Holds : Claim → Type 0
+Holds (perfect g S pairs) = Perfect g S pairs
+Holds (not-perfect g S pairs) = ¬ Perfect g S pairs
 Holds (opening g inverse) =
     Opens modulus g everything (before (g .n)) (opened (session (g .n) [])) (full (g .n) inverse (replicate (g .n) 0))
 Holds (witness g f words) =
@@ -275,29 +282,32 @@ ShownListed (unread r) text = ⊥
 ShownListed (sheet n weights edges) text =
     IsYes (nonsingular? modulus-prime (graph n weights edges) everything [])
     × PicksToCome modulus-prime (graph n weights edges) everything [] (n / 2)
-    × (first-line n (length edges) ++ pair-lines (pairs-after modulus-prime (graph n weights edges) everything [] (replicate (n / 2) automatic) (n / 2)) ++ line-full ≡ text)
+    × (first-line n (length edges)
+    ++ (pair-lines (pairs-after modulus-prime (graph n weights edges) everything [] (replicate (n / 2) automatic) (n / 2)) ++ verdict-line letter-full)
+    ≡ text)
 
 listed : (input text : List ℕ) (r : Reading) → read first-edition (take input-limit input) .reading ≡ r → ShownListed r text → Lists first-edition input text
 unfolding ShownListed
 listed input text (unread r) q e = absurd e
 listed input text (sheet n weights edges) q e =
     subst (λ (t : List ℕ). Lists first-edition input t) (e .2)
-    (pairs-up (shown-read (take input-limit input) q) (decided (nonsingular? modulus-prime (graph n weights edges) everything []) (e .0)) (e .1))
+    (lists-sheet (shown-read (take input-limit input) q)
+    (pairs-up (decided (nonsingular? modulus-prime (graph n weights edges) everything []) (e .0)) (e .1)))
 
 unfoldable pub ShownWitness : Reading → ℕ → List ℕ → List ℕ → Type 0
 ShownWitness (unread r) f words text = ⊥
 ShownWitness (sheet n weights edges) f words text =
     (length words ≡ n)
     × ShownSingular (graph n weights edges) f words
-    × (first-line n (length edges) ++ witness-lines 0 words ++ line-none ≡ text)
+    × (first-line n (length edges) ++ (witness-lines 0 words ++ verdict-line (witness-letter (count n everything))) ≡ text)
 
 listed-witness : (input : List ℕ) (f : ℕ) (words text : List ℕ) (r : Reading) → read first-edition (take input-limit input) .reading ≡ r → ShownWitness r f words text
     → Lists first-edition input text
-unfolding ShownWitness
+unfolding ShownWitness graph
 listed-witness input f words text (unread r) q e = absurd e
 listed-witness input f words text (sheet n weights edges) q e =
     subst (λ (t : List ℕ). Lists first-edition input t) (e .2)
-    (shows-witness (shown-read (take input-limit input) q) (e .0) (shown-singular (graph n weights edges) f words (e .1)))
+    (lists-sheet (shown-read (take input-limit input) q) (shows-witness (e .0) (shown-singular (graph n weights edges) f words (e .1))))
 
 -- a graph that is read is filled so
 unfoldable pub ShownFilled : ℕ → List ℕ → List Pair → (adjacency weights : List ℕ) → Read → (adjacency′ weights′ : List ℕ) → Type 0
@@ -345,6 +355,8 @@ filled-text seed bytes adjacency weights o adjacency′ weights′ (dimacs.text 
     reads-lines (shown-read-text bytes q) (shown-filled n (draws (first-edition .draw) seed (pair-count n)) edges adjacency weights o adjacency′ weights′ e)
 
 unfoldable pub Shown : Claim → Type 0
+Shown (perfect g S pairs) = IsYes (perfect? g S pairs)
+Shown (not-perfect g S pairs) = IsYes (not? (perfect? g S pairs))
 Shown (opening g inverse) =
     (ruling modulus g (before (g .n)) ≡ accepted)
     × (length inverse ≡ g .n * g .n)
@@ -405,6 +417,8 @@ Shown (host-draws n seed weights k weights′) =
 
 enough : (c : Claim) → Shown c → Holds c
 unfolding Shown Holds
+enough (perfect g S pairs) e = decided (perfect? g S pairs) e
+enough (not-perfect g S pairs) e = decided (not? (perfect? g S pairs)) e
 enough (opening g inverse) e =
     subst (λ (b : Buffers). Opens modulus g everything (before (g .n)) (opened (session (g .n) [])) b) (e .2)
     (opens inverse (e .0) (e .1) (decided (inverse-table? modulus g everything inverse) (e .3)))

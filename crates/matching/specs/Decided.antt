@@ -1,7 +1,8 @@
--- Whether a buffer holds the inverse, and whether a sequence is well formed, are decided. Assumes nothing.
+-- Whether a buffer holds the inverse, whether a sequence is well formed, and whether pairs are a perfect matching, are decided. Assumes
+-- nothing.
 use mathlib.Core.Path.{_≡_}
 use mathlib.Core.Logic.{_≢_}
-use mathlib.Core.List.{List}
+use mathlib.Core.List.{List, [], _∷_}
 use Prim.Native.Nat.{ℕ, _+_, _*_, _≤_, _<_}
 use native.Mathlib.Decide.{ℕ-discrete, decLe, decLt}
 use lib.ListN.{getD}
@@ -14,7 +15,8 @@ use Rattle.skew.specs.Inverse.{Matrix, Vector, column, apply, Inverse}
 use Rattle.skew.specs.Column.{Witness}
 use Rattle.matching.specs.Decision.{Every, both?, not?, implies?, map?, every?}
 use Rattle.matching.specs.Graph.{Graph, cell, tutte}
-use Rattle.matching.specs.Pairs.{in?, out?, unused}
+use Rattle.matching.specs.Pairs.{Pair, Pairs, unmatched, in?, out?, unused}
+use Rattle.matching.specs.Matching.{adjacent?, Appendable, Matching, empty, another, Perfect}
 use Rattle.matching.specs.Session.{InverseTable, WellFormed}
 
 unfoldable pub inverse? : (p n : ℕ) (A : Matrix) (L : Subset) (T : Matrix) → Dec (Inverse p n A L T)
@@ -151,3 +153,28 @@ witness? p n A L f w = map? to from (both? (decLt f n) (both? (in? L f) (both? s
 
     from : Witness p n A L f w → Parts
     from W = (W .below, (W .in-L, (W .supported, (W .sent, (W .last, W .after)))))
+
+unfoldable pub appendable? : (g : Graph) (S : Subset) (e : Pair) (pairs : Pairs) → Dec (Appendable g S e pairs)
+unfolding decLt ℕ-discrete unmatched
+appendable? g S e pairs =
+    map?
+    (λ h. record { ordered = h .0; below = h .1 .0; smaller-left = h .1 .1 .0; larger-left = h .1 .1 .1 .0; adjacent = h .1 .1 .1 .1 })
+    (λ a. (a .ordered, (a .below, (a .smaller-left, (a .larger-left, a .adjacent)))))
+    (both? (decLt (e .smaller) (e .larger))
+    (both? (decLt (e .larger) (g .n))
+    (both? (in? (unmatched S pairs) (e .smaller))
+    (both? (in? (unmatched S pairs) (e .larger)) (adjacent? g e)))))
+
+unfoldable pub matching? : (g : Graph) (S : Subset) (pairs : Pairs) → Dec (Matching g S pairs)
+unfolding appendable?
+matching? g S [] = yes empty
+matching? g S (e ∷ pairs) = map? (λ h. another (h .0) (h .1)) parts (both? (appendable? g S e pairs) (matching? g S pairs))
+  where
+    parts : Matching g S (e ∷ pairs) → Appendable g S e pairs × Matching g S pairs
+    parts (another a m) = (a, m)
+
+unfoldable pub perfect? : (g : Graph) (S : Subset) (pairs : Pairs) → Dec (Perfect g S pairs)
+unfolding matching? every? unmatched
+perfect? g S pairs =
+    map? (λ h. record { matching = h .0; none-left = h .1 }) (λ h. (h .matching, h .none-left))
+    (both? (matching? g S pairs) (every? _ (g .n) (λ v. not? (in? (unmatched S pairs) v))))

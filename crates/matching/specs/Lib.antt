@@ -1,9 +1,10 @@
--- Document 01 in definitions, nearly in its own order: the edition, the graph and its matrix, pairs, the session, opening and its display,
--- the plain model, the session calls, demand 3, replay, what a reader fills, records, texts in the DIMACS edge format, causes, the listing,
--- the host's number, demand 3 through the host.
+-- Document 01 in definitions, nearly in its own order: the edition, the graph and its matrix, pairs, matchings, the session, opening and its
+-- display, the plain model, the session calls, demand 3, replay, what a reader fills, records, texts in the DIMACS edge format, causes, the
+-- listing, the host's number, demand 3 through the host.
 pub mod Edition
 pub mod Graph
 pub mod Pairs
+pub mod Matching
 pub mod Session
 pub mod Opening
 pub mod Display
@@ -30,4 +31,5 @@ pub mod Claims
 pub mod Marked
 pub mod Worked
 pub mod DimacsWorked
+pub mod VerdictsWorked
 pub mod Instances

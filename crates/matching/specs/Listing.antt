@@ -1,14 +1,17 @@
 -- The listing program's text, byte for byte (document 01, "Listing"). Assumes nothing.
 use mathlib.Core.Path.{_≡_}
 use mathlib.Core.List.{List, [], _∷_, _++_}
+use Prim.Native.Char.{code}
 use Prim.Native.Nat.{ℕ, zero, suc, _+_, _/_, _%_, _≤_, _<_}
 use native.Mathlib.Decide.{ℕ-discrete, decLt}
 use lib.ListN.{length, take, replicate}
 use Rattle.lists.specs.Choose.{choose}
 use Rattle.lists.specs.Onto.{onto}
-use Rattle.skew.specs.Subset.{Subset}
+use Rattle.modular.specs.Prime.{OddPrime}
+use Rattle.skew.specs.Subset.{Subset, count}
 use Rattle.matching.specs.Decision.{place-number, Refusal}
 use Rattle.matching.specs.Edition.{Edition}
+use Rattle.matching.specs.Graph.{Graph}
 use Rattle.matching.specs.Pairs.{Pair, Pairs, everything}
 use Rattle.matching.specs.Model.{automatic, Nonsingular, pairs-after, PicksToCome}
 use Rattle.matching.specs.Opening.{Singular}
@@ -83,33 +86,45 @@ witness-lines i [] = []
 witness-lines i (w ∷ words) =
     choose (ℕ-discrete w 0) [] (text-witness ++ decimal i ++ space ++ decimal w ++ line-feed) ++ witness-lines (i + 1) words
 
--- verdict F: a perfect matching (document 01: full pairing)
-abbrev pub line-full : List ℕ
-line-full = text-verdict ++ 70 ∷ line-feed
+-- the letters of a verdict on a set of vertices: F, they have a perfect matching (document 01: full pairing), and its pairs are listed; O,
+-- they are odd in number, so they have none; U, it is undecided under these weights
+abbrev pub letter-full : ℕ
+letter-full = code "F"
 
--- verdict N: with a witness
-abbrev pub line-none : List ℕ
-line-none = text-verdict ++ 78 ∷ line-feed
+abbrev pub letter-odd : ℕ
+letter-odd = code "O"
+
+abbrev pub letter-undecided : ℕ
+letter-undecided = code "U"
+
+-- the letter after a witness, for this number of vertices: O if it is odd, U if it is even
+abbrev pub witness-letter : ℕ → ℕ
+witness-letter k = choose (ℕ-discrete (k % 2) 1) letter-odd letter-undecided
+
+-- verdict L
+abbrev pub verdict-line : ℕ → List ℕ
+verdict-line letter = text-verdict ++ letter ∷ line-feed
 
 -- refused K at X
 abbrev pub refused-line : Refusal → List ℕ
 refused-line r = text-refused ++ decimal (r .cause) ++ text-at ++ decimal (place-number (r .place)) ++ line-feed
 
+-- the lines of a graph after the first: the pairs of automatic picks to the end, or the witness, and the verdict on a set S of vertices
+pub data GraphLines {p : ℕ} (P : OddPrime p) (g : Graph) (S : Subset) : List ℕ → Type 0 where
+  pairs-up : {m : ℕ} → Nonsingular P g S [] → PicksToCome P g S [] m
+      → GraphLines P g S (pair-lines (pairs-after P g S [] (replicate m automatic) m) ++ verdict-line letter-full)
+  shows-witness : {f : ℕ} {witness : List ℕ} → length witness ≡ g .n → Singular p g S f witness
+      → GraphLines P g S (witness-lines 0 witness ++ verdict-line (witness-letter (count (g .n) S)))
+
 -- the vertices of a sheet of n that the verdict is about: all of them
 abbrev pub players-of : ℕ → Subset
 players-of n = everything
 
--- what is printed for an input: the refusal, or automatic picks to the end, or the witness
+-- what is printed for an input: the refusal, or the lines of the sheet's graph
 pub data Lists (E : Edition) (input : List ℕ) : List ℕ → Type 0 where
   refuses-sheet : {r : Refusal} → ReadsAs E (take input-limit input) (unread r) → Lists E input (refused-line r)
-  pairs-up : {n m : ℕ} {weights : List ℕ} {edges : List Pair} → ReadsAs E (take input-limit input) (sheet n weights edges)
-      → Nonsingular (E .prime) (graph n weights edges) (players-of n) []
-      → PicksToCome (E .prime) (graph n weights edges) (players-of n) [] m
-      → Lists E input
-      (first-line n (length edges) ++ pair-lines (pairs-after (E .prime) (graph n weights edges) (players-of n) [] (replicate m automatic) m) ++ line-full)
-  shows-witness : {n f : ℕ} {weights words : List ℕ} {edges : List Pair} → ReadsAs E (take input-limit input) (sheet n weights edges)
-      → length words ≡ n → Singular (E .modulus) (graph n weights edges) (players-of n) f words
-      → Lists E input (first-line n (length edges) ++ witness-lines 0 words ++ line-none)
+  lists-sheet : {n : ℕ} {weights lines : List ℕ} {edges : List Pair} → ReadsAs E (take input-limit input) (sheet n weights edges)
+      → GraphLines (E .prime) (graph n weights edges) (players-of n) lines → Lists E input (first-line n (length edges) ++ lines)
 
 -- the length that a buffer for the text needs: no text of the first edition has more than 1,654 bytes
 abbrev pub text-room : ℕ

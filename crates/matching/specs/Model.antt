@@ -10,8 +10,9 @@ use Rattle.skew.specs.Subset.{Subset, _∈_}
 use Rattle.skew.specs.Inverse.{Skew, Invertible}
 use Rattle.skew.specs.Decide.{invertible?}
 use Rattle.matching.specs.Decision.{Refusal, because, both?, not?, First, nowhere, first-at, first?, when, Cause, Ruling, accepted, refused, judge, Accepted, accepted?, Every, Lowest}
-use Rattle.matching.specs.Graph.{Graph, cell, tutte, tutte-skew}
+use Rattle.matching.specs.Graph.{Graph, tutte, tutte-skew}
 use Rattle.matching.specs.Pairs.{Pair, pair-of, Pairs, unmatched, in?}
+use Rattle.matching.specs.Matching.{Adjacent, adjacent?}
 
 -- pick of a and b, automatic pick, undo (document 01: hand pick, automatic pick, take-back)
 pub data Call : Type 0 where
@@ -50,13 +51,6 @@ named? n a b = all (decLt a n) (decLt b n) (not? (ℕ-discrete a b))
 -- cause k, at place 0, if the condition fails
 abbrev pub needs : {A : Type 0} → ℕ → Dec A → Cause
 needs k d = record { number = k; finding = when (not? d) 0 }
-
--- the two are adjacent (document 01: may share)
-abbrev pub Adjacent : Graph → Pair → Type 0
-Adjacent g e = cell g (e .smaller) (e .larger) ≡ 1
-
-abbrev pub adjacent? : (g : Graph) (e : Pair) → Dec (Adjacent g e)
-adjacent? g e = ℕ-discrete (cell g (e .smaller) (e .larger)) 1
 
 pub skew : {p : ℕ} → OddPrime p → (g : Graph) → Skew p (g .n) (tutte g p)
 skew P g = tutte-skew g (omega (arith, P .prime .above-one)) (g .n)

@@ -18,7 +18,8 @@ use Rattle.matching.specs.Decision.{index, because, accepted, refused, not?, bo
 use Rattle.matching.specs.Graph.{Graph, over, largest, cell, tutte, InOrder}
 use Rattle.matching.specs.Pairs.{Pairs, pair-of, unmatched, in?}
 use Rattle.matching.specs.Session.{InverseTable}
-use Rattle.matching.specs.Model.{Named, named?, needs, adjacent?, skew, Nonsingular, nonsingular?, pick-ruling, OpenPartner}
+use Rattle.matching.specs.Matching.{adjacent?}
+use Rattle.matching.specs.Model.{Named, named?, needs, skew, Nonsingular, nonsingular?, pick-ruling, OpenPartner}
 use Rattle.matching.specs.Calls.{bit-of}
 use Rattle.laws.specs.Faults.{faultless-simple}
 use Rattle.laws.specs.ModelLaws.{pair-of-smaller, pair-of-larger, unmatched-without}
@@ -188,7 +189,7 @@ module _ {g : Graph} {S : Subset} {pairs : Pairs} {inverse marks : List ℕ} (K 
             Nonsingular modulus-prime g S (pair-of a b ∷ pairs) ↔ ¬ Congruent modulus (table (g .n) inverse a b) 0
         remains =
             invertible-without modulus-prime (g .n) (tutte g modulus) (skew modulus-prime g)
-            (unmatched-without modulus-prime g S pairs a b (h .2) (left-at K a (h .0) ma) (left-at K b (h .1) mb)) (h .0) (h .1) (K .held .is-inverse)
+            (unmatched-without S pairs a b (h .2) (left-at K a (h .0) ma) (left-at K b (h .1) mb)) (h .0) (h .1) (K .held .is-inverse)
 
         pub none-remains : table (g .n) inverse a b ≡ 0 → ruled ≡ refused (because 10 0)
         none-remains z =

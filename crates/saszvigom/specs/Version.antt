@@ -7,4 +7,4 @@ version-number major minor patch = patch + 2 ^ 8 * minor + 2 ^ 16 * major
 
 -- 0.7.0
 abbrev pub version : ℕ
-version = version-number 0 7 0
+version = version-number 0 8 0

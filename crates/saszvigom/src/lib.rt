@@ -9,12 +9,12 @@ ghost use Rattle.matching.specs.Session.{state};
 ghost use Rattle.opening.specs.Meaning.{buffers};
 ghost use Rattle.saszvigom.specs.Version.{version};
 
-// Returns the version of the library: 0.7.0.
+// Returns the version of the library: 0.8.0.
 #[no_mangle]
 pub extern "C" fn saszvigom_version() -> u64
     ensures { λ r. ⌜ r ≡ version ⌝ }
 {
-    1792
+    2048
 }
 
 // Opens a session: document 01, "Opening", through the host.

@@ -1,4 +1,3 @@
--- A text in a buffer, the digits of a number, and the lengths of the listing's lines.
+-- A text in a buffer, and the lengths of the listing's lines.
 pub mod Puts
-pub mod Decimal
 pub mod Lines

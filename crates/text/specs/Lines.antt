@@ -2,7 +2,7 @@
 use mathlib.Core.Path.{_≡_, refl, sym}
 use mathlib.Core.Logic.{_≢_}
 use mathlib.Core.List.{List, [], _∷_, _++_, append-nil, append-assoc}
-use Prim.Native.Nat.{ℕ, suc, _+_, _≤_, _<_}
+use Prim.Native.Nat.{ℕ, suc, _+_, _%_, _≤_, _<_}
 use native.Mathlib.Nat.{add-zero}
 use native.Mathlib.Numerals.{add-one}
 use native.Mathlib.Decide.{ℕ-discrete}
@@ -12,8 +12,8 @@ use lib.Seq.{length-take-le, take-suc}
 use Rattle.lists.specs.Choose.{choose, choose-yes, choose-no}
 use Rattle.matching.specs.Decision.{place-number, Refusal}
 use Rattle.matching.specs.Pairs.{Pair, pairs-on}
-use Rattle.matching.specs.Listing.{decimal, text-sleeves, text-links, text-pair, text-witness, text-refused, text-at, space, line-feed, first-line, pair-line, pair-lines, witness-lines, refused-line}
-use Rattle.text.specs.Decimal.{decimal-length, decimal-most}
+use Rattle.matching.specs.Listing.{decimal, text-sleeves, text-links, text-pair, text-witness, text-refused, text-at, space, line-feed, first-line, pair-line, pair-lines, witness-lines, letter-odd, letter-undecided, witness-letter, refused-line}
+use Rattle.laws.specs.Decimal.{decimal-length, decimal-most}
 
 -- a line of two numbers, each after a word
 abbrev pub line-of : List ℕ → ℕ → List ℕ → ℕ → List ℕ
@@ -73,6 +73,13 @@ pub witness-more : (words : List ℕ) (i : ℕ) → i < length words
 witness-more words i h =
     let e : 0 + length (take i words) ≡ i = omega (arith, length-take-le i words (omega arith)) in
     rw (add-one i, take-suc words i 0, witness-append 0 (take i words) (getD words i 0 ∷ []), e)
+
+-- the letter after a witness for an odd number of vertices, and for another
+pub letter-if-odd : (k : ℕ) → k % 2 ≡ 1 → witness-letter k ≡ letter-odd
+letter-if-odd k e = choose-yes (ℕ-discrete (k % 2) 1) letter-odd letter-undecided e
+
+pub letter-if-even : (k : ℕ) → k % 2 ≢ 1 → witness-letter k ≡ letter-undecided
+letter-if-even k d = choose-no (ℕ-discrete (k % 2) 1) letter-odd letter-undecided d
 
 -- a pair of a sequence
 abbrev pub pair-at : List ℕ → ℕ → Pair

@@ -4,7 +4,7 @@ ghost use Prim.Native.Nat.{_+_, _*_, _≤_, _<_};
 ghost use lib.ListN.{length};
 ghost use Rattle.matching.specs.Decision.{because};
 ghost use Rattle.matching.specs.Pairs.{pairs-on};
-ghost use Rattle.matching.specs.Listing.{decimal, first-line, pair-line, pair-lines, witness-lines, line-full, line-none, refused-line};
+ghost use Rattle.matching.specs.Listing.{decimal, first-line, pair-line, pair-lines, witness-lines, letter-full, witness-letter, verdict-line, refused-line};
 ghost use Rattle.text.specs.Puts.{Puts};
 ghost use Rattle.text.specs.Lines.{line-of};
 
@@ -78,20 +78,23 @@ pub fn refused_line(text: &mut [u8], at: usize, cause: usize, index: usize) -> u
     line(text, at, b"refused ", cause, b" at ", index)
 }
 
-// Writes the verdict that all vertices are matched.
-pub fn full_line(text: &mut [u8], at: usize) -> usize
-    requires { ⌜ at + length line-full ≤ length (now text) ⌝ }
-    ensures { λ r. ⌜ Puts at line-full (now (text .entry)) (now (text .exit)) r ⌝ }
+// Writes the verdict that the listed pairs match all vertices.
+pub fn full_verdict(text: &mut [u8], at: usize) -> usize
+    requires { ⌜ at + 10 ≤ length (now text) ⌝ }
+    ensures { λ r. ⌜ Puts at (verdict-line letter-full) (now (text .entry)) (now (text .exit)) r ⌝ }
 {
     put(text, at, b"verdict F\n")
 }
 
-// Writes the verdict that there is a witness.
-pub fn none_line(text: &mut [u8], at: usize) -> usize
-    requires { ⌜ at + length line-none ≤ length (now text) ⌝ }
-    ensures { λ r. ⌜ Puts at line-none (now (text .entry)) (now (text .exit)) r ⌝ }
+// Writes the verdict after a witness for count vertices: O if count is odd, and U if it is even.
+pub fn witness_verdict(text: &mut [u8], at: usize, count: usize) -> usize
+    requires { ⌜ at + 10 ≤ length (now text) ⌝ }
+    ensures { λ r. ⌜ Puts at (verdict-line (witness-letter count)) (now (text .entry)) (now (text .exit)) r ⌝ }
 {
-    put(text, at, b"verdict N\n")
+    if count % 2 == 1 {
+        return put(text, at, b"verdict O\n");
+    }
+    put(text, at, b"verdict U\n")
 }
 
 // Writes the line of the witness's word w at index i, or nothing if w is 0.

@@ -1,5 +1,5 @@
 -- The lines of a graph, and how an opening leads to them. Assumes nothing.
-use mathlib.Core.Path.{_≡_, refl, sym, _∙_}
+use mathlib.Core.Path.{_≡_, refl, sym, subst, _∙_}
 use mathlib.Core.List.{List, [], _++_}
 use Prim.Native.Nat.{ℕ}
 use native.Mathlib.Omega.{arith}
@@ -13,9 +13,10 @@ use Rattle.matching.specs.Pairs.{unmatched, pairs-on}
 use Rattle.matching.specs.Session.{Session}
 use Rattle.matching.specs.Causes.{opening-ruling}
 use Rattle.matching.specs.Opening.{opened, singular, not-opened, Singular, Buffers, players, Opens, refuses-opening, opens, finds-singular}
-use Rattle.matching.specs.Model.{automatic, Nonsingular, pairs-after, PicksToCome}
-use Rattle.matching.specs.Listing.{players-of, first-line, pair-lines, witness-lines, line-full, line-none}
+use Rattle.matching.specs.Model.{Nonsingular}
+use Rattle.matching.specs.Listing.{first-line, pair-lines, witness-lines, letter-full, witness-letter, verdict-line, GraphLines, pairs-up, shows-witness, players-of}
 use Rattle.laws.specs.Sound.{GraphFits, opening-accepted}
+use Rattle.laws.specs.OpeningOutcome.{count-everything}
 use Rattle.laws.specs.Fresh.{opened-sound}
 use Rattle.sequence.specs.Formed.{left-start}
 use Rattle.calls.specs.Known.{Known}
@@ -29,16 +30,10 @@ pub record Writes (P : List ℕ → Type 0) (at : ℕ) (before after : List ℕ)
   pub lines : P text
   pub puts : Puts at text before after next
 
--- the pairs of automatic picks to the end, or the witness; and the verdict
-pub data Verdict (g : Graph) : List ℕ → Type 0 where
-  full : {m : ℕ} → Nonsingular modulus-prime g (players-of (g .n)) [] → PicksToCome modulus-prime g (players-of (g .n)) [] m
-      → Verdict g (pair-lines (pairs-after modulus-prime g (players-of (g .n)) [] (replicate m automatic) m) ++ line-full)
-  none : {f : ℕ} {words : List ℕ} → length words ≡ g .n → Singular modulus g (players-of (g .n)) f words → Verdict g (witness-lines 0 words ++ line-none)
-
 -- all lines of a graph with m edges
-pub record GraphLines (g : Graph) (m : ℕ) (text : List ℕ) : Type 0 where
+pub record AllLines (g : Graph) (m : ℕ) (text : List ℕ) : Type 0 where
   pub rest : List ℕ
-  pub verdict : Verdict g rest
+  pub lines : GraphLines modulus-prime g (players-of (g .n)) rest
   pub all : text ≡ first-line (g .n) m ++ rest
 
 -- a session fresh from opening that is known to be sound
@@ -78,8 +73,15 @@ module _ {n : ℕ} {adjacency weights inverse sequence witness work : List ℕ} 
 
 -- the lines of a completed matching
 pub full-lines : {g : Graph} {made : ℕ} {sequence : List ℕ} → Nonsingular modulus-prime g (players-of (g .n)) [] → Completed g (players-of (g .n)) made sequence
-    → Verdict g (pair-lines (pairs-on sequence made) ++ line-full)
-full-lines I C = rw (C .pairs-are) (full I (C .come))
+    → GraphLines modulus-prime g (players-of (g .n)) (pair-lines (pairs-on sequence made) ++ verdict-line letter-full)
+full-lines I C = rw (C .pairs-are) (pairs-up I (C .come))
+
+-- the lines of a witness
+pub witness-verdict : {g : Graph} {f : ℕ} {words : List ℕ} → length words ≡ g .n → Singular modulus g (players-of (g .n)) f words
+    → GraphLines modulus-prime g (players-of (g .n)) (witness-lines 0 words ++ verdict-line (witness-letter (g .n)))
+witness-verdict {g} {words = words} l s =
+    subst (λ k. GraphLines modulus-prime g (players-of (g .n)) (witness-lines 0 words ++ verdict-line (witness-letter k))) (count-everything (g .n))
+    (shows-witness l s)
 
 -- a graph in order, over tables that are long enough
 pub record Acceptable (g : Graph) : Type 0 where
@@ -103,5 +105,5 @@ accepts {g} L =
 
 -- the first line, and then the others
 pub graph-lines : {g : Graph} {m mid end : ℕ} {before between after : List ℕ} → Puts 0 (first-line (g .n) m) before between mid
-    → Writes (Verdict g) mid between after end → Writes (GraphLines g m) 0 before after end
-graph-lines P W = record { text = _; lines = record { rest = W .text; verdict = W .lines; all = refl }; puts = puts-then P (W .puts) }
+    → Writes (GraphLines modulus-prime g (players-of (g .n))) mid between after end → Writes (AllLines g m) 0 before after end
+graph-lines P W = record { text = _; lines = record { rest = W .text; lines = W .lines; all = refl }; puts = puts-then P (W .puts) }

@@ -4,11 +4,12 @@ ghost use mathlib.Core.Path.{_≡_};
 ghost use mathlib.Core.List.{List};
 ghost use Prim.Native.Nat.{ℕ, _+_, _≤_, _<_};
 ghost use lib.ListN.{length, replicate};
-ghost use Rattle.residue.specs.Modulus.{modulus};
+ghost use Rattle.residue.specs.Modulus.{modulus, modulus-prime};
 ghost use Rattle.matching.specs.Decision.{accepted};
 ghost use Rattle.matching.specs.Graph.{over};
 ghost use Rattle.matching.specs.Causes.{opening-ruling};
-ghost use Rattle.verdict.specs.Lines.{Writes, Verdict, GraphLines, Fresh, FreshFor, Acceptable};
+ghost use Rattle.matching.specs.Listing.{GraphLines, players-of};
+ghost use Rattle.verdict.specs.Lines.{Writes, AllLines, Fresh, FreshFor, Acceptable};
 
 // Writes the lines of a session fresh from opening: its pairs, at most 48 lines of 13 bytes, and the verdict that all vertices are matched,
 // 10 bytes.
@@ -25,11 +26,11 @@ fn full_lines(
     ensures { λ r.
         ⌜ ((weights : List ℕ)
         → Fresh n (now (adjacency .entry)) weights (now (inverse .entry)) (now (sequence .entry)) (now (marks .entry))
-        → Writes (Verdict (over n (now (adjacency .entry)) weights)) at (now (text .entry)) (now (text .exit)) r) ⌝ }
+        → Writes (GraphLines modulus-prime (over n (now (adjacency .entry)) weights) (players-of n)) at (now (text .entry)) (now (text .exit)) r) ⌝ }
 {
     let made = completion::complete(n, adjacency, inverse, sequence, marks);
     let next = text::pair_lines(text, at, sequence, made);
-    text::full_line(text, next)
+    text::full_verdict(text, next)
 }
 
 // Writes the lines after the first: those of full_lines, or at most 96 lines of 17 bytes for a witness, and the verdict.
@@ -50,14 +51,14 @@ fn verdict_lines(
     requires { ⌜ (n ≤ 96) × (now marks ≡ replicate n 1) × (at + 1642 ≤ length (now text)) ⌝ }
     ensures { λ r.
         let g = over n (now (adjacency .entry)) (now (weights .entry)) in
-        ⌜ Writes (Verdict g) at (now (text .entry)) (now (text .exit)) r ⌝ }
+        ⌜ Writes (GraphLines modulus-prime g (players-of n)) at (now (text .entry)) (now (text .exit)) r ⌝ }
 {
     let opened = opening::begin(n, adjacency, weights, inverse, sequence, witness, work);
     match opened {
         Opening::Opened(_) => full_lines(n, adjacency, inverse, sequence, marks, text, at),
         Opening::Singular(_) => {
             let next = text::witness_lines(text, at, &witness[..n]);
-            text::none_line(text, next)
+            text::witness_verdict(text, next, n)
         }
         // Never happens: the graph is accepted.
         Opening::Refused(_) => at,
@@ -75,7 +76,7 @@ pub fn graph_lines(
     requires { ⌜ Acceptable (over n (now adjacency) (now weights)) × (edges < 100000) × (2048 ≤ length (now text)) ⌝ }
     ensures { λ r.
         let g = over n (now (adjacency .entry)) (now (weights .entry)) in
-        ⌜ Writes (GraphLines g edges) 0 (now (text .entry)) (now (text .exit)) r ⌝ }
+        ⌜ Writes (AllLines g edges) 0 (now (text .entry)) (now (text .exit)) r ⌝ }
 {
     // The words and bytes of the largest graph: 96 * 96, and 96.
     let mut inverse = [0u16; 9216];

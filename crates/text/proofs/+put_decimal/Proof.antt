@@ -8,7 +8,7 @@ use borrow.Fn.Kinds.{In}
 use borrow.Fn.PlainCycle.{Measures, is, falls, and}
 use Rattle.matching.specs.Listing.{decimal}
 use Rattle.text.specs.Puts.{puts-then}
-use Rattle.text.specs.Decimal.{decimal-one, decimal-more}
+use Rattle.laws.specs.Decimal.{decimal-one, decimal-more}
 use Rattle.text.proofs.put_decimal.Reads as put-decimal
 use Rattle.text.proofs.put_decimal.Kinds as put-decimal-kinds
 use Rattle.text.proofs.+put_decimal.Lts-put_decimal as put-decimal-lts

@@ -19,8 +19,8 @@ pair-lines-requires c κs =
     let C = at .complete .ensures _ K in
     (omega (arith, C .few, sequence-fits K, at .complete .kept .1 .1 .1 .0), omega (arith, C .few, tables K .size, pre .1))
 
-full-line-requires : tie.Need-full-line-requires
-full-line-requires c κs =
+full-verdict-requires : tie.Need-full-verdict-requires
+full-verdict-requires c κs =
     let written = c .before .before .before in
     let at = written .before .before .before .before .before .before .before .before .before in
     let pre = at .before .before .before .before .before .before .before .before .before .pre in
@@ -47,7 +47,7 @@ returns c = λ weights F.
     record {
       text = _;
       lines = full-lines (F .nonsingular) (at .complete .ensures weights (F .known));
-      puts = puts-then (written .pair-lines .ensures .0) (last .full-line .ensures);
+      puts = puts-then (written .pair-lines .ensures .0) (last .full-verdict .ensures);
     }
 
 pub full-lines-spec : {M : Type 1} → statement M
@@ -56,7 +56,7 @@ full-lines-spec =
     (tie.spec
     complete-requires
     pair-lines-requires
-    full-line-requires
+    full-verdict-requires
     same-length
     same-length-2
     same-length-3

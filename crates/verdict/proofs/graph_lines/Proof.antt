@@ -5,6 +5,7 @@ use native.Mathlib.Omega.{arith}
 use borrow.Author.Needs.{needs}
 use lib.ListN.{length-replicate}
 use Rattle.lists.specs.Part.{length-part, first-part}
+use Rattle.matching.specs.Graph.{over}
 use Rattle.text.specs.Puts.{puts-length}
 use Rattle.text.specs.Lines.{first-length}
 use Rattle.verdict.specs.Lines.{accepts, graph-lines}
@@ -55,7 +56,9 @@ same-length c = search needs
 returns : tie.Need-returns
 returns c =
     let last = c .before .before .before .before .before .before .before in
-    graph-lines (last .before .before .before .before .before .before .before .before .before .first-line .ensures) (last .verdict-lines .ensures)
+    let written = last .before .before .before .before .before .before .before .before .before in
+    let args = written .before .before .before .before .before .args in
+    graph-lines {g = over (args .n) (args .adjacency .now) (args .weights .now)} (written .first-line .ensures) (last .verdict-lines .ensures)
 
 pub graph-lines-spec : {M : Type 1} → statement M
 graph-lines-spec =

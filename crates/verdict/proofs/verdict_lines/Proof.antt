@@ -13,7 +13,7 @@ use Rattle.laws.specs.Sound.{opening-accepted}
 use Rattle.text.specs.Puts.{puts-then, puts-length}
 use Rattle.opening.specs.declared.Opening.{Opening}
 use Rattle.opening.specs.Meaning.{opening-of, buffers}
-use Rattle.verdict.specs.Lines.{none, fresh, kernel, not-refused}
+use Rattle.verdict.specs.Lines.{witness-verdict, fresh, kernel, not-refused}
 use Rattle.verdict.proofs.verdict_lines.Statement.{statement}
 use Rattle.verdict.proofs.verdict_lines.Tie as tie
 
@@ -64,8 +64,8 @@ witness-lines-requires c κs =
     let at = opened (c .before .before .before .before) in
     (omega (arith, words at, start at .pre .1 .0), omega (arith, words at, start at .pre .1 .0, start at .pre .1 .2))
 
-none-line-requires : tie.Need-none-line-requires
-none-line-requires c κs =
+witness-verdict-requires : tie.Need-witness-verdict-requires
+witness-verdict-requires c κs =
     let written = c .before .before .before in
     let at = opened (written .before .before .before .before .before) in
     omega (arith, words at, start at .pre .1 .0, start at .pre .1 .2, written .witness-lines .ensures .1, puts-length (written .witness-lines .ensures .0))
@@ -119,7 +119,7 @@ returns-2 c =
     let written = last .before .before .before .before in
     let told = written .before .before .before in
     let k = kernel (opens (opened (told .before .before)) (told .enum-told2 .given .1)) in
-    record { text = _; lines = none (k .0) (k .1); puts = puts-then (written .witness-lines .ensures .0) (last .none-line .ensures) }
+    record { text = _; lines = witness-verdict (k .0) (k .1); puts = puts-then (written .witness-lines .ensures .0) (last .witness-verdict .ensures) }
 
 same-length-12 : tie.Need-same-length-12
 same-length-12 c = search needs
@@ -149,7 +149,7 @@ verdict-lines-spec =
     slice-reshare-prefix-witness-lines
     slice-aggregate-witness-lines
     witness-lines-requires
-    none-line-requires
+    witness-verdict-requires
     enum-told-3
     same-length
     same-length-2

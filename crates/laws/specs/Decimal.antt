@@ -1,4 +1,4 @@
--- The digits of a number. Assumes nothing.
+-- The decimal digits of a number. Assumes nothing.
 use mathlib.Core.Path.{_≡_, refl, sym, ap, _∙_}
 use mathlib.Core.List.{List, [], _∷_, _++_, append-assoc}
 use Prim.Native.Nat.{ℕ, zero, suc, _+_, _^_, _/_, _%_, _≤_, _<_}
@@ -71,6 +71,15 @@ decimal-more x h l =
     more 19 x [] h
     ∙ digits-later 19 (x / 10) ((48 + x % 10) ∷ [])
     ∙ ap (λ d. d ++ (48 + x % 10) ∷ []) (sym (digits-enough 18 (x / 10) [] (tenth 19 x l)))
+
+-- a number ends in a digit
+pub decimal-last : (x : ℕ) → (front : List ℕ) × (d : ℕ) × (d < 10) × (decimal x ≡ front ++ (48 + d) ∷ [])
+decimal-last x = go (decLt x 10)
+  where
+    go : Dec (x < 10) → (front : List ℕ) × (d : ℕ) × (d < 10) × (decimal x ≡ front ++ (48 + d) ∷ [])
+    go (yes l) = ([], x, l, decimal-one x l)
+    go (no d) =
+        (digits 19 (x / 10) [], x % 10, omega arith, more 19 x [] (omega arith) ∙ digits-later 19 (x / 10) ((48 + x % 10) ∷ []))
 
 -- a number below 10 ^ (k + 1) has at most k + 1 digits
 pub decimal-length : (k x : ℕ) → x < 10 ^ suc k → length (decimal x) ≤ suc k
