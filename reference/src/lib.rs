@@ -1,5 +1,5 @@
-//! The reference: document 01, and requests 1 and 2 of document 02, in plain Rust,
-//! which shares nothing with the crates.
+//! The reference: document 01, and requests 1, 2 and 3 of document 02, in plain
+//! Rust, which shares nothing with the crates.
 //!
 //! A graph of at most 96 vertices has an adjacency table and one weight for
 //! every two vertices. Its Tutte matrix modulo 65521 either has an inverse, and
@@ -43,7 +43,7 @@ pub mod dimacs;
 /// call is refused, and where.
 pub mod causes;
 
-/// "Listing": what the program prints.
+/// "Listing", and document 02, request 3: what the program prints.
 pub mod listing;
 
 /// "Sheet records": the bytes of a sheet as text, and back.

@@ -1,4 +1,5 @@
-//! What the program prints (document 01, "Listing").
+//! What the program prints (document 01, "Listing"; the verdict by document 02,
+//! request 3).
 
 use crate::causes::Refusal;
 use crate::graph::{weight_count, MAX_VERTICES};
@@ -44,13 +45,27 @@ fn accepted_lines(bytes: &[u8]) -> Result<String, Refusal> {
         &mut buffers.witness,
         &mut buffers.work,
     )?;
-    let rest = match opening {
-        Opening::Opened(session) => pair_lines(session, &mut buffers) + "verdict F\n",
-        Opening::Singular { .. } => {
-            witness_lines(&buffers.witness[..counts.size as usize]) + "verdict N\n"
-        }
+    let lines = match opening {
+        Opening::Opened(session) => pair_lines(session, &mut buffers),
+        Opening::Singular { .. } => witness_lines(&buffers.witness[..counts.size as usize]),
     };
-    Ok(first_line(counts) + &rest)
+    let last = format!("verdict {}\n", verdict(opening, counts.size));
+    Ok(first_line(counts) + &lines + &last)
+}
+
+/// Returns the letter of the verdict on a graph of n vertices.
+///
+/// - F: opened. The pairs listed are a perfect matching.
+/// - O: a witness, and n is odd. There is no perfect matching, whatever the weights.
+/// - U: a witness, and n is even. Undecided under these weights: there may be a
+///   perfect matching, or none. The edges are not searched, so two vertices without
+///   an edge are U too.
+pub fn verdict(opening: Opening, n: u64) -> char {
+    match opening {
+        Opening::Opened(_) => 'F',
+        Opening::Singular { .. } if n % 2 == 1 => 'O',
+        Opening::Singular { .. } => 'U',
+    }
 }
 
 fn largest_buffers() -> Buffers {

@@ -1,4 +1,4 @@
-//! Document 01, "Listing": whole outputs.
+//! Document 01, "Listing", and document 02, request 3: whole outputs.
 
 mod common;
 
@@ -37,26 +37,32 @@ fn no_vertices_have_a_perfect_matching() {
 
 #[test]
 fn one_vertex_has_a_witness() {
-    let expected = "sleeves 1 links 0\nwitness 0 1\nverdict N\n";
+    let expected = "sleeves 1 links 0\nwitness 0 1\nverdict O\n";
     assert_eq!(listing(&records(1, 7, &[])), expected);
 }
 
 #[test]
 fn path_of_three_has_a_witness_of_two_words() {
-    let expected = "sleeves 3 links 2\nwitness 0 13128\nwitness 2 1\nverdict N\n";
+    let expected = "sleeves 3 links 2\nwitness 0 13128\nwitness 2 1\nverdict O\n";
     assert_eq!(listing(&records(3, 0, &[(0, 1), (1, 2)])), expected);
 }
 
 #[test]
+fn two_vertices_without_an_edge_are_undecided() {
+    let expected = "sleeves 2 links 0\nwitness 0 1\nverdict U\n";
+    assert_eq!(listing(&records(2, 7, &[])), expected);
+}
+
+#[test]
 fn zero_words_of_a_witness_are_passed_over() {
-    let expected = "sleeves 4 links 1\nwitness 0 1\nverdict N\n";
+    let expected = "sleeves 4 links 1\nwitness 0 1\nverdict U\n";
     assert_eq!(listing(&records(4, 0, &[(2, 3)])), expected);
 }
 
 #[test]
 fn cancelling_ring_has_a_witness_although_it_has_a_perfect_matching() {
     let edges = [(0, 1), (1, 2), (2, 3), (3, 0)];
-    let expected = "sleeves 4 links 4\nwitness 0 45208\nwitness 2 1\nverdict N\n";
+    let expected = "sleeves 4 links 4\nwitness 0 45208\nwitness 2 1\nverdict U\n";
     assert_eq!(listing(&records(4, 247_978, &edges)), expected);
     let other_seed = listing(&records(4, 0, &edges));
     assert_eq!(
