@@ -1,4 +1,5 @@
-//! Shared by the tests: a seeded generator, lent buffers, records.
+//! Shared by the tests: a seeded generator, lent buffers, records, a search for
+//! perfect matchings.
 #![allow(dead_code)]
 
 use reference::causes::{Cause, Place, Refusal};
@@ -278,6 +279,21 @@ pub fn records(n: u8, seed: u32, edges: &[(u8, u8)]) -> Vec<u8> {
     }
     bytes.push(4);
     bytes
+}
+
+/// Counts the perfect matchings of these vertices: matches the lowest with each of
+/// its neighbours, and counts those of the rest. No weight and no matrix has a part
+/// in it.
+pub fn perfect_matchings(vertices: &[usize], adjacent: &dyn Fn(usize, usize) -> bool) -> u64 {
+    let Some((&lowest, others)) = vertices.split_first() else {
+        return 1;
+    };
+    let neighbours = others.iter().filter(|&&other| adjacent(lowest, other));
+    let counts = neighbours.map(|neighbour| {
+        let rest = others.iter().filter(|&vertex| vertex != neighbour);
+        perfect_matchings(&rest.copied().collect::<Vec<_>>(), adjacent)
+    });
+    counts.sum()
 }
 
 /// Returns the sequence of pairs made by hand.
