@@ -1,12 +1,14 @@
 //! Document 01, "Near misses in elimination" and the broken programs of "A
-//! paragraph to the testers". Each is written as a wrong variant, and an input
-//! tells it apart from the right one.
+//! paragraph to the testers", and wrong verdicts beside those of document 02,
+//! request 3. Each is written as a wrong variant, and an input tells it apart from
+//! the right one.
 
 mod common;
 
 use common::*;
 use reference::causes::{Cause, Refusal};
 use reference::linear_algebra::{inverse, Matrix};
+use reference::listing::verdict;
 use reference::model::Model;
 use reference::opening::Opening;
 use reference::residue::Residue;
@@ -24,6 +26,11 @@ trait Program {
 
     fn automatic(&self, buffers: &mut Buffers, session: Session) -> Outcome<Pair> {
         buffers.automatic(session)
+    }
+
+    /// Returns the letter of the verdict on a graph after opening.
+    fn verdict(&self, _: &Buffers, n: usize, opening: Opening) -> char {
+        verdict(opening, n as u64)
     }
 }
 
@@ -448,4 +455,268 @@ fn a_program_that_invents_its_number_of_pairs() {
     let steps = seen(&InventsPairs, &graph, 4, &calls).expect("opened");
     assert_eq!(steps[1].answer, Err((5, 0)));
     assert_eq!(expected(&graph, 4, &calls)[1].answer, Ok(pair(2, 3)));
+}
+
+/// Opens a graph, and returns the right letter of the verdict and the wrong one.
+fn letters(wrong: &dyn Program, graph: &Buffers, n: usize) -> (char, char) {
+    let mut buffers = graph.clone();
+    let opening = buffers.open(n as u64).expect("accepted");
+    let letter = |program: &dyn Program| program.verdict(&buffers, n, opening);
+    (letter(&Right), letter(wrong))
+}
+
+/// Makes three vertices with edges 01, 12.
+fn path_of_three() -> Buffers {
+    Buffers::new(3, &[(0, 1), (1, 2)])
+}
+
+/// Makes four vertices, 0 adjacent to the others. It has no perfect matching.
+fn star() -> Buffers {
+    Buffers::new(4, &[(0, 1), (0, 2), (0, 3)])
+}
+
+/// Makes the ring of four with weights that cancel. It has two perfect matchings.
+fn cancelling_ring() -> Buffers {
+    Buffers::new(4, &[(0, 1), (1, 2), (2, 3), (0, 3)]).with_weights(&[1, 1, 1, 65_520, 1, 1])
+}
+
+/// Makes a triangle and a vertex without an edge.
+fn triangle_and_vertex() -> Buffers {
+    Buffers::new(4, &[(0, 1), (0, 2), (1, 2)])
+}
+
+/// Returns F for an opened graph. For a witness, returns O if this number is odd, and
+/// U if it is even.
+fn by_parity(opening: Opening, number: usize) -> char {
+    match opening {
+        Opening::Opened(_) => 'F',
+        Opening::Singular { .. } if number % 2 == 1 => 'O',
+        Opening::Singular { .. } => 'U',
+    }
+}
+
+/// Counts the perfect matchings.
+fn matchings(buffers: &Buffers, n: usize) -> u64 {
+    let vertices: Vec<usize> = (0..n).collect();
+    perfect_matchings(&vertices, &|i, j| buffers.adjacency[i * n + j] == 1)
+}
+
+/// Returns the number of neighbours of each vertex.
+fn degrees(buffers: &Buffers, n: usize) -> Vec<usize> {
+    let degree = |i| (0..n).filter(|j| buffers.adjacency[i * n + j] == 1).count();
+    (0..n).map(degree).collect()
+}
+
+#[test]
+fn right_verdicts() {
+    let letter = |graph: &Buffers, n| letters(&Right, graph, n).0;
+    assert_eq!(letter(&Buffers::new(0, &[]), 0), 'F');
+    assert_eq!(letter(&path(), 4), 'F');
+    assert_eq!(letter(&Buffers::new(1, &[]), 1), 'O');
+    assert_eq!(letter(&path_of_three(), 3), 'O');
+    assert_eq!(letter(&Buffers::complete(3), 3), 'O');
+    assert_eq!(letter(&Buffers::new(2, &[]), 2), 'U');
+    assert_eq!(letter(&star(), 4), 'U');
+    assert_eq!(letter(&triangle_and_vertex(), 4), 'U');
+    assert_eq!(letter(&cancelling_ring(), 4), 'U');
+}
+
+/// Exchanges O and U.
+struct Exchanged;
+
+impl Program for Exchanged {
+    fn verdict(&self, _: &Buffers, n: usize, opening: Opening) -> char {
+        by_parity(opening, n + 1)
+    }
+}
+
+#[test]
+fn o_and_u_exchanged() {
+    assert_eq!(letters(&Exchanged, &path(), 4), ('F', 'F'));
+    assert_eq!(letters(&Exchanged, &Buffers::complete(3), 3), ('O', 'U'));
+    assert_eq!(letters(&Exchanged, &cancelling_ring(), 4), ('U', 'O'));
+}
+
+/// O for every witness.
+struct RulesOutAll;
+
+impl Program for RulesOutAll {
+    fn verdict(&self, _: &Buffers, _: usize, opening: Opening) -> char {
+        by_parity(opening, 1)
+    }
+}
+
+#[test]
+fn o_for_every_witness() {
+    assert_eq!(letters(&RulesOutAll, &path_of_three(), 3), ('O', 'O'));
+    let ring = cancelling_ring();
+    assert_eq!(letters(&RulesOutAll, &ring, 4), ('U', 'O'));
+    assert_eq!(matchings(&ring, 4), 2);
+}
+
+/// U for every witness.
+struct DecidesNothing;
+
+impl Program for DecidesNothing {
+    fn verdict(&self, _: &Buffers, _: usize, opening: Opening) -> char {
+        by_parity(opening, 0)
+    }
+}
+
+#[test]
+fn u_for_every_witness() {
+    assert_eq!(letters(&DecidesNothing, &star(), 4), ('U', 'U'));
+    assert_eq!(letters(&DecidesNothing, &path_of_three(), 3), ('O', 'U'));
+}
+
+/// The parity of the number of edges.
+struct ByEdges;
+
+impl Program for ByEdges {
+    fn verdict(&self, buffers: &Buffers, n: usize, opening: Opening) -> char {
+        by_parity(opening, degrees(buffers, n).iter().sum::<usize>() / 2)
+    }
+}
+
+#[test]
+fn parity_of_the_number_of_edges() {
+    assert_eq!(letters(&ByEdges, &Buffers::complete(3), 3), ('O', 'O'));
+    assert_eq!(letters(&ByEdges, &cancelling_ring(), 4), ('U', 'U'));
+    assert_eq!(letters(&ByEdges, &path_of_three(), 3), ('O', 'U'));
+    assert_eq!(letters(&ByEdges, &star(), 4), ('U', 'O'));
+}
+
+/// The parity of the number of vertices that have an edge.
+struct ByEnds;
+
+impl Program for ByEnds {
+    fn verdict(&self, buffers: &Buffers, n: usize, opening: Opening) -> char {
+        let degrees = degrees(buffers, n);
+        by_parity(
+            opening,
+            degrees.iter().filter(|&&degree| degree > 0).count(),
+        )
+    }
+}
+
+#[test]
+fn parity_of_the_number_of_vertices_with_an_edge() {
+    assert_eq!(letters(&ByEnds, &path_of_three(), 3), ('O', 'O'));
+    assert_eq!(letters(&ByEnds, &star(), 4), ('U', 'U'));
+    assert_eq!(letters(&ByEnds, &triangle_and_vertex(), 4), ('U', 'O'));
+    assert_eq!(letters(&ByEnds, &Buffers::new(1, &[]), 1), ('O', 'U'));
+}
+
+/// The parity of the number of witness lines.
+struct ByWitnessLines;
+
+impl Program for ByWitnessLines {
+    fn verdict(&self, buffers: &Buffers, n: usize, opening: Opening) -> char {
+        let lines = buffers.witness[..n].iter().filter(|&&word| word != 0);
+        by_parity(opening, lines.count())
+    }
+}
+
+#[test]
+fn parity_of_the_number_of_witness_lines() {
+    let wrong = &ByWitnessLines;
+    assert_eq!(letters(wrong, &Buffers::complete(3), 3), ('O', 'O'));
+    assert_eq!(letters(wrong, &cancelling_ring(), 4), ('U', 'U'));
+    assert_eq!(letters(wrong, &path_of_three(), 3), ('O', 'U'));
+    assert_eq!(letters(wrong, &Buffers::new(2, &[]), 2), ('U', 'O'));
+}
+
+/// The parity of the first dependent column.
+struct ByColumn;
+
+impl Program for ByColumn {
+    fn verdict(&self, _: &Buffers, _: usize, opening: Opening) -> char {
+        match opening {
+            Opening::Singular { column } => by_parity(opening, column as usize),
+            Opening::Opened(_) => 'F',
+        }
+    }
+}
+
+#[test]
+fn parity_of_the_first_dependent_column() {
+    assert_eq!(letters(&ByColumn, &star(), 4), ('U', 'U'));
+    assert_eq!(letters(&ByColumn, &path_of_three(), 3), ('O', 'U'));
+    // Vertex 0 is adjacent to 3 alone, and 1 to none.
+    let graph = Buffers::new(4, &[(0, 3), (2, 3)]);
+    assert_eq!(letters(&ByColumn, &graph, 4), ('U', 'O'));
+}
+
+/// O if some vertex has no edge.
+struct ByLonelyVertex;
+
+impl Program for ByLonelyVertex {
+    fn verdict(&self, buffers: &Buffers, n: usize, opening: Opening) -> char {
+        by_parity(opening, usize::from(degrees(buffers, n).contains(&0)))
+    }
+}
+
+#[test]
+fn o_if_some_vertex_has_no_edge() {
+    let wrong = &ByLonelyVertex;
+    assert_eq!(letters(wrong, &Buffers::new(1, &[]), 1), ('O', 'O'));
+    assert_eq!(letters(wrong, &star(), 4), ('U', 'U'));
+    assert_eq!(letters(wrong, &Buffers::complete(3), 3), ('O', 'U'));
+    assert_eq!(letters(wrong, &triangle_and_vertex(), 4), ('U', 'O'));
+}
+
+/// O if there is no perfect matching, whatever n.
+struct SearchesForNone;
+
+impl Program for SearchesForNone {
+    fn verdict(&self, buffers: &Buffers, n: usize, opening: Opening) -> char {
+        by_parity(opening, usize::from(matchings(buffers, n) == 0))
+    }
+}
+
+#[test]
+fn o_if_a_search_finds_no_perfect_matching() {
+    let wrong = &SearchesForNone;
+    assert_eq!(letters(wrong, &path_of_three(), 3), ('O', 'O'));
+    assert_eq!(letters(wrong, &cancelling_ring(), 4), ('U', 'U'));
+    assert_eq!(letters(wrong, &star(), 4), ('U', 'O'));
+    assert_eq!(letters(wrong, &Buffers::new(2, &[]), 2), ('U', 'O'));
+}
+
+/// F if there is a perfect matching, though none is listed.
+struct SearchesForOne;
+
+impl Program for SearchesForOne {
+    fn verdict(&self, buffers: &Buffers, n: usize, opening: Opening) -> char {
+        match matchings(buffers, n) {
+            0 => by_parity(opening, n),
+            _ => 'F',
+        }
+    }
+}
+
+#[test]
+fn f_if_a_search_finds_a_perfect_matching() {
+    let wrong = &SearchesForOne;
+    assert_eq!(letters(wrong, &path(), 4), ('F', 'F'));
+    assert_eq!(letters(wrong, &star(), 4), ('U', 'U'));
+    assert_eq!(letters(wrong, &cancelling_ring(), 4), ('U', 'F'));
+}
+
+/// F only if pairs are listed.
+struct NeedsAPair;
+
+impl Program for NeedsAPair {
+    fn verdict(&self, _: &Buffers, n: usize, opening: Opening) -> char {
+        match n {
+            0 => 'U',
+            _ => by_parity(opening, n),
+        }
+    }
+}
+
+#[test]
+fn f_only_if_pairs_are_listed() {
+    assert_eq!(letters(&NeedsAPair, &path(), 4), ('F', 'F'));
+    assert_eq!(letters(&NeedsAPair, &Buffers::new(0, &[]), 0), ('F', 'U'));
 }
