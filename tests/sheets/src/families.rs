@@ -1,5 +1,6 @@
 //! The families of sheets. Each yields the same cases every time.
 
+use crate::cancelling;
 use crate::damage::{damaged, KINDS};
 use crate::random::Random;
 use crate::shapes::{Shape, LOW_RANKS, SHAPES};
@@ -69,6 +70,22 @@ pub fn low_ranks() -> impl Iterator<Item = Case> {
         let n = random.between(3, 30);
         let sheet = of_shape(&mut random, n, LOW_RANKS[round % LOW_RANKS.len()]);
         Case::new(format!("low ranks, round {round}, n = {n}"), sheet.bytes())
+    })
+}
+
+/// Makes sheets with a perfect matching whose weights have a witness all the same,
+/// and each with the next seed.
+pub fn cancelling() -> impl Iterator<Item = Case> {
+    let mut random = Random::new(10);
+    cancelling::sheets().into_iter().flat_map(move |sheet| {
+        [sheet.seed, sheet.seed + 1].map(|seed| {
+            let name = format!("cancelling, n = {}, seed {seed}", sheet.size);
+            let sheet = Sheet {
+                seed,
+                ..sheet.shuffled(&mut random)
+            };
+            Case::new(name, sheet.bytes())
+        })
     })
 }
 

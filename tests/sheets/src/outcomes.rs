@@ -1,16 +1,19 @@
 //! How sheets came out, and how often.
 
-use crate::sheet::{EDGE_LENGTH, FIRST_EDGE};
+use crate::matchings;
+use crate::sheet::{Sheet, EDGE_LENGTH, FIRST_EDGE};
 use std::collections::BTreeMap;
 
-/// Every outcome that is told apart: the verdicts, and the refusals of the reader
-/// by cause and place. Cause 2 is not among them: the program's buffers are long
-/// enough.
-pub const OUTCOMES: [&str; 36] = [
+/// Every outcome that is told apart: the verdicts, U by a search for a perfect
+/// matching up to 12 vertices, and the refusals of the reader by cause and place.
+/// Cause 2 is not among them: the program's buffers are long enough.
+pub const OUTCOMES: [&str; 38] = [
     "F without a vertex",
     "F",
-    "N, odd size",
-    "N, even size",
+    "O",
+    "U, with a perfect matching",
+    "U, without a perfect matching",
+    "U, more than 12 vertices",
     "1",
     "12, a known kind for the size",
     "12, an unknown kind for the size",
@@ -55,9 +58,21 @@ pub fn outcome(bytes: &[u8], listing: &str) -> String {
         }
         [.., "verdict", "F"] if bytes[1] == 0 => "F without a vertex".to_string(),
         [.., "verdict", "F"] => "F".to_string(),
-        [.., "verdict", "N"] if bytes[1] % 2 == 1 => "N, odd size".to_string(),
-        [.., "verdict", "N"] => "N, even size".to_string(),
+        [.., "verdict", "O"] => "O".to_string(),
+        [.., "verdict", "U"] => undecided(bytes).to_string(),
         _ => panic!("{listing:?} is no listing"),
+    }
+}
+
+/// Names the outcome of a sheet with verdict U.
+fn undecided(bytes: &[u8]) -> &'static str {
+    let Sheet { size, edges, .. } = Sheet::read(bytes).expect("a sheet");
+    if size > matchings::MOST_SEARCHED {
+        "U, more than 12 vertices"
+    } else if matchings::exists(size, &edges) {
+        "U, with a perfect matching"
+    } else {
+        "U, without a perfect matching"
     }
 }
 

@@ -24,6 +24,28 @@ impl Sheet {
         }
     }
 
+    /// Reads the bytes of a sheet: size, seed, edges, end. Does not judge the size and
+    /// the vertices.
+    pub fn read(bytes: &[u8]) -> Option<Sheet> {
+        let &[1, size, 3, a, b, c, d, ref records @ .., 4] = bytes else {
+            return None;
+        };
+        let edge = |record: &[u8]| match record {
+            &[2, i, j] => Some((i, j)),
+            _ => None,
+        };
+        let edges: Option<_> = records.chunks(EDGE_LENGTH).map(edge).collect();
+        Some(Sheet {
+            size,
+            seed: u32::from_le_bytes([a, b, c, d]),
+            edges: edges?,
+        })
+    }
+
+    pub fn has_edge(&self, i: u8, j: u8) -> bool {
+        self.edges.contains(&(i, j)) || self.edges.contains(&(j, i))
+    }
+
     /// Makes a sheet of n vertices, all adjacent.
     pub fn complete(size: u8, seed: u32) -> Sheet {
         let edges = (0..size).flat_map(|i| (i + 1..size).map(move |j| (i, j)));

@@ -1,7 +1,9 @@
 //! The listing program beside the reference: what it prints for every sheet, byte
 //! for byte.
 
+use sheet_tests::cancelling;
 use sheet_tests::families::{self, Case};
+use sheet_tests::matchings::exists;
 use sheet_tests::outcomes::{outcome, Tally};
 use sheet_tests::program::Program;
 use sheet_tests::sheet::Sheet;
@@ -33,10 +35,24 @@ fn the_listed_input() {
 }
 
 #[test]
+fn search_for_a_perfect_matching() {
+    for n in 0..=12 {
+        let complete = Sheet::complete(n, 0).edges;
+        assert_eq!(exists(n, &complete), n % 2 == 0);
+        assert_eq!(exists(n, &[]), n == 0);
+    }
+    let triangles = [(0, 1), (1, 2), (2, 0), (3, 4), (4, 5), (5, 3)];
+    assert!(!exists(6, &triangles));
+    assert!(exists(6, &[&triangles[..], &[(1, 4)]].concat()));
+    assert!(!exists(4, &[(0, 1), (0, 2), (0, 3)]));
+    assert!(exists(4, &[(0, 1), (0, 2), (3, 1)]));
+}
+
+#[test]
 fn small_sheets() {
     let tally = check(families::small_sheets());
     assert_eq!(tally.total(), 1000);
-    for outcome in ["F", "N, odd size", "N, even size"] {
+    for outcome in ["F", "O", "U, without a perfect matching"] {
         assert!(tally.of(outcome) > 150, "{outcome}");
     }
     assert!(tally.of("F without a vertex") > 20);
@@ -46,7 +62,7 @@ fn small_sheets() {
 fn middle_and_large_sheets() {
     let tally = check(families::middle_sheets().chain(families::large_sheets()));
     assert_eq!(tally.total(), 240);
-    for outcome in ["F", "N, odd size", "N, even size"] {
+    for outcome in ["F", "O", "U, more than 12 vertices"] {
         assert!(tally.of(outcome) > 30, "{outcome}");
     }
 }
@@ -55,23 +71,37 @@ fn middle_and_large_sheets() {
 fn low_ranks() {
     let tally = check(families::low_ranks());
     assert_eq!(tally.total(), 200);
-    for outcome in ["N, odd size", "N, even size"] {
-        assert!(tally.of(outcome) > 80, "{outcome}");
+    assert!(tally.of("O") > 80);
+    assert!(tally.of("U, without a perfect matching") > 20);
+    assert!(tally.of("U, more than 12 vertices") > 50);
+}
+
+/// U, although there is a perfect matching; F with the next seed.
+#[test]
+fn cancelling_weights() {
+    let sheets = cancelling::sheets();
+    for sheet in &sheets {
+        let is_matched = (0..sheet.size / 2).all(|k| sheet.has_edge(2 * k, 2 * k + 1));
+        assert!(sheet.size % 2 == 0 && is_matched, "{sheet:?}");
     }
+    let tally = check(families::cancelling());
+    assert_eq!((tally.total(), tally.of("F")), (2 * 36, 36));
+    assert_eq!(tally.of("U, with a perfect matching"), 20);
+    assert_eq!(tally.of("U, more than 12 vertices"), 16);
 }
 
 #[test]
 fn every_size() {
     let tally = check(families::every_size());
     assert_eq!(tally.total(), 256);
-    assert_eq!((tally.of("F"), tally.of("N, odd size")), (48, 48));
+    assert_eq!((tally.of("F"), tally.of("O")), (48, 48));
     assert_eq!((tally.of("F without a vertex"), tally.of("1")), (1, 159));
 }
 
 #[test]
 fn seeds() {
     let tally = check(families::seeds());
-    assert_eq!((tally.total(), tally.of("N, odd size")), (104, 104));
+    assert_eq!((tally.total(), tally.of("O")), (104, 104));
 }
 
 /// Every cause at every place of the reader.
@@ -84,6 +114,7 @@ fn every_cause() {
     tally.add(check(families::damaged_sheets(1500)));
     tally.add(check(families::random_bytes(300)));
     tally.add(check(families::every_size()));
+    tally.add(check(families::cancelling()));
     assert!(tally.total() > 5500, "{}", tally.total());
     assert!(tally.below(3).is_empty(), "{:?}", tally.below(3));
 }
