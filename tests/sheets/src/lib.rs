@@ -10,3 +10,4 @@ pub mod program;
 pub mod random;
 pub mod shapes;
 pub mod sheet;
+pub mod verdicts;

@@ -1,5 +1,6 @@
 //! The listing program, run as a child.
 
+use crate::verdicts;
 use reference::listing::listing;
 use std::env;
 use std::ffi::{c_int, c_ulong};
@@ -22,8 +23,8 @@ impl Program {
         Program { path: path.into() }
     }
 
-    /// Runs it with these bytes, compares what it prints with the listing of the
-    /// reference, and returns that.
+    /// Runs it with these bytes, checks what it says of a perfect matching, compares
+    /// what it prints with the listing of the reference, and returns that.
     pub fn check(&self, name: &str, bytes: &[u8]) -> String {
         self.check_pieces(name, &[bytes])
     }
@@ -79,6 +80,7 @@ fn compare(name: &str, child: Child, bytes: &[u8]) -> String {
     let printed = String::from_utf8_lossy(&stdout);
     let beginning = &bytes[..bytes.len().min(64)];
     let of = format!("{name}, {} bytes {beginning:02x?}", bytes.len());
+    assert_eq!(verdicts::fault(bytes, &printed), None, "{of}: {printed}");
     assert_eq!(printed, expected, "{of}");
     assert_eq!(status.code(), Some(0), "{of}");
     assert!(stderr.is_empty(), "{of}");

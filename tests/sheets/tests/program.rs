@@ -1,12 +1,12 @@
 //! The listing program beside the reference: what it prints for every sheet, byte
-//! for byte.
+//! for byte. What it says of a perfect matching is judged without the reference too.
 
-use sheet_tests::cancelling;
 use sheet_tests::families::{self, Case};
 use sheet_tests::matchings::exists;
 use sheet_tests::outcomes::{outcome, Tally};
 use sheet_tests::program::Program;
 use sheet_tests::sheet::Sheet;
+use sheet_tests::{cancelling, verdicts};
 
 /// The input and the output that document 01 prints.
 const LISTED: [u8; 17] = [
@@ -32,6 +32,58 @@ fn the_listed_input() {
     assert_eq!(Program::named().check("listed", &LISTED), LISTING);
     let empty = Program::named().check("empty", &[]);
     assert_eq!(empty, "refused 13 at 0\n");
+}
+
+/// Tells whether a listing of the path through n vertices is wrong in what it says of
+/// a perfect matching. Its first line is right, and the others are given.
+fn is_wrong(n: u8, lines: &[&str]) -> bool {
+    let edges = (1..n).map(|vertex| (vertex, vertex - 1));
+    let path = Sheet {
+        size: n,
+        seed: 0,
+        edges: edges.collect(),
+    };
+    let first = format!("sleeves {n} links {}", path.edges.len());
+    let listing = [&[&first[..]], lines, &[""]].concat().join("\n");
+    verdicts::fault(&path.bytes(), &listing).is_some()
+}
+
+/// The records alone tell these wrong listings apart from right ones.
+#[test]
+fn wrong_verdicts() {
+    assert!(!is_wrong(0, &["verdict F"]));
+    assert!(!is_wrong(4, &["pair 0 1", "pair 2 3", "verdict F"]));
+    assert!(!is_wrong(4, &["pair 2 3", "pair 0 1", "verdict F"]));
+    assert!(!is_wrong(4, &["witness 0 1", "verdict U"]));
+    assert!(!is_wrong(3, &["witness 0 1", "witness 2 1", "verdict O"]));
+    let wrong: [(u8, &[&str]); 19] = [
+        (0, &["verdict U"]),
+        (4, &["verdict F"]),
+        (4, &["pair 0 1", "verdict F"]),
+        (4, &["pair 0 2", "pair 1 3", "verdict F"]),
+        (4, &["pair 1 0", "pair 2 3", "verdict F"]),
+        (4, &["pair 0 1", "pair 0 1", "verdict F"]),
+        (4, &["pair 0 1", "pair 1 2", "pair 2 3", "verdict F"]),
+        (4, &["pair 0 1", "pair 2 3 4", "verdict F"]),
+        (4, &["pair 0 1", "pair 2 3", "witness 0 1", "verdict F"]),
+        (4, &["pair 0 1", "pair 2 3", "verdict U"]),
+        (4, &["witness 0 1", "pair 2 3", "verdict U"]),
+        (4, &["witness 0 1", "verdict O"]),
+        (4, &["witness 0 1", "verdict N"]),
+        (4, &["witness 0 1"]),
+        (4, &["verdict U"]),
+        (3, &["witness 0 1", "witness 2 1", "verdict U"]),
+        (3, &["pair 0 1", "verdict O"]),
+        (3, &["pair 0 1", "verdict F"]),
+        (3, &[]),
+    ];
+    for (n, lines) in wrong {
+        assert!(is_wrong(n, lines), "n = {n}, {lines:?}");
+    }
+    let listing = "sleeves 4 links 3\nwitness 0 1\nverdict U\n";
+    assert_eq!(verdicts::fault(&LISTED, listing), None);
+    assert!(verdicts::fault(&LISTED[..16], listing).is_some());
+    assert_eq!(verdicts::fault(&[], "refused 13 at 0\n"), None);
 }
 
 #[test]
