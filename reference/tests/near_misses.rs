@@ -642,7 +642,7 @@ impl Program for ByColumn {
 fn parity_of_the_first_dependent_column() {
     assert_eq!(letters(&ByColumn, &star(), 4), ('U', 'U'));
     assert_eq!(letters(&ByColumn, &path_of_three(), 3), ('O', 'U'));
-    // Vertex 0 is adjacent to 3 alone, and 1 to none.
+    // Vertex 1 has no edge, and 0 has one: the first dependent column is 1.
     let graph = Buffers::new(4, &[(0, 3), (2, 3)]);
     assert_eq!(letters(&ByColumn, &graph, 4), ('U', 'O'));
 }
