@@ -15,6 +15,9 @@
  * vector w other than 0 with A w = 0, the witness. For odd n, A is always
  * singular, and there is no perfect matching. For even n a witness decides
  * nothing: there may still be a perfect matching, since the weights may cancel.
+ * saszvigom_verdict_of returns which of the three it is, by the letter that the
+ * listing program prints: F if there is an inverse, O if A is singular and n is
+ * odd, U, undecided under these weights, if A is singular and n is even.
  *
  * A weight is the value of a variable of that matrix. It is not a preference:
  * the library does not look for a matching of largest or smallest weight. Draw
@@ -254,6 +257,25 @@ enum saszvigom_kind SASZVIGOM_ENUM_TYPE {
     SASZVIGOM_SHEET = 6,
     /* Weights, which were drawn. */
     SASZVIGOM_DRAWS = 7
+};
+
+/* What an opening says about a perfect matching: the letter that the listing
+   program prints after "verdict". saszvigom_verdict_of returns it. */
+enum saszvigom_verdict SASZVIGOM_ENUM_TYPE {
+    /* Nothing: the call was refused, or was not an opening. */
+    SASZVIGOM_NO_VERDICT = 0,
+    /* Full: there is a perfect matching, and automatic picks find one. There may
+       be others. */
+    SASZVIGOM_VERDICT_FULL = 'F',
+    /* Odd: there is no perfect matching, whatever the weights, since n is odd.
+       This does not say that no two vertices can be matched, or which vertex has
+       to be left over. */
+    SASZVIGOM_VERDICT_ODD = 'O',
+    /* Undecided under these weights: there may be a perfect matching, or none.
+       Never take it for "there is none". Every singular graph with an even n has
+       this verdict, even one without edges. Under other weights the verdict may
+       be full, and then it is decided. */
+    SASZVIGOM_VERDICT_UNDECIDED = 'U'
 };
 
 /* The kinds of records in a sheet: the first byte of each. */
@@ -696,6 +718,24 @@ static inline enum saszvigom_fault saszvigom_fault_of(uint64_t number, uint64_t 
 static inline unsigned saszvigom_column_of(uint64_t number)
 {
     return (unsigned)(number >> 16 & 0xFFu);
+}
+
+/* Returns the verdict of the number that saszvigom_open returned for n vertices:
+   SASZVIGOM_VERDICT_FULL for the kind SASZVIGOM_OPENED; SASZVIGOM_VERDICT_ODD or
+   SASZVIGOM_VERDICT_UNDECIDED for SASZVIGOM_SINGULAR, as n is odd or even; and
+   SASZVIGOM_NO_VERDICT for a refusal, for another kind, and for a number that has
+   both a cause and a kind, which no call returns. Pass the n of that call. Of n
+   only odd or even counts, and only if the graph is singular: no graph with an
+   odd n has the kind SASZVIGOM_OPENED, and this function does not check that. */
+static inline enum saszvigom_verdict saszvigom_verdict_of(uint64_t number, uint64_t n)
+{
+    if (saszvigom_cause_of(number) != SASZVIGOM_NO_CAUSE)
+        return SASZVIGOM_NO_VERDICT;
+    if (saszvigom_kind_of(number) == SASZVIGOM_OPENED)
+        return SASZVIGOM_VERDICT_FULL;
+    if (saszvigom_kind_of(number) != SASZVIGOM_SINGULAR)
+        return SASZVIGOM_NO_VERDICT;
+    return n % 2u == 1u ? SASZVIGOM_VERDICT_ODD : SASZVIGOM_VERDICT_UNDECIDED;
 }
 
 /* Returns the smaller vertex of the pair. It means nothing for a kind other

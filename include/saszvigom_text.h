@@ -220,6 +220,26 @@ static inline void saszvigom_line_number(struct saszvigom_line *line, const char
         saszvigom_line_char(line, (char)('0' + (int)(number / power % 10u)));
 }
 
+/* Writes a verdict, with what it says. Only for this header. */
+static inline void saszvigom_line_verdict(struct saszvigom_line *line,
+                                          enum saszvigom_verdict verdict)
+{
+    switch (verdict) {
+    case SASZVIGOM_VERDICT_FULL:
+        saszvigom_line_text(line, "; verdict F: there is a perfect matching");
+        break;
+    case SASZVIGOM_VERDICT_ODD:
+        saszvigom_line_text(line, "; verdict O: n is odd, there is no perfect matching");
+        break;
+    case SASZVIGOM_VERDICT_UNDECIDED:
+        saszvigom_line_text(line, "; verdict U: undecided under these weights, others may have an "
+                                  "inverse");
+        break;
+    case SASZVIGOM_NO_VERDICT: /* then the kind is another one, and this is not called */
+        break;
+    }
+}
+
 /* Writes which adjacency byte is at fault and what is wrong with it, as the
    number says; with the bytes, if the table shows that fault there. Only for
    this header. */
@@ -381,13 +401,13 @@ static inline size_t saszvigom_explain_with(char *text, size_t size, uint64_t nu
     } else {
         switch (kind) {
         case SASZVIGOM_OPENED:
-            saszvigom_line_text(&line, "opened: there is an inverse, and a perfect matching");
+            saszvigom_line_text(&line, "opened: there is an inverse");
+            saszvigom_line_verdict(&line, saszvigom_verdict_of(number, n));
             break;
         case SASZVIGOM_SINGULAR:
             saszvigom_line_number(&line, "singular: there is no inverse, first dependent column ",
                                   saszvigom_column_of(number));
-            saszvigom_line_text(&line, n % 2u == 1u ? "; n is odd: no perfect matching"
-                                                    : "; undecided: other weights may have an inverse");
+            saszvigom_line_verdict(&line, saszvigom_verdict_of(number, n));
             break;
         case SASZVIGOM_PAIR:
             saszvigom_line_number(&line, "pair: ", saszvigom_smaller_of(number));

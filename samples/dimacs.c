@@ -38,30 +38,28 @@ static bool read_text(const char *text, uint32_t seed)
     return false;
 }
 
-/* Opens the graph, with the draws of other seeds while it is singular; with an
-   odd number of vertices it always is. */
+/* Opens the graph, with the draws of other seeds while that is undecided; tells
+   whether it has an inverse. Prints each verdict by its letter: F full, O odd, U
+   undecided. */
 static bool open_graph(uint32_t seed)
 {
     const uint32_t last = seed + SEEDS;
-    while (saszvigom_kind_of(saszvigom_graph_open(&graph)) != SASZVIGOM_OPENED) {
-        printf("    singular with the draws of seed %u\n", (unsigned)seed);
-        if (graph.n % 2 == 1 || ++seed == last)
-            return false;
+    for (;;) {
+        const enum saszvigom_verdict verdict =
+            saszvigom_verdict_of(saszvigom_graph_open(&graph), graph.n);
+        printf("    verdict %c with the draws of seed %u\n", (char)verdict, (unsigned)seed);
+        if (verdict != SASZVIGOM_VERDICT_UNDECIDED || ++seed == last)
+            return verdict == SASZVIGOM_VERDICT_FULL;
         saszvigom_graph_draw(&graph, seed);
     }
-    return true;
 }
 
 static void match(const char *name, const char *text)
 {
     uint64_t number;
     printf("%s:\n", name);
-    if (!read_text(text, 1))
+    if (!read_text(text, 1) || !open_graph(1))
         return;
-    if (!open_graph(1)) {
-        printf("    %s\n", graph.n % 2 == 1 ? "no perfect matching" : "undecided");
-        return;
-    }
     while (number = saszvigom_graph_automatic(&graph),
            saszvigom_cause_of(number) == SASZVIGOM_NO_CAUSE)
         printf("    %u and %u\n", saszvigom_smaller_of(number) + 1u,

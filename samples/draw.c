@@ -21,14 +21,14 @@ static void make_graph(const char *name, uint64_t n, const unsigned edges[][2], 
         saszvigom_graph_set_edge(&graph, edges[k][0], edges[k][1]);
 }
 
-/* Opens the graph and says what is found; tells whether it has an inverse. */
-static bool open_graph(const char *weights)
+/* Opens the graph and says what is found; returns the verdict. */
+static enum saszvigom_verdict open_graph(const char *weights)
 {
     char line[SASZVIGOM_LINE_BYTES];
     const uint64_t number = saszvigom_graph_open(&graph);
     saszvigom_graph_explain(line, sizeof line, number, &graph, SASZVIGOM_FROM_CALL);
     printf("  %s: %s\n", weights, line);
-    return saszvigom_kind_of(number) == SASZVIGOM_OPENED;
+    return saszvigom_verdict_of(number, graph.n);
 }
 
 static void look_for_inverse(void)
@@ -37,13 +37,16 @@ static void look_for_inverse(void)
         char weights[32];
         (void)snprintf(weights, sizeof weights, "draws of seed %u", (unsigned)seed);
         saszvigom_graph_draw(&graph, seed);
-        if (open_graph(weights)) {
+        switch (open_graph(weights)) {
+        case SASZVIGOM_VERDICT_FULL:
             printf("  so there is a perfect matching\n");
             return;
-        }
-        if (graph.n % 2 == 1) { /* other draws are singular too */
-            printf("  so there is no perfect matching\n");
+        case SASZVIGOM_VERDICT_ODD:
+            printf("  so there is no perfect matching, and no draws help\n");
             return;
+        case SASZVIGOM_VERDICT_UNDECIDED: /* other draws may open it */
+        case SASZVIGOM_NO_VERDICT:        /* a graph with drawn weights is not refused */
+            break;
         }
     }
     printf("  so it is undecided whether there is a perfect matching\n");

@@ -1,7 +1,6 @@
 /*
- * Reads sheets, opens their graphs and matches the vertices. If a graph is
- * singular, the weights may have cancelled: it is opened again with other
- * draws.
+ * Reads sheets, opens their graphs and matches the vertices. If the verdict is U,
+ * the weights may have cancelled: the graph is opened again with other draws.
  *
  *     cc sheet.c $(pkg-config --cflags --libs saszvigom) -o sheet
  */
@@ -21,31 +20,30 @@ static struct {
     uint8_t sequence[SASZVIGOM_SEQUENCE_BYTES(MOST)];
 } s;
 
-/* Opens the graph; tells whether it has an inverse. */
-static bool open_graph(void)
+/* Opens the graph; returns the verdict. */
+static enum saszvigom_verdict open_graph(void)
 {
     static uint8_t witness[SASZVIGOM_WITNESS_BYTES(MOST)], work[SASZVIGOM_WORK_BYTES(MOST)];
     const uint64_t number = saszvigom_open(
         s.n, s.adjacency, sizeof s.adjacency, s.weights, sizeof s.weights, s.inverse,
         sizeof s.inverse, s.sequence, sizeof s.sequence, witness, sizeof witness, work,
         sizeof work);
-    const enum saszvigom_kind kind = saszvigom_kind_of(number); /* a sheet read is never refused */
-    printf("%s", saszvigom_kind_text(kind));
-    return kind == SASZVIGOM_OPENED;
+    printf("%s", saszvigom_kind_text(saszvigom_kind_of(number)));
+    return saszvigom_verdict_of(number, s.n);
 }
 
-/* Opens the graph with the draws of the sheet, and then of other seeds while it
-   is singular; with an odd number of vertices it always is. */
-static bool open_with_some_draws(void)
+/* Opens the graph with the draws of the sheet, and then of other seeds while that
+   is undecided; returns the last verdict. */
+static enum saszvigom_verdict open_with_some_draws(void)
 {
-    bool opened = open_graph();
+    enum saszvigom_verdict verdict = open_graph();
     printf(" with the draws of the sheet\n");
-    for (uint32_t seed = 1; !opened && s.n % 2 == 0 && seed <= REDRAWS; seed++) {
+    for (uint32_t seed = 1; verdict == SASZVIGOM_VERDICT_UNDECIDED && seed <= REDRAWS; seed++) {
         saszvigom_draws(s.n, seed, s.weights, sizeof s.weights);
-        opened = open_graph();
+        verdict = open_graph();
         printf(" with the draws of seed %u\n", (unsigned)seed);
     }
-    return opened;
+    return verdict;
 }
 
 static void match_all(void)
@@ -72,10 +70,20 @@ static void list(const char *name, const uint8_t *sheet, size_t length)
     if (saszvigom_kind_of(number) != SASZVIGOM_SHEET)
         return;
     s.n = saszvigom_size_of(number);
-    if (open_with_some_draws())
+    switch (open_with_some_draws()) {
+    case SASZVIGOM_VERDICT_FULL:
+        printf("verdict F: there is a perfect matching\n");
         match_all();
-    else
-        printf("%s\n", s.n % 2 == 1 ? "no perfect matching" : "undecided: all are singular");
+        break;
+    case SASZVIGOM_VERDICT_ODD:
+        printf("verdict O: there is no perfect matching\n");
+        break;
+    case SASZVIGOM_VERDICT_UNDECIDED:
+        printf("verdict U: undecided under all these draws\n");
+        break;
+    case SASZVIGOM_NO_VERDICT: /* opening refuses no sheet that was read */
+        break;
+    }
 }
 
 int main(void)

@@ -101,6 +101,22 @@ static void fault(uint64_t number)
     }
 }
 
+static void verdict(uint64_t number, uint64_t n)
+{
+    char line[SASZVIGOM_LINE_BYTES];
+    if (saszvigom_explain(line, sizeof line, number, n, SASZVIGOM_FROM_CALL) >= sizeof line)
+        exit(1);
+    count(line);
+    switch (saszvigom_verdict_of(number, n)) {
+    case SASZVIGOM_NO_VERDICT:
+        break;
+    case SASZVIGOM_VERDICT_FULL:
+    case SASZVIGOM_VERDICT_ODD:
+    case SASZVIGOM_VERDICT_UNDECIDED:
+        known++;
+    }
+}
+
 int main(void)
 {
     uint64_t value;
@@ -128,6 +144,11 @@ int main(void)
     for (value = 0; value < 256; value++)
         fault(value << 32 | SASZVIGOM_ADJACENCY_FAULT);
     expect("faults", 4);
+    for (value = 0; value < 65536; value++) {
+        verdict(value, 95);
+        verdict(value, 96);
+    }
+    expect("verdicts", 4);
     printf("%u cases\n", values);
     return 0;
 }

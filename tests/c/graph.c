@@ -490,7 +490,7 @@ static void explained(void)
                saszvigom_graph_open(&graph), call);
 
     open_ring(6);
-    check_line("opened: there is an inverse, and a perfect matching", 0x100, call);
+    check_line("opened: there is an inverse; verdict F: there is a perfect matching", 0x100, call);
     check_line("pair: 0 and 1, pairs made 1", saszvigom_graph_pick(&graph, 1, 0), call);
     check_line("refused: a vertex is matched already (cause 8)", saszvigom_graph_pick(&graph, 1, 2),
                call);
@@ -507,8 +507,14 @@ static void explained(void)
                read_text("c\r\np edge 4 0\r\n"), SASZVIGOM_FROM_DIMACS);
     check_line("graph: vertices 4, edges 0", read_text("p edge 4 0\n"), SASZVIGOM_FROM_DIMACS);
     make_ring(3);
-    check_line("singular: there is no inverse, first dependent column 2; n is odd: no perfect "
-               "matching",
+    check_line("singular: there is no inverse, first dependent column 2; verdict O: n is odd, "
+               "there is no perfect matching",
+               saszvigom_graph_open(&graph), call);
+    make_ring(4);
+    check("cleared", saszvigom_graph_clear_edge(&graph, 2, 3));
+    check("cleared", saszvigom_graph_clear_edge(&graph, 3, 0));
+    check_line("singular: there is no inverse, first dependent column 2; verdict U: undecided "
+               "under these weights, others may have an inverse",
                saszvigom_graph_open(&graph), call);
     check("init of too many", !saszvigom_graph_init(&graph, UINT64_MAX));
     check_line("refused: there are more than 96 vertices (cause 1)", saszvigom_graph_open(&graph),
@@ -517,6 +523,67 @@ static void explained(void)
     check_line("refused: an adjacency byte is not 0 or 1, is not 0 on the diagonal, or differs "
                "from its mirror image (cause 3)",
                3, call);
+}
+
+/* Returns the verdict of the graph with the draws of a seed. */
+static enum saszvigom_verdict drawn_verdict(uint32_t seed)
+{
+    saszvigom_graph_draw(&graph, seed);
+    return saszvigom_verdict_of(saszvigom_graph_open(&graph), graph.n);
+}
+
+/* Matches every vertex with one that is adjacent to it; tells whether that
+   succeeds. */
+static bool matched_all(void)
+{
+    while (saszvigom_cause_of(saszvigom_graph_automatic(&graph)) == SASZVIGOM_NO_CAUSE)
+        continue;
+    for (uint64_t v = 0; v < graph.n; v++) {
+        const uint64_t partner = saszvigom_graph_partner(&graph, v);
+        if (!saszvigom_graph_adjacent(&graph, v, partner) ||
+            saszvigom_graph_partner(&graph, partner) != v)
+            return false;
+    }
+    return true;
+}
+
+/* Full comes with a perfect matching, odd with none whatever the seed, and
+   undecided with one or with none. */
+static void verdicts(void)
+{
+    bool odd = true, undecided = true;
+    check("init of 0", saszvigom_graph_init(&graph, 0));
+    check("verdict of 0", drawn_verdict(1) == SASZVIGOM_VERDICT_FULL && matched_all());
+    check("init of 1", saszvigom_graph_init(&graph, 1));
+    check("verdict of 1", drawn_verdict(1) == SASZVIGOM_VERDICT_ODD);
+    check("init of 2", saszvigom_graph_init(&graph, 2));
+    check("verdict of 2 without an edge", drawn_verdict(1) == SASZVIGOM_VERDICT_UNDECIDED);
+    check("edge", saszvigom_graph_set_edge(&graph, 1, 0));
+    check("verdict of an edge", drawn_verdict(1) == SASZVIGOM_VERDICT_FULL && matched_all());
+
+    make_ring(4); /* 0 with 1 and 2 with 3 is a perfect matching */
+    check("draws that cancel", drawn_verdict(247978) == SASZVIGOM_VERDICT_UNDECIDED);
+    check("draws that do not", drawn_verdict(247979) == SASZVIGOM_VERDICT_FULL && matched_all());
+
+    make_ring(5);
+    for (uint32_t seed = 0; seed < 1000; seed++)
+        odd = odd && drawn_verdict(seed) == SASZVIGOM_VERDICT_ODD;
+    check("five vertices with any draws", odd);
+    check("init of a star", saszvigom_graph_init(&graph, 4));
+    for (uint64_t i = 1; i < 4; i++)
+        check("edge of a star", saszvigom_graph_set_edge(&graph, 0, i));
+    for (uint32_t seed = 0; seed < 1000; seed++)
+        undecided = undecided && drawn_verdict(seed) == SASZVIGOM_VERDICT_UNDECIDED;
+    check("a star with any draws", undecided);
+
+    check("init of 3", saszvigom_graph_init(&graph, 3));
+    check("no verdict without weights",
+          saszvigom_verdict_of(saszvigom_graph_open(&graph), 3) == SASZVIGOM_NO_VERDICT);
+    open_ring(6);
+    check("no verdict of a pair",
+          saszvigom_verdict_of(saszvigom_graph_automatic(&graph), 6) == SASZVIGOM_NO_VERDICT);
+    check("no verdict of a refused pick",
+          saszvigom_verdict_of(saszvigom_graph_pick(&graph, 0, 1), 6) == SASZVIGOM_NO_VERDICT);
 }
 
 /* The largest graph: all adjacent, matched to the end and undone, and the same
@@ -566,6 +633,7 @@ int main(void)
     faulty();
     replays();
     explained();
+    verdicts();
     largest();
     printf("%zu cases\n", cases);
     return 0;

@@ -283,10 +283,66 @@ static void accessors(void)
                        && saszvigom_fault_row(refused, 96) == 95
                        && saszvigom_fault_column(refused, 96) == 95
                        && saszvigom_fault_of(refused, 96, NULL, 0) == SASZVIGOM_FAULT_DIAGONAL
+                       && saszvigom_verdict_of(256, 96) == SASZVIGOM_VERDICT_FULL
+                       && saszvigom_verdict_of(singular, 3) == SASZVIGOM_VERDICT_ODD
+                       && saszvigom_verdict_of(singular, 4) == SASZVIGOM_VERDICT_UNDECIDED
+                       && saszvigom_verdict_of(refused, 96) == SASZVIGOM_NO_VERDICT
                        && saszvigom_buffer_of(0xA0002) == SASZVIGOM_BUFFER_ANSWERS
                        && saszvigom_weight_index(96, 94, 95) == 4559
                        && saszvigom_weight_index(96, 95, 94) == 4559;
     check_that("accessors", right);
+}
+
+/* Tells whether opening the graph that is set up has this verdict. */
+static bool has_verdict(enum saszvigom_verdict verdict)
+{
+    const uint64_t number =
+        saszvigom_open(call.n, call.bytes[ADJACENCY], call.length[ADJACENCY], call.bytes[WEIGHTS],
+                       call.length[WEIGHTS], call.bytes[INVERSE], call.length[INVERSE],
+                       call.bytes[SEQUENCE], call.length[SEQUENCE], call.bytes[WITNESS],
+                       call.length[WITNESS], call.bytes[WORK], call.length[WORK]);
+    return saszvigom_verdict_of(number, call.n) == verdict;
+}
+
+/* The verdict of every size: without edges, with all of them, with those of a
+   path, and with weights that cancel, though there is a perfect matching. */
+static void verdicts(void)
+{
+    const enum saszvigom_verdict full = SASZVIGOM_VERDICT_FULL, odd = SASZVIGOM_VERDICT_ODD,
+                                 undecided = SASZVIGOM_VERDICT_UNDECIDED;
+    bool none = true, all = true, path = true, cancelled = true;
+    for (size_t n = 0; n <= SASZVIGOM_MAX_VERTICES; n++) {
+        set_graph(n);
+        none = none && has_verdict(n == 0 ? full : n % 2 == 1 ? odd : undecided);
+        for (size_t i = 1; i < n; i++)
+            link_vertices(i - 1, i);
+        path = path && has_verdict(n % 2 == 1 ? odd : full);
+        link_all();
+        all = all && has_verdict(n % 2 == 1 ? odd : full);
+        if (n < 4)
+            continue;
+        set_edges(n, "01 02 13 23");
+        for (size_t i = 4; i + 1 < n; i += 2)
+            link_vertices(i, i + 1);
+        cancelled = cancelled && has_verdict(n % 2 == 1 ? odd : undecided);
+    }
+    check_that("verdict of every size without edges", none);
+    check_that("verdict of every path", path);
+    check_that("verdict of every size, all linked", all);
+    check_that("verdict of every size, weights that cancel", cancelled);
+
+    set_graph(4);
+    call.n = 97;
+    check_that("no verdict of 97 vertices", has_verdict(SASZVIGOM_NO_VERDICT));
+    set_graph(3);
+    call.length[WORK] = 0;
+    check_that("no verdict with a short buffer", has_verdict(SASZVIGOM_NO_VERDICT));
+    set_graph(3);
+    set_cell(2, 1, 1);
+    check_that("no verdict with an adjacency fault", has_verdict(SASZVIGOM_NO_VERDICT));
+    set_graph(4);
+    set_weight(5, 0);
+    check_that("no verdict with a weight of 0", has_verdict(SASZVIGOM_NO_VERDICT));
 }
 
 /* Words that are stored, and those that are refused and write nothing. */
@@ -335,6 +391,7 @@ int main(void)
     faulty();
     weight_faults();
     accessors();
+    verdicts();
     words();
     run_on_small_stack(run_largest_graphs);
     printf("%zu cases\n", cases);

@@ -62,6 +62,49 @@ const char *opening(uint64_t number)
     return "no opening";
 }
 
+/* Returns the letter of a verdict, or '-' if there is none; leaves no enumerator
+   out. */
+char letter(uint64_t number, uint64_t n)
+{
+    const saszvigom_verdict verdict = saszvigom_verdict_of(number, n);
+    switch (verdict) {
+    case SASZVIGOM_VERDICT_FULL:
+    case SASZVIGOM_VERDICT_ODD:
+    case SASZVIGOM_VERDICT_UNDECIDED:
+        return static_cast<char>(verdict);
+    case SASZVIGOM_NO_VERDICT:
+        break;
+    }
+    return '-';
+}
+
+void verdicts()
+{
+    const std::unique_ptr<saszvigom_graph> owner(new saszvigom_graph);
+    saszvigom_graph *const graph = owner.get();
+    for (unsigned n = 0; n <= SASZVIGOM_MAX_VERTICES; n++) {
+        saszvigom_graph_init(graph, n);
+        saszvigom_graph_draw(graph, 1);
+        const uint64_t bare = saszvigom_graph_open(graph);
+        for (unsigned i = 1; i < n; i++)
+            saszvigom_graph_set_edge(graph, i, i - 1);
+        const uint64_t path = saszvigom_graph_open(graph);
+        check("verdict without edges", letter(bare, n) == (n == 0 ? 'F' : n % 2 == 1 ? 'O' : 'U'));
+        check("verdict of a path", letter(path, n) == (n % 2 == 1 ? 'O' : 'F'));
+        check("no verdict of a refusal", letter(bare | SASZVIGOM_WEIGHT_OUT_OF_RANGE, n) == '-');
+        check("no verdict of an automatic pick",
+              letter(saszvigom_graph_automatic(graph), n) == '-');
+    }
+    const uint64_t largest = UINT64_MAX, half = largest / 2 + 1;
+    check("verdicts of large sizes", letter(0x20200, largest) == 'O' &&
+                                         letter(0x20200, half) == 'U' &&
+                                         letter(0x100, largest) == 'F' && letter(largest, 1) == '-');
+    check("a verdict explained",
+          explained(0x20200, 4) == "singular: there is no inverse, first dependent column 2; "
+                                   "verdict U: undecided under these weights, others may have an "
+                                   "inverse");
+}
+
 void with_struct()
 {
     const std::unique_ptr<saszvigom_graph> owner(new saszvigom_graph);
@@ -145,6 +188,7 @@ void with_vectors()
 int main()
 {
     check("version", saszvigom_version() == SASZVIGOM_VERSION_NUMBER);
+    verdicts();
     with_struct();
     with_vectors();
     std::printf("passed\n");

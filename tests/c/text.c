@@ -293,6 +293,65 @@ static void faults(void)
             fail("a cell without a fault");
 }
 
+/* Checks that the verdict of a number is the one given as odd for every odd n, and
+   the one given as even for every even n, up to 96 and far above it, whatever
+   stands in the bits above the kind. */
+static void check_verdict(const char *what, uint64_t number, enum saszvigom_verdict odd,
+                          enum saszvigom_verdict even)
+{
+    const uint64_t large[] = {97,
+                              98,
+                              255,
+                              256,
+                              4294967295u,
+                              4294967296u,
+                              4294967297u,
+                              (uint64_t)1 << 63,
+                              ((uint64_t)1 << 63) + 1,
+                              UINT64_MAX - 1,
+                              UINT64_MAX};
+    const uint64_t noise[] = {0,           0x10000,     0xFF0000,           0x5F0000,
+                              0x100000000, 0x305F5E0000, 0x8000000000000000, 0xFFFFFFFFFFFF0000};
+    bool same = true;
+    for (size_t k = 0; k < COUNT(noise); k++) {
+        for (uint64_t n = 0; n <= SASZVIGOM_MAX_VERTICES; n++)
+            same = same && saszvigom_verdict_of(number | noise[k], n) == (n % 2 == 1 ? odd : even);
+        for (size_t l = 0; l < COUNT(large); l++)
+            same = same && saszvigom_verdict_of(number | noise[k], large[l]) ==
+                               (large[l] % 2 == 1 ? odd : even);
+    }
+    check(what, same);
+}
+
+/* Every kind and every cause by itself, and every cause with the two kinds of an
+   opening. */
+static void verdicts(void)
+{
+    check("the letters", SASZVIGOM_NO_VERDICT == 0 && SASZVIGOM_VERDICT_FULL == 70 &&
+                             SASZVIGOM_VERDICT_ODD == 79 && SASZVIGOM_VERDICT_UNDECIDED == 85);
+    for (uint64_t kind = 0; kind < 256; kind++)
+        switch (kind) {
+        case SASZVIGOM_OPENED:
+            check_verdict("an opened graph", kind << 8, SASZVIGOM_VERDICT_FULL,
+                          SASZVIGOM_VERDICT_FULL);
+            break;
+        case SASZVIGOM_SINGULAR:
+            check_verdict("a singular graph", kind << 8, SASZVIGOM_VERDICT_ODD,
+                          SASZVIGOM_VERDICT_UNDECIDED);
+            break;
+        default:
+            check_verdict("no opening", kind << 8, SASZVIGOM_NO_VERDICT, SASZVIGOM_NO_VERDICT);
+        }
+    for (uint64_t cause = 1; cause < 256; cause++) {
+        check_verdict("a refusal", cause, SASZVIGOM_NO_VERDICT, SASZVIGOM_NO_VERDICT);
+        check_verdict("opened and refused", 0x100 | cause, SASZVIGOM_NO_VERDICT,
+                      SASZVIGOM_NO_VERDICT);
+        check_verdict("singular and refused", 0x200 | cause, SASZVIGOM_NO_VERDICT,
+                      SASZVIGOM_NO_VERDICT);
+    }
+    check("all bits", saszvigom_verdict_of(UINT64_MAX, UINT64_MAX) == SASZVIGOM_NO_VERDICT);
+}
+
 #define CALL SASZVIGOM_FROM_CALL
 #define LIST SASZVIGOM_FROM_LIST
 #define SHEET SASZVIGOM_FROM_SHEET
@@ -303,12 +362,27 @@ static const struct {
     enum saszvigom_from from;
     const char *line;
 } lines[] = {
-    {0x100, 4, CALL, "opened: there is an inverse, and a perfect matching"},
+    {0x100, 0, CALL, "opened: there is an inverse; verdict F: there is a perfect matching"},
+    {0x100, 4, CALL, "opened: there is an inverse; verdict F: there is a perfect matching"},
+    {0x100, 5, CALL, "opened: there is an inverse; verdict F: there is a perfect matching"},
     {0x20200, 3, CALL,
-     "singular: there is no inverse, first dependent column 2; n is odd: no perfect matching"},
+     "singular: there is no inverse, first dependent column 2; verdict O: n is odd, there is no "
+     "perfect matching"},
+    {0x5E0200, 95, CALL,
+     "singular: there is no inverse, first dependent column 94; verdict O: n is odd, there is no "
+     "perfect matching"},
+    {0x00200, 2, CALL,
+     "singular: there is no inverse, first dependent column 0; verdict U: undecided under these "
+     "weights, others may have an inverse"},
     {0x5F0200, 96, CALL,
-     "singular: there is no inverse, first dependent column 95; undecided: other weights may have "
-     "an inverse"},
+     "singular: there is no inverse, first dependent column 95; verdict U: undecided under these "
+     "weights, others may have an inverse"},
+    {0xFF0200, UINT64_MAX - 1, CALL,
+     "singular: there is no inverse, first dependent column 255; verdict U: undecided under these "
+     "weights, others may have an inverse"},
+    {0xFF0200, UINT64_MAX, CALL,
+     "singular: there is no inverse, first dependent column 255; verdict O: n is odd, there is no "
+     "perfect matching"},
     {0x102000300, 4, CALL, "pair: 0 and 2, pairs made 1"},
     {0x305F5E0300, 96, CALL, "pair: 94 and 95, pairs made 48"},
     {0x100000400, 4, CALL, "row: written, pairs made 1"},
@@ -715,6 +789,7 @@ int main(void)
     places();
     indices();
     faults();
+    verdicts();
     explanations();
     weights_at_fault();
     bytes_at_fault();
