@@ -96,7 +96,7 @@ static void nothing_left(const struct session *s, const struct call *call)
 
 static void what_to_do_without_inverse(const struct session *s)
 {
-    if (s->n % 2 == 1)
+    if (s->verdict == SASZVIGOM_VERDICT_ODD)
         printf("  what to do: ask the conservator which sleeve is to stay out, and make a sheet\n"
                "  without it.\n");
     else
@@ -107,7 +107,7 @@ static void what_to_do_without_inverse(const struct session *s)
 
 static void no_inverse(const struct session *s, int advise)
 {
-    if (s->opened) {
+    if (opened(s)) {
         printf("the held table is not that of the loose sleeves.\n"
                "  what to do: leave this desk, and open the sheet again.\n");
         return;
@@ -202,9 +202,21 @@ void explain_list(const struct session *s, uint64_t number, int advise)
     printf("  No call of the file was made.\n");
 }
 
+/* Says what the verdict means, after the letter that a listing has. */
+static void explain_verdict(const struct session *s)
+{
+    if (s->verdict == SASZVIGOM_VERDICT_ODD)
+        printf("  verdict O: there is no full pairing, whatever the draws. %u is an odd number.\n",
+               s->n);
+    else
+        printf("  verdict U: it is undecided under these draws whether there is a full pairing.\n"
+               "  %u is an even number, and the witness does not show that there is none.\n",
+               s->n);
+}
+
 void explain_opening(const struct session *s)
 {
-    if (s->opened) {
+    if (opened(s)) {
         printf("opened with the draws of seed %u: no boxes yet; help lists the commands\n",
                (unsigned)s->seed);
         return;
@@ -212,14 +224,8 @@ void explain_opening(const struct session *s)
     printf("not opened with the draws of seed %u: there is a witness, and no session\n",
            (unsigned)s->seed);
     print_witness(s);
+    explain_verdict(s);
     printf("  The witness shows that there is no inverse with these draws. It does not show\n"
            "  which sleeves are in the way.\n");
-    if (s->n % 2 == 1)
-        printf("  %u is an odd number of sleeves: there is no full pairing, whatever the draws.\n",
-               s->n);
-    else
-        printf("  %u is an even number of sleeves: it is undecided whether there is a full\n"
-               "  pairing. The witness does not show that there is none.\n",
-               s->n);
     what_to_do_without_inverse(s);
 }

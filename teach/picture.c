@@ -124,7 +124,7 @@ static void print_sequence(const struct session *s)
 static void find_partners(const struct session *s, unsigned a, uint8_t row[MOST])
 {
     memset(row, 0, MOST);
-    if (s->opened)
+    if (opened(s))
         session_row(s, a, row);
 }
 
@@ -147,7 +147,7 @@ static void print_grid(const struct session *s, const uint8_t unmatched[MOST])
                 printf("   %c", a == b ? '\\' : row[b] ? 'O' : adjacent(s, a, b) ? '-' : '.');
         printf("\n");
     }
-    if (s->opened)
+    if (opened(s))
         printf("\n  O open partner   - may share, but a pick is refused 10   . may not share\n");
     else
         printf("\n  - may share   . may not share\n");
@@ -167,7 +167,7 @@ static void make_list(const struct session *s, unsigned a, const uint8_t unmatch
         any |= closed[b];
     }
     append_vertices(text, row, s->n);
-    if (any && s->opened)
+    if (any && opened(s))
         strcat(text, " -");
     append_vertices(text, closed, s->n);
 }
@@ -190,7 +190,7 @@ static void print_lists(const struct session *s, const uint8_t unmatched[MOST])
     }
     const unsigned columns = longest <= 18 ? 3 : longest <= 31 ? 2 : 1;
     const unsigned lines = (count + columns - 1) / columns, width = WIDTH / columns;
-    printf(s->opened ? "open partners; after a - those that may share, but are refused 10\n"
+    printf(opened(s) ? "open partners; after a - those that may share, but are refused 10\n"
                      : "links\n");
     for (unsigned line = 0; line < lines; line++) {
         for (unsigned i = line; i < count; i += lines) {
@@ -224,7 +224,7 @@ void print_picture(const struct session *s)
         else
             print_lists(s, unmatched);
     }
-    if (!s->opened) {
+    if (!opened(s)) {
         printf("no session: there is a witness with these draws\n");
         print_witness(s);
     }

@@ -11,7 +11,7 @@ static uint64_t keep(struct session *s, uint64_t number)
 static void open_graph(struct session *s)
 {
     const uint64_t number = keep(s, saszvigom_graph_open(&s->graph));
-    s->opened = saszvigom_kind_of(number) == SASZVIGOM_OPENED;
+    s->verdict = saszvigom_verdict_of(number, s->graph.n);
 }
 
 uint64_t session_read(struct session *s, const uint8_t *sheet, size_t length)
@@ -73,6 +73,11 @@ uint64_t session_replay(struct session *s, const uint64_t *calls, size_t numbers
                         uint64_t *answers, size_t room)
 {
     return keep(s, saszvigom_graph_replay(&s->graph, calls, numbers, answers, room));
+}
+
+int opened(const struct session *s)
+{
+    return s->verdict == SASZVIGOM_VERDICT_FULL;
 }
 
 int adjacent(const struct session *s, unsigned a, unsigned b)

@@ -11,9 +11,9 @@ struct session {
     struct saszvigom_graph graph;
     unsigned n, made; /* those of the graph */
     unsigned edges;
-    uint32_t seed; /* of the weights */
-    int opened;    /* else the graph is singular with these weights */
-    int logged;    /* whether the pairs are in a log that was asked for */
+    uint32_t seed;                  /* of the weights */
+    enum saszvigom_verdict verdict; /* of opening the graph with these weights */
+    int logged;                     /* whether the pairs are in a log that was asked for */
 };
 
 /* A call as it stands in a list of saszvigom_replay; row is not in such a list. */
@@ -39,6 +39,9 @@ uint64_t session_undo(struct session *s);
 uint64_t session_row(const struct session *s, uint64_t a, uint8_t row[MOST]);
 uint64_t session_replay(struct session *s, const uint64_t *calls, size_t numbers,
                         uint64_t *answers, size_t room);
+
+/* Tells whether the graph was opened; else it is singular with these weights. */
+int opened(const struct session *s);
 
 /* Tells whether two vertices, both below n, are adjacent. */
 int adjacent(const struct session *s, unsigned a, unsigned b);
