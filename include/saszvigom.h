@@ -69,9 +69,9 @@ extern "C" {
    minor number changes, as CHANGES.md says, but not when the patch number
    does. */
 #define SASZVIGOM_VERSION_MAJOR 0
-#define SASZVIGOM_VERSION_MINOR 7
+#define SASZVIGOM_VERSION_MINOR 8
 #define SASZVIGOM_VERSION_PATCH 0
-#define SASZVIGOM_VERSION "0.7.0"
+#define SASZVIGOM_VERSION "0.8.0"
 
 /* The version as a number, also for #if: the patch number in bits 0 to 7, the
    minor one in 8 to 15 and the major one in 16 to 23. */
