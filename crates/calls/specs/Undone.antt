@@ -19,7 +19,7 @@ use Rattle.matching.specs.Session.{State, in-play, with-pairs, state}
 use Rattle.matching.specs.Model.{undo, done, denied, no-pair, undo-refused, undoes}
 use Rattle.matching.specs.Calls.{Handles, carries}
 use Rattle.laws.specs.Rules.{rule-step}
-use Rattle.laws.specs.Matchings.{appendable-without}
+use Rattle.laws.specs.MatchingLaws.{appendable-without}
 use Rattle.laws.specs.Sequence.{length-pairs-on, length-sequence, pairs-on-sequence, well-formed-sequence}
 use Rattle.sequence.specs.Formed.{Left, remarked}
 use Rattle.pairing.specs.Appended.{AppendRoom}

@@ -1,6 +1,6 @@
 -- What is proved of the definitions of document 01, in reading order.
 -- Matchings.
-pub mod Matchings
+pub mod MatchingLaws
 -- The plain model: picks, partners, picks to come; its rules; what calls keep.
 pub mod ModelLaws
 pub mod Rules

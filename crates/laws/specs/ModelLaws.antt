@@ -18,7 +18,7 @@ use Rattle.matching.specs.Graph.{Graph, cell, upper, tutte, tutte-upper, tutte-
 use Rattle.matching.specs.Pairs.{Pair, pair-of, Pairs, unmatched, in?}
 use Rattle.matching.specs.Matching.{Adjacent, adjacent?}
 use Rattle.matching.specs.Model.{Call, pick, automatic, undo, Answer, done, denied, named?, needs, skew, Nonsingular, nonsingular?, pick-ruling, Allowed, append, remove-last, step, pairs-after, OpenPartner, PicksToCome, stopped, picked}
-use Rattle.laws.specs.Matchings.{none-counted}
+use Rattle.laws.specs.MatchingLaws.{none-counted}
 
 pub pair-of-smaller : (a b : ℕ) → a < b → pair-of a b ≡ record { smaller = a; larger = b }
 unfolding pair-of

@@ -13,7 +13,7 @@ use Rattle.matching.specs.Graph.{Graph, cell}
 use Rattle.matching.specs.Pairs.{Pair, Pairs, unused, bytes, sequence, pairs-on, unmatched}
 use Rattle.matching.specs.Matching.{Appendable, Matching, empty, another}
 use Rattle.matching.specs.Session.{WellFormed}
-use Rattle.laws.specs.Matchings.{appendable-without, count-left}
+use Rattle.laws.specs.MatchingLaws.{appendable-without, count-left}
 
 pub length-bytes : (pairs : Pairs) → length (bytes pairs) ≡ length pairs + length pairs
 unfolding bytes

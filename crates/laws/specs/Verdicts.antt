@@ -1,5 +1,5 @@
 -- What the letter of a verdict says: O is never printed for vertices that have a perfect matching, F only together with one, whose pairs are
--- printed, and U only if there is a witness and an even number of vertices. Assumes nothing.
+-- printed, and U only if there is no inverse, and an even number of vertices. Assumes nothing.
 use mathlib.Core.Path.{_≡_, refl, sym, ap, _∙_}
 use mathlib.Core.Logic.{_↔_}
 use mathlib.Core.List.{List, [], _∷_, _++_, append-assoc}
@@ -22,9 +22,10 @@ use Rattle.matching.specs.Model.{automatic, skew, Nonsingular, step, pairs-afte
 use Rattle.matching.specs.Filling.{graph}
 use Rattle.matching.specs.Records.{sheet, ReadsAs}
 use Rattle.matching.specs.Listing.{input-limit, decimal, text-verdict, text-refused, text-at, line-feed, first-line, pair-lines, witness-lines, letter-full, letter-odd, letter-undecided, witness-letter, verdict-line, refused-line, GraphLines, pairs-up, shows-witness, players-of, Lists, refuses-sheet, lists-sheet}
-use Rattle.laws.specs.Matchings.{perfect-half, odd-imperfect}
+use Rattle.laws.specs.MatchingLaws.{perfect-half, odd-imperfect}
 use Rattle.laws.specs.ModelLaws.{Automatic, lowest, nobody, automatic-cases, step-nonsingular, picks-to-come, unlike}
 use Rattle.laws.specs.History.{change, change-matching}
+use Rattle.laws.specs.OpeningOutcome.{count-everything}
 use Rattle.laws.specs.Reading.{reads-unique}
 use Rattle.laws.specs.Outcomes.{sheets}
 use Rattle.laws.specs.Decimal.{decimal-last}
@@ -88,70 +89,98 @@ ends-refused r =
     let E = ends-after front last in
     (D .1, D .2, record { front = E .front; is = append-assoc front (decimal k) line-feed ∙ E .is })
 
--- what the verdict on a set S of vertices says
+-- the lines of a graph, for a set S of vertices in play
 module _ {p : ℕ} (P : OddPrime p) (g : Graph) (S : Subset) where
-  -- F with a perfect matching, whose pairs are listed; O with an odd number of vertices; U with an even number, and no inverse
-  pub data Verdict (lines : List ℕ) : Type 0 where
-    full : Ends lines letter-full → (pairs : Pairs) → Perfect g S pairs → lines ≡ pair-lines pairs ++ verdict-line letter-full → Verdict lines
-    odd : Ends lines letter-odd → count (g .n) S % 2 ≡ 1 → Verdict lines
-    undecided : Ends lines letter-undecided → count (g .n) S % 2 ≡ 0 → ¬ Nonsingular P g S [] → Verdict lines
+  -- what the letter says: F, there is an inverse, and the pairs of a perfect matching are listed; O, there is none, and S is odd in number; U,
+  -- there is none, and S is even in number
+  pub data Says (lines : List ℕ) : Type 0 where
+    full : Ends lines letter-full → Nonsingular P g S [] → (pairs : Pairs) → Perfect g S pairs → lines ≡ pair-lines pairs ++ verdict-line letter-full → Says lines
+    odd : Ends lines letter-odd → ¬ Nonsingular P g S [] → count (g .n) S % 2 ≡ 1 → Says lines
+    undecided : Ends lines letter-undecided → ¬ Nonsingular P g S [] → count (g .n) S % 2 ≡ 0 → Says lines
 
-  pub lines-verdict : {lines : List ℕ} → GraphLines P g S lines → Verdict lines
+  pub lines-say : {lines : List ℕ} → GraphLines P g S lines → Says lines
   unfolding unmatched
-  lines-verdict (pairs-up {m = m} I c) =
+  lines-say (pairs-up {m = m} I c) =
       let pairs = pairs-after P g S [] (replicate m automatic) m in
-      full (ends-after (pair-lines pairs) (ends-verdict letter-full)) pairs (picks-perfect P g S m [] empty I c) refl
-  lines-verdict (shows-witness {witness = w} l s) = go (ℕ-discrete (count (g .n) S % 2) 1)
+      full (ends-after (pair-lines pairs) (ends-verdict letter-full)) I pairs (picks-perfect P g S m [] empty I c) refl
+  lines-say (shows-witness {witness = w} l s) = go (ℕ-discrete (count (g .n) S % 2) 1)
     where
-      go : (d : Dec (count (g .n) S % 2 ≡ 1)) → Verdict (witness-lines 0 w ++ verdict-line (choose d letter-odd letter-undecided))
-      go (yes e) = odd (ends-after (witness-lines 0 w) (ends-verdict letter-odd)) e
-      go (no d) =
-          undecided (ends-after (witness-lines 0 w) (ends-verdict letter-undecided)) (omega arith)
-          (λ I. witness-singular P (g .n) (tutte g p) (skew P g) S (s .kernel) I)
+      none : ¬ Nonsingular P g S []
+      none I = witness-singular P (g .n) (tutte g p) (skew P g) S (s .kernel) I
 
-  -- O: exactly if the vertices are odd in number
+      go : (d : Dec (count (g .n) S % 2 ≡ 1)) → Says (witness-lines 0 w ++ verdict-line (choose d letter-odd letter-undecided))
+      go (yes e) = odd (ends-after (witness-lines 0 w) (ends-verdict letter-odd)) none e
+      go (no d) = undecided (ends-after (witness-lines 0 w) (ends-verdict letter-undecided)) none (omega arith)
+
+  -- F exactly if there is an inverse, and O exactly if S is odd in number
+  pub full-exactly : {lines : List ℕ} → GraphLines P g S lines → Ends lines letter-full ↔ Nonsingular P g S []
+  full-exactly {lines} G = go (lines-say G)
+    where
+      go : Says lines → Ends lines letter-full ↔ Nonsingular P g S []
+      go (full Y I _ _ _) = (λ _. I, λ _. Y)
+      go (odd Y none _) = (λ X. absurd (omega (arith, ends-unique X Y)), λ I. absurd (none I))
+      go (undecided Y none _) = (λ X. absurd (omega (arith, ends-unique X Y)), λ I. absurd (none I))
+
   pub odd-exactly : {lines : List ℕ} → GraphLines P g S lines → Ends lines letter-odd ↔ (count (g .n) S % 2 ≡ 1)
-  odd-exactly {lines} G = go (lines-verdict G)
+  odd-exactly {lines} G = go (lines-say G)
     where
-      go : Verdict lines → Ends lines letter-odd ↔ (count (g .n) S % 2 ≡ 1)
-      go (full Y _ F _) = (λ X. absurd (omega (arith, ends-unique X Y)), λ o. absurd (omega (arith, perfect-half g S F)))
-      go (odd Y o) = (λ _. o, λ _. Y)
-      go (undecided Y e _) = (λ X. absurd (omega (arith, ends-unique X Y)), λ o. absurd (omega arith))
+      go : Says lines → Ends lines letter-odd ↔ (count (g .n) S % 2 ≡ 1)
+      go (full Y _ _ F _) = (λ X. absurd (omega (arith, ends-unique X Y)), λ o. absurd (omega (arith, perfect-half g S F)))
+      go (odd Y _ o) = (λ _. o, λ _. Y)
+      go (undecided Y _ e) = (λ X. absurd (omega (arith, ends-unique X Y)), λ o. absurd (omega arith))
 
-  -- so there is no perfect matching
+  -- O: there is no perfect matching
   pub lines-odd : {lines : List ℕ} → GraphLines P g S lines → Ends lines letter-odd → (pairs : Pairs) → ¬ Perfect g S pairs
   lines-odd G X = odd-imperfect g S (odd-exactly G .0 X)
 
   -- F: there is one, and its pairs are listed
   pub lines-full : {lines : List ℕ} → GraphLines P g S lines → Ends lines letter-full
       → (pairs : Pairs) × Perfect g S pairs × (lines ≡ pair-lines pairs ++ verdict-line letter-full)
-  lines-full {lines} G X = go (lines-verdict G)
+  lines-full {lines} G X = go (lines-say G)
     where
-      go : Verdict lines → (pairs : Pairs) × Perfect g S pairs × (lines ≡ pair-lines pairs ++ verdict-line letter-full)
-      go (full _ pairs F e) = (pairs, F, e)
-      go (odd Y _) = absurd (omega (arith, ends-unique X Y))
+      go : Says lines → (pairs : Pairs) × Perfect g S pairs × (lines ≡ pair-lines pairs ++ verdict-line letter-full)
+      go (full _ _ pairs F e) = (pairs, F, e)
+      go (odd Y _ _) = absurd (omega (arith, ends-unique X Y))
       go (undecided Y _ _) = absurd (omega (arith, ends-unique X Y))
 
-  -- the letter is the end of every text that the lines are the end of
+  -- if a text ends in these lines and in a letter, the lines end in that letter
   pub lines-end : (a : List ℕ) {lines : List ℕ} {letter : ℕ} → GraphLines P g S lines → Ends (a ++ lines) letter → Ends lines letter
-  lines-end a {lines} {letter} G X = go (lines-verdict G)
+  lines-end a {lines} {letter} G X = go (lines-say G)
     where
-      go : Verdict lines → Ends lines letter
-      go (full Y _ _ _) = ends-within a Y X
-      go (odd Y _) = ends-within a Y X
+      go : Says lines → Ends lines letter
+      go (full Y _ _ _ _) = ends-within a Y X
+      go (odd Y _ _) = ends-within a Y X
       go (undecided Y _ _) = ends-within a Y X
 
--- a printed text that ends in O is that of no sheet with a perfect matching
+-- the text that is printed for a sheet: the first line, and the lines of its graph
+pub lists-lines : {E : Edition} {input text : List ℕ} {n : ℕ} {weights : List ℕ} {edges : List Pair} → Lists E input text
+    → ReadsAs E (take input-limit input) (sheet n weights edges)
+    → (lines : List ℕ) × GraphLines (E .prime) (graph n weights edges) (players-of n) lines × (text ≡ first-line n (length edges) ++ lines)
+lists-lines (refuses-sheet R) R′ = let q = reads-unique R R′ in let z : _≡_ {A = ℕ} 0 1 = cc in absurd (omega arith)
+lists-lines (lists-sheet {lines = lines} R G) R′ = let q = sheets (reads-unique R′ R) in rw (q .0, q .1, q .2) (lines, G, refl)
+
+-- a text that ends in O is not printed for a sheet that has a perfect matching
 pub printed-odd : {E : Edition} {input text : List ℕ} {n : ℕ} {weights : List ℕ} {edges : List Pair} → Lists E input text → Ends text letter-odd
     → ReadsAs E (take input-limit input) (sheet n weights edges) → (pairs : Pairs) → ¬ Perfect (graph n weights edges) (players-of n) pairs
-printed-odd (refuses-sheet R) X R′ = let q = reads-unique R R′ in let z : _≡_ {A = ℕ} 0 1 = cc in absurd (omega arith)
-printed-odd {E} (lists-sheet {n = n} {weights = weights} {edges = edges} R G) X R′ =
+printed-odd {E} {n = n} {weights = weights} {edges = edges} L X R =
     let g = graph n weights edges in
-    let q = sheets (reads-unique R′ R) in
-    rw (q .0, q .1, q .2)
-    (lines-odd (E .prime) g (players-of n) G (lines-end (E .prime) g (players-of n) (first-line n (length edges)) G X))
+    let T = lists-lines L R in
+    lines-odd (E .prime) g (players-of n) (T .1) (lines-end (E .prime) g (players-of n) (first-line n (length edges)) (T .1) (rw (T .2) at X))
 
--- the sheet of an input has a perfect matching, whose pairs the text lists
+-- and it is printed exactly if the number of vertices of the sheet is odd
+pub printed-odd-exactly : {E : Edition} {input text : List ℕ} {n : ℕ} {weights : List ℕ} {edges : List Pair} → Lists E input text
+    → ReadsAs E (take input-limit input) (sheet n weights edges) → Ends text letter-odd ↔ (n % 2 ≡ 1)
+unfolding graph
+printed-odd-exactly {E} {n = n} {weights = weights} {edges = edges} L R =
+    let g = graph n weights edges in
+    let T = lists-lines L R in
+    let exactly = odd-exactly (E .prime) g (players-of n) (T .1) in
+    let size = count-everything n in (
+      λ X. omega (arith, size, exactly .0 (lines-end (E .prime) g (players-of n) (first-line n (length edges)) (T .1) (rw (T .2) at X))),
+      λ o. rw (T .2) (ends-after (first-line n (length edges)) (exactly .1 (omega (arith, size)))),
+    )
+
+-- the sheet of an input has a perfect matching, and the text lists its pairs
 pub record PrintsPerfect (E : Edition) (input text : List ℕ) : Type 0 where
   pub n : ℕ
   pub weights : List ℕ
@@ -161,7 +190,7 @@ pub record PrintsPerfect (E : Edition) (input text : List ℕ) : Type 0 where
   pub perfect : Perfect (graph n weights edges) (players-of n) pairs
   pub text-is : text ≡ first-line n (length edges) ++ (pair-lines pairs ++ verdict-line letter-full)
 
--- one that ends in F is that of a sheet with a perfect matching, and lists its pairs
+-- a text that ends in F is printed for such a sheet only
 pub printed-full : {E : Edition} {input text : List ℕ} → Lists E input text → Ends text letter-full → PrintsPerfect E input text
 printed-full (refuses-sheet {r = r} R) X = let d = ends-refused r in absurd (omega (arith, d .1, ends-unique X (d .2)))
 printed-full {E} (lists-sheet {n = n} {weights = weights} {edges = edges} R G) X =

@@ -29,7 +29,7 @@ use Rattle.matching.specs.Dimacs as dimacs
 use Rattle.matching.specs.Dimacs.{ReadsText, FillsText, refuses-lines, reads-lines}
 use Rattle.matching.specs.Computed.{read}
 use Rattle.matching.specs.DimacsComputed.{read-text}
-use Rattle.matching.specs.Listing.{input-limit, first-line, pair-lines, witness-lines, letter-full, witness-letter, verdict-line, refused-line, pairs-up, shows-witness, Lists, refuses-sheet, lists-sheet}
+use Rattle.matching.specs.Listing.{input-limit, first-line, pair-lines, witness-lines, letter-full, witness-letter, verdict-line, refused-line, GraphLines, pairs-up, shows-witness, players-of, Lists, refuses-sheet, lists-sheet}
 use Rattle.matching.specs.Host.{opening-number, answer-number, row-number, words, bytes-of, unpacked-state, state-stored, HostHandles, read-number, weights-stored, HostReads, capped, HostReadsText, draws-ruling, draws-number, draws-stored, HostDraws}
 use Rattle.matching.specs.Replay.{calls-of, numbers-of, replay-ruling, Replays, refuses-replay, replays, replay-number, replay-stored, HostReplays}
 
@@ -108,6 +108,9 @@ pub data Claim : Type 0 where
   reads-text : List ℕ → dimacs.Reading → Claim
   -- reading such a text with this seed into an adjacency table and weights gives this answer, and leaves these
   filling-text : (seed : ℕ) (bytes adjacency weights : List ℕ) → Read → (adjacency′ weights′ : List ℕ) → Claim
+  -- the lines of a graph after the first, for a set of vertices: with this number of automatic picks, or with this witness of this column
+  lines-paired : Graph → Subset → ℕ → List ℕ → Claim
+  lines-witness : Graph → Subset → ℕ → List ℕ → List ℕ → Claim
   -- the listing of this input, whose graph opens
   lists : List ℕ → List ℕ → Claim
   -- the listing of this input, whose graph has this witness of this column
@@ -171,6 +174,8 @@ Holds (reads bytes r) = ReadsAs first-edition bytes r
 Holds (filling bytes adjacency weights o adjacency′ weights′) = Fills first-edition bytes adjacency weights o adjacency′ weights′
 Holds (reads-text bytes r) = ReadsText bytes r
 Holds (filling-text seed bytes adjacency weights o adjacency′ weights′) = FillsText first-edition seed bytes adjacency weights o adjacency′ weights′
+Holds (lines-paired g S m lines) = GraphLines modulus-prime g S lines
+Holds (lines-witness g S f words lines) = GraphLines modulus-prime g S lines
 Holds (lists input text) = Lists first-edition input text
 Holds (lists-witness input f words text) = Lists first-edition input text
 Holds (lists-refusal input r text) = Lists first-edition input text
@@ -201,18 +206,18 @@ decided (yes a) _ = a
 decided (no _) t = absurd t
 
 -- what computing shows of each kind of claim, and that it is enough
-unfoldable pub ShownSingular : Graph → ℕ → List ℕ → Type 0
-ShownSingular g f words =
+unfoldable pub ShownSingular : Graph → Subset → ℕ → List ℕ → Type 0
+ShownSingular g S f words =
     IsYes (every? (λ x. getD words x 0 < modulus) (g .n) (λ x. decLt (getD words x 0) modulus))
-    × IsYes (first-dependent? modulus-prime (g .n) (tutte g modulus) (skew modulus-prime g) everything f)
-    × IsYes (witness? modulus (g .n) (tutte g modulus) everything f (vector words))
+    × IsYes (first-dependent? modulus-prime (g .n) (tutte g modulus) (skew modulus-prime g) S f)
+    × IsYes (witness? modulus (g .n) (tutte g modulus) S f (vector words))
 
-pub shown-singular : (g : Graph) (f : ℕ) (words : List ℕ) → ShownSingular g f words → Singular modulus g everything f words
+pub shown-singular : (g : Graph) (S : Subset) (f : ℕ) (words : List ℕ) → ShownSingular g S f words → Singular modulus g S f words
 unfolding ShownSingular
-shown-singular g f words e = record {
+shown-singular g S f words e = record {
   small = decided (every? _ (g .n) (λ x. decLt (getD words x 0) modulus)) (e .0);
-  first = decided (first-dependent? modulus-prime (g .n) (tutte g modulus) (skew modulus-prime g) everything f) (e .1);
-  kernel = decided (witness? modulus (g .n) (tutte g modulus) everything f (vector words)) (e .2);
+  first = decided (first-dependent? modulus-prime (g .n) (tutte g modulus) (skew modulus-prime g) S f) (e .1);
+  kernel = decided (witness? modulus (g .n) (tutte g modulus) S f (vector words)) (e .2);
 }
 
 -- an accepted call: the first words of the state handed back are the inverse
@@ -276,38 +281,40 @@ shown-replay s numbers old returned t new h =
 shown-read : (bytes : List ℕ) {r : Reading} → read first-edition bytes .reading ≡ r → ReadsAs first-edition bytes r
 shown-read bytes e = subst (λ (q : Reading). ReadsAs first-edition bytes q) e (read first-edition bytes .reads)
 
--- automatic picks to the end are half of the vertices
-unfoldable pub ShownListed : Reading → List ℕ → Type 0
-ShownListed (unread r) text = ⊥
-ShownListed (sheet n weights edges) text =
-    IsYes (nonsingular? modulus-prime (graph n weights edges) everything [])
-    × PicksToCome modulus-prime (graph n weights edges) everything [] (n / 2)
-    × (first-line n (length edges)
-    ++ (pair-lines (pairs-after modulus-prime (graph n weights edges) everything [] (replicate (n / 2) automatic) (n / 2)) ++ verdict-line letter-full)
-    ≡ text)
+-- the lines of a graph: automatic picks to the end, m of them; a witness
+unfoldable pub ShownPaired : Graph → Subset → ℕ → List ℕ → Type 0
+ShownPaired g S m lines =
+    IsYes (nonsingular? modulus-prime g S [])
+    × PicksToCome modulus-prime g S [] m
+    × (pair-lines (pairs-after modulus-prime g S [] (replicate m automatic) m) ++ verdict-line letter-full ≡ lines)
 
-listed : (input text : List ℕ) (r : Reading) → read first-edition (take input-limit input) .reading ≡ r → ShownListed r text → Lists first-edition input text
+shown-paired : (g : Graph) (S : Subset) (m : ℕ) (lines : List ℕ) → ShownPaired g S m lines → GraphLines modulus-prime g S lines
+unfolding ShownPaired
+shown-paired g S m lines e =
+    subst (λ (t : List ℕ). GraphLines modulus-prime g S t) (e .2) (pairs-up (decided (nonsingular? modulus-prime g S []) (e .0)) (e .1))
+
+unfoldable pub ShownWitness : Graph → Subset → ℕ → List ℕ → List ℕ → Type 0
+ShownWitness g S f words lines =
+    (length words ≡ g .n) × ShownSingular g S f words × (witness-lines 0 words ++ verdict-line (witness-letter (count (g .n) S)) ≡ lines)
+
+shown-witness : (g : Graph) (S : Subset) (f : ℕ) (words lines : List ℕ) → ShownWitness g S f words lines → GraphLines modulus-prime g S lines
+unfolding ShownWitness
+shown-witness g S f words lines e =
+    subst (λ (t : List ℕ). GraphLines modulus-prime g S t) (e .2) (shows-witness (e .0) (shown-singular g S f words (e .1)))
+
+-- the listing of a sheet: what is shown of the lines of its graph, after the first line
+unfoldable pub ShownListed : Reading → (Graph → Subset → List ℕ → Type 0) → List ℕ → Type 0
+ShownListed (unread r) Q text = ⊥
+ShownListed (sheet n weights edges) Q text =
+    (lines : List ℕ) × Q (graph n weights edges) (players-of n) lines × (first-line n (length edges) ++ lines ≡ text)
+
+listed : (input text : List ℕ) (Q : Graph → Subset → List ℕ → Type 0)
+    → ((g : Graph) (S : Subset) (lines : List ℕ) → Q g S lines → GraphLines modulus-prime g S lines)
+    → (r : Reading) → read first-edition (take input-limit input) .reading ≡ r → ShownListed r Q text → Lists first-edition input text
 unfolding ShownListed
-listed input text (unread r) q e = absurd e
-listed input text (sheet n weights edges) q e =
-    subst (λ (t : List ℕ). Lists first-edition input t) (e .2)
-    (lists-sheet (shown-read (take input-limit input) q)
-    (pairs-up (decided (nonsingular? modulus-prime (graph n weights edges) everything []) (e .0)) (e .1)))
-
-unfoldable pub ShownWitness : Reading → ℕ → List ℕ → List ℕ → Type 0
-ShownWitness (unread r) f words text = ⊥
-ShownWitness (sheet n weights edges) f words text =
-    (length words ≡ n)
-    × ShownSingular (graph n weights edges) f words
-    × (first-line n (length edges) ++ (witness-lines 0 words ++ verdict-line (witness-letter (count n everything))) ≡ text)
-
-listed-witness : (input : List ℕ) (f : ℕ) (words text : List ℕ) (r : Reading) → read first-edition (take input-limit input) .reading ≡ r → ShownWitness r f words text
-    → Lists first-edition input text
-unfolding ShownWitness graph
-listed-witness input f words text (unread r) q e = absurd e
-listed-witness input f words text (sheet n weights edges) q e =
-    subst (λ (t : List ℕ). Lists first-edition input t) (e .2)
-    (lists-sheet (shown-read (take input-limit input) q) (shows-witness (e .0) (shown-singular (graph n weights edges) f words (e .1))))
+listed input text Q shown (unread r) q e = absurd e
+listed input text Q shown (sheet n weights edges) q e =
+    subst (λ (t : List ℕ). Lists first-edition input t) (e .2) (lists-sheet (shown-read (take input-limit input) q) (shown (graph n weights edges) (players-of n) (e .0) (e .1)))
 
 -- a graph that is read is filled so
 unfoldable pub ShownFilled : ℕ → List ℕ → List Pair → (adjacency weights : List ℕ) → Read → (adjacency′ weights′ : List ℕ) → Type 0
@@ -366,7 +373,7 @@ Shown (witness g f words) =
     (ruling modulus g (before (g .n)) ≡ accepted)
     × (length words ≡ g .n)
     × (with-witness (g .n) words (before (g .n)) ≡ full (g .n) (replicate (g .n * g .n) 0) words)
-    × ShownSingular g f words
+    × ShownSingular g everything f words
 Shown (not-opening g b r) = ruling modulus g b ≡ refused r
 Shown (model g calls given) = answered modulus-prime g everything [] calls ≡ given
 Shown (answers g calls given) =
@@ -389,8 +396,11 @@ Shown (reads bytes r) = read first-edition bytes .reading ≡ r
 Shown (filling bytes adjacency weights o adjacency′ weights′) = ShownFilling (read first-edition bytes .reading) adjacency weights o adjacency′ weights′
 Shown (reads-text bytes r) = read-text bytes .reading ≡ r
 Shown (filling-text seed bytes adjacency weights o adjacency′ weights′) = ShownText seed (read-text bytes .reading) adjacency weights o adjacency′ weights′
-Shown (lists input text) = ShownListed (read first-edition (take input-limit input) .reading) text
-Shown (lists-witness input f words text) = ShownWitness (read first-edition (take input-limit input) .reading) f words text
+Shown (lines-paired g S m lines) = ShownPaired g S m lines
+Shown (lines-witness g S f words lines) = ShownWitness g S f words lines
+Shown (lists input text) = ShownListed (read first-edition (take input-limit input) .reading) (λ g S lines. ShownPaired g S (g .n / 2) lines) text
+Shown (lists-witness input f words text) =
+    ShownListed (read first-edition (take input-limit input) .reading) (λ g S lines. ShownWitness g S f words lines) text
 Shown (lists-refusal input r text) = (read first-edition (take input-limit input) .reading ≡ unread r) × (refused-line r ≡ text)
 Shown (host-opening o k) = opening-number o ≡ k
 Shown (host-answer a s k) = answer-number a s ≡ k
@@ -424,7 +434,7 @@ enough (opening g inverse) e =
     (opens inverse (e .0) (e .1) (decided (inverse-table? modulus g everything inverse) (e .3)))
 enough (witness g f words) e =
     subst (λ (b : Buffers). Opens modulus g everything (before (g .n)) (singular f) b) (e .2)
-    (finds-singular f words (e .0) (e .1) (shown-singular g f words (e .3)))
+    (finds-singular f words (e .0) (e .1) (shown-singular g everything f words (e .3)))
 enough (not-opening g b r) e = refuses-opening r e
 enough (model g calls given) e = e
 enough (answers g calls given) e = (decided (nonsingular? modulus-prime g everything []) (e .0), e .1)
@@ -445,8 +455,12 @@ enough (filling bytes adjacency weights o adjacency′ weights′) e = filled by
 enough (reads-text bytes r) e = shown-read-text bytes e
 enough (filling-text seed bytes adjacency weights o adjacency′ weights′) e =
     filled-text seed bytes adjacency weights o adjacency′ weights′ (read-text bytes .reading) refl e
-enough (lists input text) e = listed input text (read first-edition (take input-limit input) .reading) refl e
-enough (lists-witness input f words text) e = listed-witness input f words text (read first-edition (take input-limit input) .reading) refl e
+enough (lines-paired g S m lines) e = shown-paired g S m lines e
+enough (lines-witness g S f words lines) e = shown-witness g S f words lines e
+enough (lists input text) e =
+    listed input text (λ g S lines. ShownPaired g S (g .n / 2) lines) (λ g S lines. shown-paired g S (g .n / 2) lines) (read first-edition (take input-limit input) .reading) refl e
+enough (lists-witness input f words text) e =
+    listed input text (λ g S lines. ShownWitness g S f words lines) (λ g S lines. shown-witness g S f words lines) (read first-edition (take input-limit input) .reading) refl e
 enough (lists-refusal input r text) e =
     subst (λ (t : List ℕ). Lists first-edition input t) (e .1) (refuses-sheet (shown-read (take input-limit input) (e .0)))
 enough (host-opening o k) e = e

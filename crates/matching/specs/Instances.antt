@@ -264,7 +264,7 @@ host-opened = record {
 pub singular-found : Opens modulus (over 1 (0 ∷ []) []) everything (record { inverse = 9 ∷ 8 ∷ []; sequence = 9 ∷ 8 ∷ []; witness = 9 ∷ 8 ∷ []; work = 9 ∷ 8 ∷ [] }) (singular 0)
     (record { inverse = 0 ∷ 8 ∷ []; sequence = 255 ∷ 8 ∷ []; witness = 1 ∷ 8 ∷ []; work = 0 ∷ 8 ∷ [] })
 unfolding opening-ruling ShownSingular first-dependent? witness? first? every? tutte decLt modulus-prime
-singular-found = finds-singular 0 (1 ∷ []) refl refl (shown-singular (over 1 (0 ∷ []) []) 0 (1 ∷ []) (tt, tt, tt))
+singular-found = finds-singular 0 (1 ∷ []) refl refl (shown-singular (over 1 (0 ∷ []) []) everything 0 (1 ∷ []) (tt, tt, tt))
 
 -- and through the host
 pub host-singular : HostOpens first-edition 1 (0 ∷ []) [] (record { inverse = replicate 5 9; sequence = 9 ∷ 8 ∷ []; witness = replicate 5 9; work = replicate 5 9 }) 512
@@ -273,7 +273,7 @@ unfolding words bytes-of opening-ruling ShownSingular first-dependent? witness? 
 host-singular = record {
   opening = singular 0;
   buffers = _;
-  outcome = finds-singular 0 (1 ∷ []) refl refl (shown-singular (over 1 (0 ∷ []) []) 0 (1 ∷ []) (tt, tt, tt));
+  outcome = finds-singular 0 (1 ∷ []) refl refl (shown-singular (over 1 (0 ∷ []) []) everything 0 (1 ∷ []) (tt, tt, tt));
   numbered = refl;
   stored = refl;
 }

@@ -87,7 +87,7 @@ witness-lines i (w ∷ words) =
     choose (ℕ-discrete w 0) [] (text-witness ++ decimal i ++ space ++ decimal w ++ line-feed) ++ witness-lines (i + 1) words
 
 -- the letters of a verdict on a set of vertices: F, they have a perfect matching (document 01: full pairing), and its pairs are listed; O,
--- they are odd in number, so they have none; U, it is undecided under these weights
+-- they are odd in number, so they have none; U, whether they have one is undecided under these weights
 abbrev pub letter-full : ℕ
 letter-full = code "F"
 
@@ -109,14 +109,15 @@ verdict-line letter = text-verdict ++ letter ∷ line-feed
 abbrev pub refused-line : Refusal → List ℕ
 refused-line r = text-refused ++ decimal (r .cause) ++ text-at ++ decimal (place-number (r .place)) ++ line-feed
 
--- the lines of a graph after the first: the pairs of automatic picks to the end, or the witness, and the verdict on a set S of vertices
+-- the lines of a graph after the first, for a set S of vertices in play: the pairs of automatic picks to the end, or the witness, and the
+-- verdict
 pub data GraphLines {p : ℕ} (P : OddPrime p) (g : Graph) (S : Subset) : List ℕ → Type 0 where
   pairs-up : {m : ℕ} → Nonsingular P g S [] → PicksToCome P g S [] m
       → GraphLines P g S (pair-lines (pairs-after P g S [] (replicate m automatic) m) ++ verdict-line letter-full)
   shows-witness : {f : ℕ} {witness : List ℕ} → length witness ≡ g .n → Singular p g S f witness
       → GraphLines P g S (witness-lines 0 witness ++ verdict-line (witness-letter (count (g .n) S)))
 
--- the vertices of a sheet of n that the verdict is about: all of them
+-- the vertices in play of a sheet with n vertices: all of them
 abbrev pub players-of : ℕ → Subset
 players-of n = everything
 

@@ -15,7 +15,7 @@ use Rattle.matching.specs.Calls.{row-ruling, open-row}
 use Rattle.matching.specs.Filling.{cells, graph}
 use Rattle.matching.specs.Computed.{read}
 use Rattle.matching.specs.Listing.{digits, pair-lines, witness-lines}
-use Rattle.matching.specs.Claims.{linked, on, edge, ones, path, complete, ring, Claim, opening, witness, answers, afterwards, by-hand, Holds, All, ShownSingular, ShownListed, ShownWitness, Shown, all}
+use Rattle.matching.specs.Claims.{linked, on, edge, ones, path, complete, ring, Claim, opening, witness, answers, afterwards, by-hand, Holds, All, ShownSingular, Shown, all}
 
 pub marked : List Claim
 marked =
@@ -35,5 +35,5 @@ marked =
     ∷ []
 
 pub marked-hold : All Holds marked
-unfolding marked Shown ShownSingular ShownListed ShownWitness modulus-prime answered pairs-after step nonsingular? inverse-table? witness? first-dependent? first? every? tutte opening-ruling session-ruling row-ruling open-row display cells unmatched pairs-on decLt read digits pair-lines witness-lines graph
+unfolding marked Shown ShownSingular modulus-prime answered pairs-after step nonsingular? inverse-table? witness? first-dependent? first? every? tutte opening-ruling session-ruling row-ruling open-row display cells unmatched pairs-on decLt read digits pair-lines witness-lines graph
 marked-hold = all marked ((refl, refl, refl, tt), ((tt, refl), ((refl, refl, refl, (tt, tt, tt)), ((refl, refl, refl, (tt, tt, tt)), ((refl, refl, refl, tt), ((refl, refl, refl, (tt, tt, tt)), ((refl, refl, refl, (tt, tt, tt)), ((refl, refl, refl, tt), ((tt, refl), ((tt, refl, tt), ((tt, refl), ((refl, refl, refl, (tt, tt, tt)), ((refl, refl), tt)))))))))))))

@@ -8,7 +8,7 @@ use Rattle.matching.specs.Decision.{Every}
 use Rattle.matching.specs.Graph.{Graph, cell}
 use Rattle.matching.specs.Pairs.{Pair, Pairs, unmatched}
 
--- the two are adjacent (document 01: may share)
+-- the vertices of a pair are adjacent (document 01: may share)
 abbrev pub Adjacent : Graph → Pair → Type 0
 Adjacent g e = cell g (e .smaller) (e .larger) ≡ 1
 

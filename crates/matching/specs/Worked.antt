@@ -25,7 +25,7 @@ use Rattle.matching.specs.Computed.{read}
 use Rattle.matching.specs.Host.{words, bytes-of}
 use Rattle.matching.specs.Replay.{short-index, first-calls, replay-ruling}
 use Rattle.matching.specs.Listing.{digits, pair-lines, witness-lines}
-use Rattle.matching.specs.Claims.{linked, on, edge, ones, path, complete, ring, Claim, witness, not-opening, model, answers, by-hand, spoiled, handled, ran, row, no-row, replayed, no-replay, displayed, reads, filling, lists, lists-witness, lists-refusal, host-opening, host-answer, host-row, host-words, host-bytes, host-handled, host-replayed, host-reads, host-draws, before, Holds, All, ShownSingular, ShownHandled, ShownReturned, ShownRun, ShownReplay, ShownListed, ShownWitness, ShownFilling, Shown, all}
+use Rattle.matching.specs.Claims.{linked, on, edge, ones, path, complete, ring, Claim, witness, not-opening, model, answers, by-hand, spoiled, handled, ran, row, no-row, replayed, no-replay, displayed, reads, filling, lists, lists-witness, lists-refusal, host-opening, host-answer, host-row, host-words, host-bytes, host-handled, host-replayed, host-reads, host-draws, before, Holds, All, ShownSingular, ShownHandled, ShownReturned, ShownRun, ShownReplay, ShownPaired, ShownWitness, ShownListed, ShownFilling, Shown, all}
 
 -- two vertices, whose adjacency table and weights are as lent
 abbrev two : List ℕ → List ℕ → Graph
@@ -217,8 +217,8 @@ worked =
     ∷ []
 
 pub worked-hold : All Holds worked
-unfolding worked Shown ShownFilling words bytes-of draws count ShownSingular ShownHandled ShownReturned ShownRun ShownListed ShownWitness modulus-prime answered pairs-after step nonsingular? inverse-table? witness? first-dependent? first? every? tutte opening-ruling session-ruling row-ruling open-row display cells unmatched pairs-on decLt read digits pair-lines witness-lines graph sequence
-worked-hold = all worked (refl, (refl, (refl, (refl, (refl, (refl, (refl, (refl, (refl, (refl, (refl, (refl, (refl, (refl, (refl, (refl, (refl, (refl, (refl, (refl, (refl, (refl, (refl, (refl, (refl, (refl, (refl, (refl, (refl, (refl, (refl, (refl, (refl, (refl, (refl, (refl, (refl, (refl, (refl, (refl, (refl, (refl, ((refl, refl), ((refl, refl), ((refl, refl), ((refl, refl), ((tt, refl), (refl, ((tt, refl), ((refl, refl, refl, tt, refl), ((refl, refl, refl, tt, refl), ((refl, refl, refl, tt, refl), (((refl, refl, refl), ((refl, refl, refl, tt, refl), ((refl, refl, refl), ((refl, refl, refl, tt, refl), ((refl, refl, refl), ((refl, refl, refl, tt, refl), ((refl, refl, refl, tt, refl), tt))))))), (((refl, refl, refl, tt, refl), ((refl, refl, refl, tt, refl), ((refl, refl, refl), tt))), ((refl, refl), ((refl, refl), (refl, (refl, (refl, (refl, (refl, (refl, (refl, (refl, (refl, (refl, (refl, (refl, (refl, (refl, (refl, (refl, (refl, (refl, (refl, (refl, (refl, (refl, (refl, (refl, (refl, (refl, (refl, (refl, (refl, (refl, (refl, (refl, (refl, (refl, ((refl, refl, refl), ((refl, refl, refl), ((refl, refl, refl, refl), ((tt, picked refl (picked refl (stopped refl)), refl), ((refl, (tt, tt, tt), refl), ((refl, (tt, tt, tt), refl), ((refl, refl), ((refl, refl), (refl, (refl, (refl, (refl, (refl, (refl, (refl, (refl, (refl, (refl, (refl, (refl, (refl, (refl, (refl, (refl, (((refl, refl, refl, tt, refl), refl, refl), (((refl, refl, refl, refl), refl, refl), (((refl, refl, refl), refl, refl), ((refl, refl), ((refl, refl), ((refl, refl), tt))))))))))))))))))))))))))))))))))))))))))))))))))))))))))))))))))))))))))))))))))))))))))))))))))))))))))))))))))))))))
+unfolding worked Shown ShownFilling words bytes-of draws count ShownSingular ShownHandled ShownReturned ShownRun ShownPaired ShownWitness ShownListed modulus-prime answered pairs-after step nonsingular? inverse-table? witness? first-dependent? first? every? tutte opening-ruling session-ruling row-ruling open-row display cells unmatched pairs-on decLt read digits pair-lines witness-lines graph sequence
+worked-hold = all worked (refl, (refl, (refl, (refl, (refl, (refl, (refl, (refl, (refl, (refl, (refl, (refl, (refl, (refl, (refl, (refl, (refl, (refl, (refl, (refl, (refl, (refl, (refl, (refl, (refl, (refl, (refl, (refl, (refl, (refl, (refl, (refl, (refl, (refl, (refl, (refl, (refl, (refl, (refl, (refl, (refl, (refl, ((refl, refl), ((refl, refl), ((refl, refl), ((refl, refl), ((tt, refl), (refl, ((tt, refl), ((refl, refl, refl, tt, refl), ((refl, refl, refl, tt, refl), ((refl, refl, refl, tt, refl), (((refl, refl, refl), ((refl, refl, refl, tt, refl), ((refl, refl, refl), ((refl, refl, refl, tt, refl), ((refl, refl, refl), ((refl, refl, refl, tt, refl), ((refl, refl, refl, tt, refl), tt))))))), (((refl, refl, refl, tt, refl), ((refl, refl, refl, tt, refl), ((refl, refl, refl), tt))), ((refl, refl), ((refl, refl), (refl, (refl, (refl, (refl, (refl, (refl, (refl, (refl, (refl, (refl, (refl, (refl, (refl, (refl, (refl, (refl, (refl, (refl, (refl, (refl, (refl, (refl, (refl, (refl, (refl, (refl, (refl, (refl, (refl, (refl, (refl, (refl, (refl, (refl, ((refl, refl, refl), ((refl, refl, refl), ((refl, refl, refl, refl), ((_, (tt, picked refl (picked refl (stopped refl)), refl), refl), ((_, (refl, (tt, tt, tt), refl), refl), ((_, (refl, (tt, tt, tt), refl), refl), ((refl, refl), ((refl, refl), (refl, (refl, (refl, (refl, (refl, (refl, (refl, (refl, (refl, (refl, (refl, (refl, (refl, (refl, (refl, (refl, (((refl, refl, refl, tt, refl), refl, refl), (((refl, refl, refl, refl), refl, refl), (((refl, refl, refl), refl, refl), ((refl, refl), ((refl, refl), ((refl, refl), tt))))))))))))))))))))))))))))))))))))))))))))))))))))))))))))))))))))))))))))))))))))))))))))))))))))))))))))))))))))))))
 
 -- replays
 pub worked-replays : List Claim
