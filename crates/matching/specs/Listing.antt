@@ -1,4 +1,4 @@
--- The listing program's text, byte for byte (document 01, "Listing"). Assumes nothing.
+-- The listing program's text, byte for byte (document 01, "Listing"; the verdict by document 02, request 3). Assumes nothing.
 use mathlib.Core.Path.{_≡_}
 use mathlib.Core.List.{List, [], _∷_, _++_}
 use Prim.Native.Char.{code}
