@@ -1,5 +1,5 @@
 -- Exchange on words, index by index. Assumes nothing.
-use mathlib.Core.Path.{_≡_, refl, sym, ap, _∙_}
+use mathlib.Core.Path.{_≡_, refl, sym, ap, subst, _∙_}
 use mathlib.Core.Logic.{_≢_}
 use mathlib.Core.Bool.{Bool, true, false}
 use mathlib.Core.List.{List}
@@ -19,10 +19,11 @@ use Rattle.skew.specs.Subset.{Subset, _∈_, _∉_, Member, inside, outside, me
 use Rattle.skew.specs.Inverse.{Matrix, Vector, delta, delta-same, delta-other, Skew, Inverse}
 use Rattle.skew.specs.Column.{FirstDependent, Witness}
 use Rattle.skew.specs.Same.{witness-same}
-use Rattle.skew.specs.Exchange.{source, Index, exchanged-zero, exchange-whole}
+use Rattle.skew.specs.Exchange.{source, Index, exchanged-zero, exchange-whole, exchange-inverse}
 use Rattle.skew.specs.Triangle.{mirror-above, mirror-skew, mirror-diagonal}
-use Rattle.skew.specs.Run.{State, Full, Lowest, Alone, state-start, state-skip, state-pair, state-witness, state-first}
+use Rattle.skew.specs.Run.{State, Full, Lowest, Alone, state-start, state-skip, state-pair, state-pass, state-witness, state-first}
 use Rattle.skew.specs.Decide.{full-next}
+use Rattle.skew.specs.Kept.{Keeps, keeps-of}
 use Rattle.exchange.specs.declared.Outcome.{Outcome}
 use Rattle.exchange.specs.declared.Outcome.the-variants as ended
 use Rattle.exchange.specs.declared.Outcome.the-variants.{Column}
@@ -67,18 +68,18 @@ pub data Turned (n c : ℕ) (t waiting t' waiting' : List ℕ) (r : ℕ) : Type 
   paired : vector waiting c ≢ 0 → Found n c t waiting r → r < n → Stepped n c r t t' → waiting' ≡ set (set waiting c 0) r 0 → Turned n c t waiting t' waiting' r
 
 -- the indices of S that do not wait
-abbrev only : Bool → Bool → Bool
+abbrev pub only : Bool → Bool → Bool
 only true true = false
 only true false = true
 only false w = false
 
-abbrev done : Subset → List ℕ → Subset
+abbrev pub done : Subset → List ℕ → Subset
 done S waiting i = only (S i) (marked waiting i)
 
-done-in : (S : Subset) (w : List ℕ) (i : ℕ) → i ∈ S → i ∉ marked w → i ∈ done S w
+pub done-in : (S : Subset) (w : List ℕ) (i : ℕ) → i ∈ S → i ∉ marked w → i ∈ done S w
 done-in S w i s o = rw (s, o) refl
 
-done-out : (S : Subset) (w : List ℕ) (i : ℕ) → i ∈ marked w → i ∉ done S w
+pub done-out : (S : Subset) (w : List ℕ) (i : ℕ) → i ∈ marked w → i ∉ done S w
 done-out S w i m = go (member? S i)
   where
     go : Member S i → i ∉ done S w
@@ -98,13 +99,17 @@ pub record Holds (n : ℕ) (A : Matrix) (S : Subset) (t : List ℕ) : Type 0 whe
   pub on : (i j : ℕ) → Index n S i → Index n S j → Congruent modulus (matrix n t i j) (A i j)
   pub outer : (i j : ℕ) → i < n → j < n → i ∉ S → Congruent modulus (matrix n t i j) 0
 
--- what holds at c of the matrix
-pub record Running (n : ℕ) (A : Matrix) (S : Subset) (c : ℕ) (t waiting : List ℕ) : Type 0 where
+-- what holds at c of the matrix: an index of S before c is exchanged or has no partner
+pub record Passing (n : ℕ) (A : Matrix) (S : Subset) (c : ℕ) (t waiting : List ℕ) : Type 0 where
   pub skew : Skew modulus n A
   pub state : State modulus n A S (done S waiting) (matrix n t) c
-  pub full : Full S (done S waiting) c
   pub within : (i : ℕ) → i ∈ marked waiting → i ∈ S
   pub outer : (i j : ℕ) → i < n → j < n → i ∉ S → Congruent modulus (matrix n t i j) 0
+
+-- every index of S before c is exchanged
+pub record Running (n : ℕ) (A : Matrix) (S : Subset) (c : ℕ) (t waiting : List ℕ) : Type 0 where
+  pub passing : Passing n A S c t waiting
+  pub full : Full S (done S waiting) c
 
 -- what holds at c of the words
 pub record Bounded (n c : ℕ) (t waiting : List ℕ) : Type 0 where
@@ -161,10 +166,25 @@ witness-small n t waiting f k = go (ℕ-discrete (vector waiting k) 0) (ℕ-disc
     go (no d) (yes e) = rw (witness-unit n t waiting f k d, e, delta-same k) (omega arith)
     go (no d) (no e) = rw (witness-unit n t waiting f k d, delta-other f k e) (omega arith)
 
--- the table holds the inverse on S, or f is the first dependent column and has this witness
+-- the table holds the inverse on S, and all of S is exchanged; or f is the first dependent column and has this witness, and exchange can go
+-- on at f + 1
 abbrev pub Ended : ℕ → Matrix → Subset → List ℕ → List ℕ → Outcome → Type 0
-Ended n A S t waiting ended.Inverse = Inverse modulus n A S (matrix n t)
-Ended n A S t waiting (Column f) = FirstDependent modulus n A S f × Witness modulus n A S f (witness-word n t waiting f)
+Ended n A S t waiting ended.Inverse = Inverse modulus n A S (matrix n t) × Passing n A S n t waiting × Full S (done S waiting) n
+Ended n A S t waiting (Column f) =
+    FirstDependent modulus n A S f
+    × Witness modulus n A S f (witness-word n t waiting f)
+    × Passing n A S (f + 1) t waiting
+    × Bounded n (f + 1) t waiting
+
+-- what exchange from index first on leaves: it ends at f, the first index from there on that has no partner, or n
+pub record Advanced (n first : ℕ) (t waiting t' waiting' : List ℕ) (f : ℕ) : Type 0 where
+  pub after : first ≤ f
+  pub to : f ≤ n
+  pub bounded : f < n → Bounded n (f + 1) t' waiting'
+  pub passed : f < n → (A : Matrix) (S : Subset) → Passing n A S first t waiting → Passing n A S (f + 1) t' waiting'
+  pub passed-all : f ≡ n → (A : Matrix) (S : Subset) → Passing n A S first t waiting → Passing n A S n t' waiting'
+  pub column : f < n → (A : Matrix) (S : Subset) → Running n A S first t waiting → Ended n A S t' waiting' (Column f)
+  pub inverse : f ≡ n → (A : Matrix) (S : Subset) → Running n A S first t waiting → Ended n A S t' waiting' ended.Inverse
 
 pub bounded-ready : {n c : ℕ} {t waiting : List ℕ} → Bounded n c t waiting → c < n → TurnReady n c t waiting
 bounded-ready B h = record {
@@ -194,11 +214,13 @@ bounded-next {n} {c} {t} {waiting} {t'} B h T lt lw = record {
 
 pub running-start : {n : ℕ} {A : Matrix} {t : List ℕ} (waiting : List ℕ) → Holds n A (marked waiting) t → Running n A (marked waiting) 0 t waiting
 running-start {n} {A} {t} waiting H = record {
-  skew = H .skew;
-  state = state-start modulus n A (marked waiting) (done (marked waiting) waiting) (mirror-skew (modulus-prime .odd) (table n t) n) none (H .on);
+  passing = record {
+    skew = H .skew;
+    state = state-start modulus n A (marked waiting) (done (marked waiting) waiting) (mirror-skew (modulus-prime .odd) (table n t) n) none (H .on);
+    within = λ i m. m;
+    outer = H .outer;
+  };
   full = λ i l. absurd (omega arith);
-  within = λ i m. m;
-  outer = H .outer;
 }
   where
     none : (i : ℕ) → i ∉ done (marked waiting) waiting
@@ -208,7 +230,7 @@ running-start {n} {A} {t} waiting H = record {
         go (inside m) = done-out (marked waiting) waiting i m
         go (outside o) = done-outer (marked waiting) waiting i o
 
-module _ {n : ℕ} {A : Matrix} {S : Subset} {c : ℕ} {t waiting : List ℕ} (R : Running n A S c t waiting) (hc : c < n) where
+module _ {n : ℕ} {A : Matrix} {S : Subset} {c : ℕ} {t waiting : List ℕ} (R : Passing n A S c t waiting) (hc : c < n) where
   index : (i : ℕ) → i < n → vector waiting i ≢ 0 → Index n S i
   index i h d = record { below = h; inside = R .within i (marked-in waiting i d) }
 
@@ -220,69 +242,79 @@ module _ {n : ℕ} {A : Matrix} {S : Subset} {c : ℕ} {t waiting : List ℕ} (R
       rw (mirror-above (modulus-prime .odd) (table n t) c k l)
       (by-remainders _ 0 (between k l l' (waits S waiting k (lk .inside) o) ∙ sym (zero-mod modulus)))
 
-  pub running-next : {t' waiting' : List ℕ} {r : ℕ} → length waiting ≡ n → Turned n c t waiting t' waiting' r → r ≢ n → Running n A S (c + 1) t' waiting'
-  running-next _ (skipped e _ et ew) _ =
+  -- if c and r are exchanged
+  module _ {waiting' : List ℕ} {r : ℕ} (size : length waiting ≡ n) (z : vector waiting c ≢ 0) (F : Found n c t waiting r) (h : r < n)
+      (ew : waiting' ≡ set (set waiting c 0) r 0) where
+    at-r : vector waiting' r ≡ 0
+    at-r = rw ew (getD-set-same (set waiting c 0) r 0 0 (simp length-set (omega arith)))
+
+    off-r : (i : ℕ) → i ≢ r → vector waiting' i ≡ vector (set waiting c 0) i
+    off-r i d = rw ew (getD-set-other (set waiting c 0) r i 0 0 d)
+
+    at-c : vector waiting' c ≡ 0
+    at-c = off-r c (λ e. omega (arith, F .after)) ∙ getD-set-same waiting c 0 0 (omega arith)
+
+    off : (i : ℕ) → i ≢ c → i ≢ r → vector waiting i ≡ vector waiting' i
+    off i d e = sym (off-r i e ∙ getD-set-other waiting c i 0 0 d)
+
+    within : (i : ℕ) → i ∈ marked waiting' → Dec (i ≡ c) → Dec (i ≡ r) → i ∈ S
+    within i m (yes e) _ = clash m (marked-out waiting' i (ap (vector waiting') e ∙ at-c))
+    within i m (no _) (yes e) = clash m (marked-out waiting' i (ap (vector waiting') e ∙ at-r))
+    within i m (no d) (no e) = R .within i (marked-same waiting waiting' i (off i d e) ∙ m)
+
+    sets : Without (done S waiting') c r (done S waiting)
+    sets = record {
+      differ = λ e. omega (arith, F .after);
+      a-in = done-in S waiting' c (index c hc z .inside) (marked-out waiting' c at-c);
+      b-in = done-in S waiting' r (index r h (F .found h .0) .inside) (marked-out waiting' r at-r);
+      a-out = not-done c z;
+      b-out = not-done r (F .found h .0);
+      others = λ i d e. ap (only (S i)) (marked-same waiting waiting' i (off i d e));
+    }
+
+    lowest : Lowest modulus n S (done S waiting) (matrix n t) c r
+    lowest = record {
+      index = index r h (F .found h .0);
+      not-in = not-done r (F .found h .0);
+      after = F .after;
+      nonzero = λ w. F .found h .1 (remainders-equal (rw (mirror-above (modulus-prime .odd) (table n t) c r (F .after)) at w) ∙ zero-mod modulus);
+      between = alone (F .between);
+    }
+
+  -- a turn at c, also at a c that has no partner
+  pub passing-next : {t' waiting' : List ℕ} {r : ℕ} → length waiting ≡ n → Turned n c t waiting t' waiting' r → Passing n A S (c + 1) t' waiting'
+  passing-next _ (skipped e _ et ew) =
       rw (et, ew)
       (record {
         skew = R .skew;
         state = rw add-one (state-skip modulus n A S (modulus-prime .odd) (R .state) (λ l. done-in S waiting c (l .inside) (marked-out waiting c e)));
-        full = rw add-one (full-next (R .full) (λ _ _ m. m) (λ s. done-in S waiting c s (marked-out waiting c e)));
         within = R .within;
         outer = R .outer;
       })
-  running-next _ (stuck _ e _ _ _) d = absurd (d e)
-  running-next {t'} {waiting'} {r} size (paired z F h X ew) _ = record {
+  passing-next _ (stuck z e F et ew) =
+      rw (et, ew)
+      (record {
+        skew = R .skew;
+        state = rw add-one (state-pass modulus n A S (modulus-prime .odd) (R .state) (λ _ k l' lk o l. alone (F .between) k (omega arith) lk o l));
+        within = R .within;
+        outer = R .outer;
+      })
+  passing-next {t'} {waiting'} {r} size (paired z F h X ew) = record {
     skew = R .skew;
-    state = rw add-one (state-pair modulus n A S (modulus-prime .odd) (R .state) (index c hc z) lowest sets (X .exchanged));
-    full =
+    state =
         rw add-one
-        (full-next (R .full) (λ i l m. sym (sets .others i (λ e. omega arith) (λ e. omega (arith, F .after))) ∙ m) (λ _. sets .a-in));
-    within = λ i m. within i m (ℕ-discrete i c) (ℕ-discrete i r);
+        (state-pair modulus n A S (modulus-prime .odd) (R .state) (index c hc z) (lowest size z F h ew) (sets size z F h ew) (X .exchanged));
+    within = λ i m. within size z F h ew i m (ℕ-discrete i c) (ℕ-discrete i r);
     outer = λ i j hi hj o.
         exchanged-zero (X .exchanged) hc h i hi (λ e. clash (index c hc z .inside) (ap S (sym e) ∙ o))
         (λ e. clash (index r h (F .found h .0) .inside) (ap S (sym e) ∙ o)) (λ k hk. R .outer i k hi hk o) j hj;
   }
-    where
-      at-r : vector waiting' r ≡ 0
-      at-r = rw ew (getD-set-same (set waiting c 0) r 0 0 (simp length-set (omega arith)))
 
-      off-r : (i : ℕ) → i ≢ r → vector waiting' i ≡ vector (set waiting c 0) i
-      off-r i d = rw ew (getD-set-other (set waiting c 0) r i 0 0 d)
-
-      at-c : vector waiting' c ≡ 0
-      at-c = off-r c (λ e. omega (arith, F .after)) ∙ getD-set-same waiting c 0 0 (omega arith)
-
-      off : (i : ℕ) → i ≢ c → i ≢ r → vector waiting i ≡ vector waiting' i
-      off i d e = sym (off-r i e ∙ getD-set-other waiting c i 0 0 d)
-
-      within : (i : ℕ) → i ∈ marked waiting' → Dec (i ≡ c) → Dec (i ≡ r) → i ∈ S
-      within i m (yes e) _ = clash m (marked-out waiting' i (ap (vector waiting') e ∙ at-c))
-      within i m (no _) (yes e) = clash m (marked-out waiting' i (ap (vector waiting') e ∙ at-r))
-      within i m (no d) (no e) = R .within i (marked-same waiting waiting' i (off i d e) ∙ m)
-
-      sets : Without (done S waiting') c r (done S waiting)
-      sets = record {
-        differ = λ e. omega (arith, F .after);
-        a-in = done-in S waiting' c (index c hc z .inside) (marked-out waiting' c at-c);
-        b-in = done-in S waiting' r (index r h (F .found h .0) .inside) (marked-out waiting' r at-r);
-        a-out = not-done c z;
-        b-out = not-done r (F .found h .0);
-        others = λ i d e. ap (only (S i)) (marked-same waiting waiting' i (off i d e));
-      }
-
-      lowest : Lowest modulus n S (done S waiting) (matrix n t) c r
-      lowest = record {
-        index = index r h (F .found h .0);
-        not-in = not-done r (F .found h .0);
-        after = F .after;
-        nonzero = λ w. F .found h .1 (remainders-equal (rw (mirror-above (modulus-prime .odd) (table n t) c r (F .after)) at w) ∙ zero-mod modulus);
-        between = alone (F .between);
-      }
-
-  pub running-stuck : {t' waiting' : List ℕ} {r : ℕ} → Turned n c t waiting t' waiting' r → r ≡ n → Ended n A S t' waiting' (Column c)
-  running-stuck (skipped _ e _ _) q = absurd (omega arith)
-  running-stuck (paired _ _ h _ _) q = absurd (omega arith)
-  running-stuck (stuck z e F et ew) _ = rw (et, ew) (state-first modulus n A S modulus-prime (R .skew) (R .state) (R .full) W, W)
+  -- if c has no partner, it has this witness
+  stuck-witness : vector waiting c ≢ 0 → Between n c t waiting n → Witness modulus n A S c (witness-word n t waiting c)
+  stuck-witness z between =
+      witness-same (λ _ _ _ _. refl) (λ _ _. refl) (λ k hk. same k hk (ℕ-discrete (vector waiting k) 0) (member? S k))
+      (state-witness modulus n A S (modulus-prime .odd) (R .state) lc (not-done c z) (alone between))
     where
       lc : Index n S c
       lc = index c hc z
@@ -298,12 +330,44 @@ module _ {n : ℕ} {A : Matrix} {S : Subset} {c : ℕ} {t waiting : List ℕ} (R
           ⨾ word-matrix n t c k
           ⨾ linear (mirror-skew (modulus-prime .odd) (table n t) n .turn c k hc hk ⊖ R .outer k c hk hc o) (omega arith))
 
-      W : Witness modulus n A S c (witness-word n t waiting c)
-      W =
-          witness-same (λ _ _ _ _. refl) (λ _ _. refl) (λ k hk. same k hk (ℕ-discrete (vector waiting k) 0) (member? S k))
-          (state-witness modulus n A S (modulus-prime .odd) (R .state) lc (not-done c z) (λ k l' lk o l. alone (F .between) k (omega arith) lk o l))
+module _ {n : ℕ} {A : Matrix} {S : Subset} {c : ℕ} {t waiting : List ℕ} (R : Running n A S c t waiting) (hc : c < n) (size : length waiting ≡ n)
+    {t' waiting' : List ℕ} {r : ℕ} (T : Turned n c t waiting t' waiting' r) where
+  pub running-next : r ≢ n → Running n A S (c + 1) t' waiting'
+  running-next d = record { passing = passing-next (R .passing) hc size T; full = full T }
+    where
+      full : Turned n c t waiting t' waiting' r → Full S (done S waiting') (c + 1)
+      full (skipped e _ et ew) = rw (ew, add-one) (full-next (R .full) (λ _ _ m. m) (λ s. done-in S waiting c s (marked-out waiting c e)))
+      full (stuck _ e _ _ _) = absurd (d e)
+      full (paired z F h X ew) =
+          let s = sets (R .passing) hc size z F h ew in
+          rw add-one (full-next (R .full) (λ i l m. sym (s .others i (λ e. omega arith) (λ e. omega (arith, F .after))) ∙ m) (λ _. s .a-in))
 
-pub running-end : {n : ℕ} {A : Matrix} {S : Subset} {c : ℕ} {t waiting : List ℕ} → Running n A S c t waiting → n ≤ c → Inverse modulus n A S (matrix n t)
-running-end {n} {A} {S} {c} {t} R l =
-    exchange-whole modulus n A S (R .state .exchange) (λ i li. R .full i (omega (arith, li .below)) (li .inside)) (λ i j _ _. equals refl) (R .outer)
-    (λ i j hi hj o. linear (mirror-skew (modulus-prime .odd) (table n t) n .turn i j hi hj ⊖ R .outer j i hj hi o) (omega arith))
+  pub running-stuck : r ≡ n → Bounded n (c + 1) t' waiting' → Ended n A S t' waiting' (Column c)
+  running-stuck q B = ended T
+    where
+      ended : Turned n c t waiting t' waiting' r → Ended n A S t' waiting' (Column c)
+      ended (skipped _ e _ _) = absurd (omega arith)
+      ended (paired _ _ h _ _) = absurd (omega arith)
+      ended (stuck z e F et ew) =
+          let W = stuck-witness (R .passing) hc z (λ k l h. F .between k l (omega arith)) in
+          (state-first modulus n A S modulus-prime (R .passing .skew) (R .passing .state) (R .full) W, rw (et, ew) W, passing-next (R .passing) hc size T, B)
+
+pub running-end : {n : ℕ} {A : Matrix} {S : Subset} {c : ℕ} {t waiting : List ℕ} → Running n A S c t waiting → c ≡ n → Ended n A S t waiting ended.Inverse
+running-end {n} {A} {S} {c} {t} {waiting} R e = (
+  exchange-whole modulus n A S (R .passing .state .exchange) (λ i li. R .full i (omega (arith, li .below)) (li .inside)) (λ i j _ _. equals refl)
+      (R .passing .outer)
+      (λ i j hi hj o. linear (mirror-skew (modulus-prime .odd) (table n t) n .turn i j hi hj ⊖ R .passing .outer j i hj hi o) (omega arith)),
+  subst (λ (x : ℕ). Passing n A S x t waiting) e (R .passing),
+  subst (λ (x : ℕ). Full S (done S waiting) x) e (R .full),
+)
+
+-- at the end the indices of S that do not wait are exactly the kept ones
+pub passing-kept : {n : ℕ} {A : Matrix} {S : Subset} {t waiting : List ℕ} → Passing n A S n t waiting → Keeps modulus n A S (done S waiting)
+passing-kept {n} {A} {S} R = keeps-of modulus-prime n A (R .skew) S (R .state .exchange) (R .state .staircase) (R .state .passed)
+
+-- and a table that is the matrix on them, and 0 elsewhere, is the inverse on them
+pub passing-inverse : {n : ℕ} {A : Matrix} {S : Subset} {t waiting : List ℕ} {T : Matrix} → Passing n A S n t waiting
+    → ((i j : ℕ) → Index n (done S waiting) i → Index n (done S waiting) j → Congruent modulus (T i j) (matrix n t i j))
+    → ((i j : ℕ) → i < n → j < n → i ∉ done S waiting → Congruent modulus (T i j) 0)
+    → ((i j : ℕ) → i < n → j < n → j ∉ done S waiting → Congruent modulus (T i j) 0) → Inverse modulus n A (done S waiting) T
+passing-inverse {n} {A} {S} R on rows columns = exchange-inverse modulus n A S (R .state .exchange) on rows columns

@@ -3,10 +3,10 @@
 ghost use mathlib.Core.Path.{_≡_};
 ghost use lib.ListN.{length};
 ghost use Rattle.lists.specs.Table.{Square};
-ghost use Rattle.skew.specs.Subset.{marked};
+ghost use Rattle.skew.specs.Subset.{Subset, marked};
 ghost use Rattle.skew.specs.Inverse.{Matrix};
 ghost use Rattle.pivot.specs.Words.{Small};
-ghost use Rattle.exchange.specs.Run.{Weight, TurnReady, Found, Turned, Holds, Ended};
+ghost use Rattle.exchange.specs.Run.{Weight, TurnReady, Found, Turned, Holds, Bounded, Passing, Ended, Advanced};
 use residue::Residue;
 
 // How the exchanges end: with the inverse, or at the first dependent column.
@@ -67,6 +67,26 @@ fn turn(
     r
 }
 
+// Exchanges the indices that wait, from index first on, up to one that has no partner, and returns that one. Returns n if every one has a
+// partner. The only caller of turn, so that the compiler can inline it.
+fn advance(t: &mut [u64], n: usize, first: usize, waiting: &mut [u8]) -> usize
+    requires { ⌜ Bounded n first (now t) (now waiting) ⌝ }
+    ensures { λ f. ⌜ Advanced n first (now (t .entry)) (now (waiting .entry)) (now (t .exit)) (now (waiting .exit)) f ⌝ }
+{
+    let mut x = [0u64; 96];
+    let mut y = [0u64; 96];
+    let mut c = first;
+    // No index from first up to c waits.
+    while c < n {
+        let r = turn(t, n, c, waiting, &mut x[..n], &mut y[..n]);
+        if r == n {
+            return c;
+        }
+        c += 1;
+    }
+    c
+}
+
 // Exchanges the indices that wait, to the end or to the first dependent column. The contract is about any skew matrix that the table holds
 // on the set of these indices; outside the set the table holds 0.
 pub fn run(t: &mut [u64], n: usize, waiting: &mut [u8]) -> Outcome
@@ -75,16 +95,28 @@ pub fn run(t: &mut [u64], n: usize, waiting: &mut [u8]) -> Outcome
         ⌜ ((A : Matrix) → Holds n A (marked (now (waiting .entry))) (now (t .entry))
         → Ended n A (marked (now (waiting .entry))) (now (t .exit)) (now (waiting .exit)) o) ⌝ }
 {
-    let mut x = [0u64; 96];
-    let mut y = [0u64; 96];
-    let mut c = 0;
-    // No index below c waits.
-    while c < n {
-        let r = turn(t, n, c, waiting, &mut x[..n], &mut y[..n]);
-        if r == n {
-            return Outcome::Column(c);
-        }
-        c += 1;
+    let f = advance(t, n, 0, waiting);
+    if f == n {
+        return Outcome::Inverse;
     }
-    Outcome::Inverse
+    Outcome::Column(f)
+}
+
+// Goes on after a dependent column: exchanges the indices that wait, from index first on, and passes those that have no partner. Then exactly
+// the kept indices do not wait, and the table holds the inverse on them.
+pub fn rest(t: &mut [u64], n: usize, first: usize, waiting: &mut [u8])
+    requires { ⌜ Bounded n first (now t) (now waiting) ⌝ }
+    ensures { λ _.
+        ⌜ ((A : Matrix) (S : Subset) → Passing n A S first (now (t .entry)) (now (waiting .entry))
+        → Passing n A S n (now (t .exit)) (now (waiting .exit))) ⌝ }
+{
+    let mut i = first;
+    // An index below i that waits has no partner.
+    while i < n {
+        let f = advance(t, n, i, waiting);
+        if f == n {
+            return;
+        }
+        i = f + 1;
+    }
 }

@@ -84,7 +84,7 @@ returns c =
     let at = c .before .before .before .before .before .before .before in
     let s = start (filling at) in
     tells-false
-    (λ I. c .before .all-clear .ensures .when-false (not-true _ (c .if1 .taken)) (is-clear (graph (filling at)) (s .pre .1 .0) (wait at) (s .args .inverse .now) (at .run .last .0) (ends at (c .before .before .enum-told .given .1)) I))
+    (λ I. c .before .all-clear .ensures .when-false (not-true _ (c .if1 .taken)) (is-clear (graph (filling at)) (s .pre .1 .0) (wait at) (s .args .inverse .now) (at .run .last .0) (ends at (c .before .before .enum-told .given .1) .0) I))
 
 all-equal-requires : tie.Need-all-equal-requires
 all-equal-requires c κs =
@@ -110,7 +110,7 @@ returns-2 c =
     let at = c .before .before .before .before .before .before .before .before .before in
     let s = start (filling at) in
     let g = graph (filling at) in
-    let J = ends at (c .before .before .before .before .enum-told .given .1) in
+    let J = ends at (c .before .before .before .before .enum-told .given .1) .0 in
     let clear = c .before .before .before .all-clear .ensures .when-true (not-false _ (c .before .before .if1 .left)) in
     record {
       when-true = λ q. has-inverse g (s .pre .1 .0) (wait at) (s .args .inverse .now) (at .run .last .0) J clear (c .all-equal .ensures .when-true q);

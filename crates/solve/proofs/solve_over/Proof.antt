@@ -77,7 +77,7 @@ returns c =
     let at = c .before .before .before .before .before .before .before .before .before .before .before in
     let w = filling at in
     let E = ends at (c .before .before .before .before .before .enum-told .given .1) in
-    λ S agree. (inverse-solved (graph w) agree _ (c .before .before .write-inverse .ensures) E, refl)
+    λ S agree. (inverse-solved (graph w) agree _ (c .before .before .write-inverse .ensures) (E .0), refl)
 
 same-length-4 : tie.Need-same-length-4
 same-length-4 c = search needs
