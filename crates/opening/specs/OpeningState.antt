@@ -1,9 +1,9 @@
 -- What opening leaves, in the terms of the definitions. Assumes nothing.
-use mathlib.Core.Path.{_≡_, _∙_}
+use mathlib.Core.Path.{_≡_, sym, _∙_}
 use mathlib.Core.List.{List, _++_}
 use Prim.Native.Nat.{ℕ, _*_, _≤_}
 use lib.ListN.{length, take, drop, replicate, length-replicate, take-append-drop}
-use Rattle.lists.specs.Onto.{onto}
+use Rattle.lists.specs.Onto.{onto, onto-again}
 use Rattle.residue.specs.Modulus.{modulus}
 use Rattle.matching.specs.Decision.{accepted}
 use Rattle.matching.specs.Graph.{Graph, over}
@@ -15,7 +15,7 @@ use Rattle.laws.specs.Sound.{opening-accepted}
 use Rattle.tutte.specs.Table.{Complete}
 use Rattle.exchange.specs.declared.Outcome.{Outcome}
 use Rattle.exchange.specs.declared.Outcome.the-variants.{Inverse, Column}
-use Rattle.solve.specs.Solved.{Solved}
+use Rattle.solve.specs.Solved.{Solved, solved-whole}
 use Rattle.opening.specs.Meaning.{found, buffers}
 
 -- what opening works on; it is ready if the graph is accepted
@@ -39,30 +39,31 @@ ready n adjacency weights inverse sequence witness work e =
       k .0 .work-fits,
     )
 
--- what opening leaves of an accepted graph, except for the work buffer: the inverse or the witness is written, and the other is as it was
+-- what opening leaves of an accepted graph, except for the work buffer: the inverse is written, and the witness is as it was; or the witness
+-- is written, and the inverse for the kept vertices
 pub data Begun (g : Graph) (inverse sequence witness : List ℕ) : Outcome → (inverse′ sequence′ witness′ : List ℕ) → Type 0 where
   leaves-inverse : (new : List ℕ) → length new ≡ g .n * g .n → InverseTable modulus g everything new
       → Begun g inverse sequence witness Inverse (onto new inverse) (onto (replicate (g .n) unused) sequence) witness
-  leaves-witness : (f : ℕ) (new : List ℕ) → length new ≡ g .n → Singular modulus g everything f new
-      → Begun g inverse sequence witness (Column f) inverse (onto (replicate (g .n) unused) sequence) (onto new witness)
+  leaves-witness : (f : ℕ) (kept new : List ℕ) → length kept ≡ g .n * g .n → length new ≡ g .n → Singular modulus g everything f new
+      → Begun g inverse sequence witness (Column f) (onto kept inverse) (onto (replicate (g .n) unused) sequence) (onto new witness)
 
 -- a buffer whose first k words are filled
 filled : (k v : ℕ) (l : List ℕ) → replicate k v ++ drop k l ≡ onto (replicate k v) l
 filled k v l = rw (length-replicate {A = ℕ} k v)
 
 -- begun from what is solved in the first parts of the buffers
-pub begun : {n : ℕ} {adjacency weights inverse sequence witness sequence′ : List ℕ} (inverse′ witness′ : List ℕ) → length inverse′ ≡ n * n
+pub begun : {n : ℕ} {adjacency weights inverse sequence witness sequence′ : List ℕ} (set′ inverse′ witness′ : List ℕ) → length inverse′ ≡ n * n
     → sequence′ ≡ replicate n unused ++ drop n sequence → length witness′ ≡ n → (o : Outcome)
-    → Solved (over n adjacency weights) everything o (take (n * n) inverse) (take n witness) inverse′ witness′
+    → Solved (over n adjacency weights) everything o set′ (take n witness) inverse′ witness′
     → Begun (over n adjacency weights) inverse sequence witness o (inverse′ ++ drop (n * n) inverse) sequence′ (witness′ ++ drop n witness)
-begun {n} {adjacency} {weights} {inverse} {sequence} {witness} inverse′ witness′ li es lw Inverse (I, ew) =
-    let B : Begun (over n adjacency weights) inverse sequence witness Inverse _ _ _ = leaves-inverse inverse′ li I in
-    rw (es ∙ filled n unused sequence, ew, take-append-drop n witness) (rw li at B)
-begun {n} {adjacency} {weights} {inverse} {sequence} {witness} inverse′ witness′ li es lw (Column f) (S, ei) =
-    let B : Begun (over n adjacency weights) inverse sequence witness (Column f) _ _ _ = leaves-witness f witness′ lw S in
-    rw (es ∙ filled n unused sequence, ei, take-append-drop (n * n) inverse) (rw lw at B)
+begun {n} {adjacency} {weights} {inverse} {sequence} {witness} set′ inverse′ witness′ li es lw Inverse K =
+    let B : Begun (over n adjacency weights) inverse sequence witness Inverse _ _ _ = leaves-inverse inverse′ li (solved-whole K) in
+    rw (es ∙ filled n unused sequence, K .ends .1, take-append-drop n witness) (rw li at B)
+begun {n} {adjacency} {weights} {inverse} {sequence} {witness} set′ inverse′ witness′ li es lw (Column f) K =
+    let B : Begun (over n adjacency weights) inverse sequence witness (Column f) _ _ _ = leaves-witness f inverse′ witness′ li lw (K .ends) in
+    rw (es ∙ filled n unused sequence) (rw (li, lw) at B)
 
--- the inverse or the witness, whichever does not exist, becomes 0
+-- the witness becomes 0 if there is an inverse, else the inverse does
 abbrev pub Cleared : ℕ → Outcome → (inverse witness inverse′ witness′ : List ℕ) → Type 0
 Cleared n Inverse inverse witness inverse′ witness′ = (inverse′ ≡ inverse) × (witness′ ≡ replicate n 0 ++ drop n witness)
 Cleared n (Column f) inverse witness inverse′ witness′ = (inverse′ ≡ replicate (n * n) 0 ++ drop (n * n) inverse) × (witness′ ≡ witness)
@@ -74,5 +75,7 @@ pub begun-whole : {g : Graph} {o : Outcome} {inverse sequence witness work inver
     → Opens modulus g everything (buffers inverse sequence witness work) (found (g .n) o) (buffers inverse″ sequence′ witness″ work″)
 begun-whole {g} {witness = witness} {work = work} (leaves-inverse new l I) (ei, ew) ek ok =
     rw (ei, ew ∙ filled (g .n) 0 witness, ek ∙ filled (g .n * g .n) 0 work) (opens new ok l I)
-begun-whole {g} {inverse = inverse} {work = work} (leaves-witness f new l s) (ei, ew) ek ok =
-    rw (ei ∙ filled (g .n * g .n) 0 inverse, ew, ek ∙ filled (g .n * g .n) 0 work) (finds-singular f new ok l s)
+begun-whole {g} {inverse = inverse} {work = work} (leaves-witness f kept new lk l s) (ei, ew) ek ok =
+    let z : List ℕ = replicate (g .n * g .n) 0 in
+    rw (ei ∙ filled (g .n * g .n) 0 (onto kept inverse) ∙ onto-again kept z inverse (length-replicate {A = ℕ} _ 0 ∙ sym lk), ew, ek ∙ filled (g .n * g .n) 0 work)
+    (finds-singular f new ok l s)

@@ -16,7 +16,8 @@ pub enum Opening {
     Refused(Refusal),
 }
 
-// Opens a session on a graph that has been checked. Writes the inverse or the witness, whichever exists; the caller zeroes the other.
+// Opens a session on a graph that has been checked. Writes the inverse for the kept vertices, and the witness if not all are kept. The caller
+// zeroes the witness if all are kept, and the inverse if not.
 fn begin_accepted(
     n: usize,
     adjacency: &[u8],

@@ -1,5 +1,6 @@
-// The inverse of the Tutte matrix of a graph in order, on a set of vertices, or the witness of its first dependent column. The set is a
-// byte for each vertex, not 0 if it is in the set; solving uses these bytes up.
+// The inverse of the Tutte matrix of a graph in order, on the kept vertices of a set: those whose rows are not combinations of the rows of the
+// set before them. Beside it the witness of the first dependent column, if there is one. The set is a byte for each vertex, not 0 if it is in
+// the set; solving makes the bytes of the kept vertices 0.
 use exchange::Outcome;
 use residue::Residue;
 ghost use mathlib.Core.Path.{_≡_};
@@ -11,7 +12,7 @@ ghost use Rattle.skew.specs.Subset.{Subset, marked};
 ghost use Rattle.matching.specs.Graph.{over};
 ghost use Rattle.tutte.specs.Table.{Complete};
 ghost use Rattle.exchange.specs.Run.{word, witness-word};
-ghost use Rattle.solve.specs.Solved.{Copied, Blank, Solved};
+ghost use Rattle.solve.specs.Solved.{kept-word, Copied, Blank, Solved};
 
 // Returns entry (i, j), where i < j, of the skew matrix that t holds above its diagonal.
 pub fn above(t: &[u64], n: usize, i: usize, j: usize) -> u16
@@ -36,30 +37,45 @@ fn entry(t: &[u64], n: usize, i: usize, j: usize) -> u16
     0
 }
 
+// Returns entry (m, k), where m < k, or 0 if m or k waits.
+fn kept_word(t: &[u64], n: usize, m: usize, k: usize, waiting: &[u8]) -> u16
+    requires { ⌜ Square n (now t) × (m < k) × (k < n) × (length (now waiting) ≡ n) ⌝ }
+    ensures { λ r. ⌜ r ≡ kept-word n (now (t .entry)) (now (waiting .entry)) m k ⌝ }
+{
+    if waiting[m] != 0 {
+        return 0;
+    }
+    if waiting[k] != 0 {
+        return 0;
+    }
+    above(t, n, m, k)
+}
+
 // Writes row and column m of inverse from the diagonal on; those before m are already written.
-fn write_cross(t: &[u64], n: usize, m: usize, inverse: &mut [u16])
-    requires { ⌜ Square n (now t) × (m < n) × Copied n m (now t) (now inverse) ⌝ }
-    ensures { λ _. ⌜ Copied n (m + 1) (now (t .entry)) (now (inverse .exit)) ⌝ }
+fn write_cross(t: &[u64], n: usize, m: usize, waiting: &[u8], inverse: &mut [u16])
+    requires { ⌜ Square n (now t) × (m < n) × (length (now waiting) ≡ n) ⌝ }
+    requires { ⌜ Copied n m (kept-word n (now t) (now waiting)) (now inverse) ⌝ }
+    ensures { λ _. ⌜ Copied n (m + 1) (kept-word n (now (t .entry)) (now (waiting .entry))) (now (inverse .exit)) ⌝ }
 {
     let diagonal = m * n + m;
     inverse[diagonal] = 0;
     let mut k = m + 1;
     while k < n {
-        let right = above(t, n, m, k);
+        let right = kept_word(t, n, m, k, waiting);
         inverse[m * n + k] = right;
         inverse[k * n + m] = residue::negative(right as u32) as u16;
         k += 1;
     }
 }
 
-// Writes the whole matrix to inverse, in 16 bits.
-fn write_inverse(t: &[u64], n: usize, inverse: &mut [u16])
-    requires { ⌜ Square n (now t) × (length (now inverse) ≡ n * n) ⌝ }
-    ensures { λ _. ⌜ Copied n n (now (t .entry)) (now (inverse .exit)) ⌝ }
+// Writes the matrix to inverse, in 16 bits, with 0 in the rows and columns of the vertices that wait.
+fn write_inverse(t: &[u64], n: usize, waiting: &[u8], inverse: &mut [u16])
+    requires { ⌜ Square n (now t) × (length (now waiting) ≡ n) × (length (now inverse) ≡ n * n) ⌝ }
+    ensures { λ _. ⌜ Copied n n (kept-word n (now (t .entry)) (now (waiting .entry))) (now (inverse .exit)) ⌝ }
 {
     let mut m = 0;
     while m < n {
-        write_cross(t, n, m, inverse);
+        write_cross(t, n, m, waiting, inverse);
         m += 1;
     }
 }
@@ -104,17 +120,20 @@ fn solve_over(
     ensures { λ o.
         let g = over n (now (adjacency .entry)) (now (weights .entry)) in
         ⌜ ((S : Subset) → ((i : ℕ) → i < n → S i ≡ marked (now (set .entry)) i)
-        → Solved g S o (now (inverse .entry)) (now (witness .entry)) (now (inverse .exit)) (now (witness .exit))) ⌝ }
+        → Solved g S o (now (set .exit)) (now (witness .entry)) (now (inverse .exit)) (now (witness .exit))) ⌝ }
 {
     tutte::fill(n, adjacency, weights, set, t);
     let outcome = exchange::run(t, n, set);
     match outcome {
         Outcome::Inverse => {
-            write_inverse(t, n, inverse);
+            write_inverse(t, n, set, inverse);
             Outcome::Inverse
         }
         Outcome::Column(f) => {
+            // The witness is read from the table before exchange goes on.
             write_witness(t, n, f, set, witness);
+            exchange::rest(t, n, f + 1, set);
+            write_inverse(t, n, set, inverse);
             Outcome::Column(f)
         }
     }
@@ -135,7 +154,7 @@ fn solve_small(
     ensures { λ o.
         let g = over n (now (adjacency .entry)) (now (weights .entry)) in
         ⌜ ((S : Subset) → ((i : ℕ) → i < n → S i ≡ marked (now (set .entry)) i)
-        → Solved g S o (now (inverse .entry)) (now (witness .entry)) (now (inverse .exit)) (now (witness .exit))) ⌝ }
+        → Solved g S o (now (set .exit)) (now (witness .entry)) (now (inverse .exit)) (now (witness .exit))) ⌝ }
 {
     let cells = n * n;
     // 32 * 32 words.
@@ -165,7 +184,7 @@ fn solve_large(
     ensures { λ o.
         let g = over n (now (adjacency .entry)) (now (weights .entry)) in
         ⌜ ((S : Subset) → ((i : ℕ) → i < n → S i ≡ marked (now (set .entry)) i)
-        → Solved g S o (now (inverse .entry)) (now (witness .entry)) (now (inverse .exit)) (now (witness .exit))) ⌝ }
+        → Solved g S o (now (set .exit)) (now (witness .entry)) (now (inverse .exit)) (now (witness .exit))) ⌝ }
 {
     let cells = n * n;
     // 96 * 96 words.
@@ -181,7 +200,8 @@ fn solve_large(
     )
 }
 
-// Writes the inverse for a set of vertices, with 0 in the other rows and columns, or the witness, whichever exists; leaves the other as it
+// Writes the inverse for the kept vertices of set, with 0 in the other rows and columns, and makes their bytes 0; the bytes of the other
+// vertices of set stay as they were. If not all are kept, also writes the witness of the first dependent column, else leaves witness as it
 // was. The graph must already have been checked.
 pub fn solve(
     n: usize,
@@ -196,7 +216,7 @@ pub fn solve(
     ensures { λ o.
         let g = over n (now (adjacency .entry)) (now (weights .entry)) in
         ⌜ ((S : Subset) → ((i : ℕ) → i < n → S i ≡ marked (now (set .entry)) i)
-        → Solved g S o (now (inverse .entry)) (now (witness .entry)) (now (inverse .exit)) (now (witness .exit))) ⌝ }
+        → Solved g S o (now (set .exit)) (now (witness .entry)) (now (inverse .exit)) (now (witness .exit))) ⌝ }
 {
     if n <= 32 {
         return solve_small(n, adjacency, weights, set, inverse, witness);

@@ -52,7 +52,7 @@ returns : tie.Need-returns
 returns c =
     let solved = c .before .before .before .before .before in
     let s = solved .before .before .before .before .before .before .before .before .before .before .before .before .before in
-    begun _ _ (solved .solve .kept .1 .1 .1 .1 .0 ∙ length-take-le _ (s .args .inverse .now) (s .pre .inverse-fits))
+    begun _ _ _ (solved .solve .kept .1 .1 .1 .1 .0 ∙ length-take-le _ (s .args .inverse .now) (s .pre .inverse-fits))
     (solved .before .before .before .before .before .before .fill-bytes .ensures)
     (solved .solve .kept .1 .1 .1 .1 .1 .0 ∙ length-take-le _ (s .args .witness .now) (s .pre .witness-fits))
     (solved .solve .result) (solved .solve .ensures everything (λ i l. sym (all-in (s .args .n) (s .pre .lent .size) i l)))

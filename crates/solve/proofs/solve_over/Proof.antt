@@ -1,4 +1,5 @@
--- `solve::solve_over` meets its contract: the filled table holds the Tutte matrix on the set, and what exchange leaves is the inverse or the witness.
+-- `solve::solve_over` meets its contract: the filled table holds the Tutte matrix on the set. What exchange leaves of it at the first dependent
+-- column is the witness, and what it leaves at the end is the inverse on the kept vertices.
 -- Assumes nothing.
 use mathlib.Core.Path.{_≡_, refl, subst, _∙_}
 use native.Mathlib.Omega.{arith}
@@ -7,7 +8,7 @@ use Rattle.residue.specs.Modulus.{modulus}
 use Rattle.matching.specs.Graph.{Graph, over, tutte}
 use Rattle.exchange.specs.declared.Outcome.{Outcome}
 use Rattle.exchange.specs.Run.{Ended}
-use Rattle.solve.specs.Solved.{filled-holds, filled-small, upper-word, inverse-solved, column-solved}
+use Rattle.solve.specs.Solved.{filled-holds, filled-small, upper-word, solved, full-solved, column-solved}
 use borrow.Author.Needs.{needs}
 use Rattle.solve.proofs.solve_over.Statement.{statement}
 use Rattle.solve.proofs.solve_over.Tie as tie
@@ -63,6 +64,26 @@ write-witness-requires c κs =
     let E = ends at (c .before .before .before .before .outcome .given .1) in
     (record { small = b .table-square .small; size = at .run .kept .0 ∙ w .fill .ensures .size ∙ b .table-square .size }, E .1 .below, at .run .kept .1 .1 .0 ∙ s .pre .0 .1, s .pre .1 .1)
 
+add-rest : tie.Need-add-rest
+add-rest c =
+    let at = c .before .before .before .before .before .before .before .before .before .before .before .before .before .before in
+    let s = start (filling at) in
+    let h = ends at (c .before .before .before .before .before .before .before .before .outcome .given .1) .1 .below in
+    let l = s .pre .0 .2 .table-square .small in
+    record { fits = omega arith }
+
+rest-requires : tie.Need-rest-requires
+rest-requires c κs = ends (c .before .before .before .before .before .before .before .before .before .before .before .before .before .before .before) (c .before .before .before .before .before .before .before .before .before .outcome .given .1) .3
+
+write-inverse-requires-2 : tie.Need-write-inverse-requires-2
+write-inverse-requires-2 c κs =
+    let at = c .before .before .before .before .before .before .before .before .before .before .before .before .before .before .before .before .before .before .before .before .before .before .before in
+    let w = filling at in
+    let s = start w in
+    let r = c .before .before .before .before .before .before .before .rest in
+    let q = s .pre .0 .2 in
+    (record { small = q .table-square .small; size = r .kept .0 ∙ at .run .kept .0 ∙ w .fill .ensures .size ∙ q .table-square .size }, r .kept .1 .1 .1 .0 ∙ at .run .kept .1 .1 .0 ∙ s .pre .0 .1, s .pre .1 .0)
+
 same-length : tie.Need-same-length
 same-length c = search needs
 
@@ -74,10 +95,11 @@ same-length-3 c = search needs
 
 returns : tie.Need-returns
 returns c =
-    let at = c .before .before .before .before .before .before .before .before .before .before .before in
+    let at = c .before .before .before .before .before .before .before .before .before .before .before .before in
     let w = filling at in
-    let E = ends at (c .before .before .before .before .before .enum-told .given .1) in
-    λ S agree. (inverse-solved (graph w) agree _ (c .before .before .write-inverse .ensures) (E .0), refl)
+    let E = ends at (c .before .before .before .before .before .before .enum-told .given .1) in
+    λ S agree.
+    solved (graph w) agree _ (E .1) (c .before .before .write-inverse .ensures) (full-solved (graph w) agree (at .run .last .0) _ (E .2), refl)
 
 same-length-4 : tie.Need-same-length-4
 same-length-4 c = search needs
@@ -88,12 +110,19 @@ same-length-5 c = search needs
 same-length-6 : tie.Need-same-length-6
 same-length-6 c = search needs
 
+same-length-7 : tie.Need-same-length-7
+same-length-7 c = search needs
+
 returns-2 : tie.Need-returns-2
 returns-2 c =
-    let at = c .before .before .before .before .before .before .before .before .before .before .before .before .before in
+    let at = c .before .before .before .before .before .before .before .before .before .before .before .before .before .before .before .before .before .before .before .before .before .before .before .before .before .before in
     let w = filling at in
-    let E = ends at (c .before .before .before .before .before .before .before .outcome .given .1) in
-    λ S agree. (column-solved (graph w) agree _ _ (c .before .before .write-witness .ensures) (E .0) (E .1), refl)
+    let s = start w in
+    let E = ends at (c .before .before .before .before .before .before .before .before .before .before .before .before .before .before .before .before .before .before .before .before .outcome .given .1) in
+    let R = c .before .before .before .before .before .before .before .before .before .before .rest .ensures (tutte (graph w) modulus) (marked (s .args .set .now)) (E .2) in
+    λ S agree.
+    solved (graph w) agree _ R (c .before .before .write-inverse2 .ensures)
+    (column-solved (graph w) agree _ _ (c .before .before .before .before .before .before .before .before .before .before .before .before .before .before .before .write-witness .ensures) (E .0) (E .1))
 
 pub solve-over-spec : {M : Type 1} → statement M
 solve-over-spec =
@@ -105,6 +134,9 @@ solve-over-spec =
     write-inverse-requires
     enum-known-outcome
     write-witness-requires
+    add-rest
+    rest-requires
+    write-inverse-requires-2
     same-length
     same-length-2
     same-length-3
@@ -112,4 +144,5 @@ solve-over-spec =
     same-length-4
     same-length-5
     same-length-6
+    same-length-7
     returns-2)
