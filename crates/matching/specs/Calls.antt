@@ -67,7 +67,7 @@ module _ {p : ℕ} (P : OddPrime p) where
   unfolding session-ruling decLt
   row-ruling s a row =
       judge
-      (session-causes p s (lent-row (s .session .size) (length row) ∷ [])
+      (session-causes p s (lent-row (s .session .size) (length row) ∷ []) []
       ++ needs 7 (decLt a (s .session .size))
       ∷ needs 8 (in? (unmatched (in-play s) (pairs-of s)) a)
       ∷ [])

@@ -1,5 +1,5 @@
--- Causes 1 to 6 of document 01's table, each with its place, that of 3 as document 02, request 2, has it; and the order in which opening and
--- the session calls look at them. Causes 7 to 11 are in Model, 12 to 15 in Records, 16 and 17 in Dimacs; a replay has 12 and 13 of its own,
+-- Causes 1 to 6 of document 01's table, each with its place, that of 3 as document 02, request 2, has it, 5 and buffer 8 by request 4; and the
+-- order in which opening and the session calls look at them. Causes 7 to 11 are in Model, 12 to 15 in Records, 16 and 17 in Dimacs; a replay has 12 and 13 of its own,
 -- in Replay. Assumes nothing.
 use mathlib.Core.List.{List, [], _∷_, _++_}
 use Prim.Native.Nat.{ℕ, _*_, _/_, _%_, _≤_}
@@ -11,7 +11,7 @@ use Rattle.matching.specs.Decision.{both?, not?, First, first?, Place, i
 use Rattle.matching.specs.Graph.{Graph, largest, pair-count, fault, fault-at, Faulty, InRange}
 use Rattle.matching.specs.Pairs.{unmatched}
 use Rattle.matching.specs.Session.{State, in-play, graph-of, pairs-of}
-use Rattle.matching.specs.Decided.{inverse-table?, well-formed?}
+use Rattle.matching.specs.Decided.{inverse-table?, well-formed?, kept-fits?, well-formed-session?}
 
 -- a lent buffer: its number in the table, its length, and the length that the call needs
 pub record Lent : Type 0 where
@@ -20,7 +20,7 @@ pub record Lent : Type 0 where
   pub needed : ℕ
 
 -- the buffers by their lengths, for n vertices: 1 adjacency (document 01: share), 2 weights (draws), 3 inverse (held), 4 sequence (strip),
--- 5 witness, 6 work, 7 row
+-- 5 witness, 6 work, 7 row, 8 kept
 abbrev pub lent-adjacency : (n length : ℕ) → Lent
 lent-adjacency n length = record { number = 1; length = length; needed = n * n }
 
@@ -41,6 +41,9 @@ lent-work n length = record { number = 6; length = length; needed = n * n }
 
 abbrev pub lent-row : (n length : ℕ) → Lent
 lent-row n length = record { number = 7; length = length; needed = n }
+
+abbrev pub lent-kept : (n length : ℕ) → Lent
+lent-kept n length = record { number = 8; length = length; needed = n }
 
 -- the two buffers of a graph
 abbrev pub lent-graph : Graph → List Lent
@@ -98,10 +101,10 @@ unfoldable pub bad-weight : ℕ → Graph → Cause
 unfolding first-outside
 bad-weight p g = record { number = 4; finding = found index (first-outside p g) }
 
--- 5: the session not well formed
-unfoldable pub ill-formed : Graph → ℕ → List ℕ → Cause
-unfolding well-formed?
-ill-formed g made sequence = record { number = 5; finding = when (not? (well-formed? g made sequence)) 0 }
+-- 5: the session not well formed, its kept row with another byte than 0 and 1, or a matched vertex not kept
+unfoldable pub ill-formed : State → Cause
+unfolding well-formed? kept-fits?
+ill-formed s = record { number = 5; finding = when (not? (well-formed-session? s)) 0 }
 
 -- 6: the inverse not as defined, or no inverse for the unmatched vertices
 unfoldable pub not-inverse : ℕ → Graph → Subset → List ℕ → Cause
@@ -120,19 +123,20 @@ unfoldable pub opening-ruling : ℕ → Graph → (inverse sequence witness work
 unfolding bad-cell bad-weight
 opening-ruling p g inverse sequence witness work = judge (opening-causes p g (lent-to-opening g inverse sequence witness work))
 
--- the buffers that a session call is lent, `more` of them besides the four, and the causes that it looks at first: 1 to 6, whether the
--- session is sound
-abbrev pub lent-to-session : State → List Lent → List Lent
-lent-to-session s more =
-    lent-always (s .session .size) (length (s .adjacency)) (length (s .weights)) (length (s .inverse)) (length (s .sequence)) ++ more
+-- the buffers that a session call is lent: 1 to 4, then `before`, then 8, the kept row, then `after`; only some calls are lent buffers before
+-- and after it. And the causes that it looks at first: 1 to 6, whether the session is sound
+abbrev pub lent-to-session : State → (before after : List Lent) → List Lent
+lent-to-session s before after =
+    lent-always (s .session .size) (length (s .adjacency)) (length (s .weights)) (length (s .inverse)) (length (s .sequence))
+    ++ (before ++ lent-kept (s .session .size) (length (s .kept)) ∷ after)
 
-abbrev pub session-causes : ℕ → State → List Lent → List Cause
-session-causes p s more =
-    opening-causes p (graph-of s) (lent-to-session s more)
-    ++ ill-formed (graph-of s) (s .session .made) (s .sequence)
+abbrev pub session-causes : ℕ → State → (before after : List Lent) → List Cause
+session-causes p s before after =
+    opening-causes p (graph-of s) (lent-to-session s before after)
+    ++ ill-formed s
     ∷ not-inverse p (graph-of s) (unmatched (in-play s) (pairs-of s)) (s .inverse)
     ∷ []
 
 unfoldable pub session-ruling : ℕ → State → Ruling
 unfolding bad-cell bad-weight ill-formed not-inverse
-session-ruling p s = judge (session-causes p s [])
+session-ruling p s = judge (session-causes p s [] [])

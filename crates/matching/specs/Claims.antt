@@ -3,23 +3,25 @@
 use mathlib.Core.Path.{_≡_, refl, ap, subst}
 use mathlib.Core.List.{List, [], _∷_, _++_}
 use Prim.Native.Nat.{ℕ, _*_, _/_, _<_}
-use native.Mathlib.Decide.{decLt}
+use native.Mathlib.Decide.{ℕ-discrete, decLe, decLt}
 use lib.ListN.{length, getD, take, replicate}
 use Rattle.lists.specs.Table.{vector}
 use Rattle.lists.specs.Onto.{onto}
 use Rattle.draws.specs.Draws.{draws}
 use Rattle.residue.specs.Modulus.{modulus, modulus-prime}
-use Rattle.skew.specs.Subset.{Subset, count}
+use Rattle.skew.specs.Subset.{Subset, Member, inside, outside, member?, clash, count}
+use Rattle.skew.specs.Column.{DependentRow}
+use Rattle.skew.specs.Kept.{dependent-row?}
 use Rattle.skew.specs.Decide.{first-dependent?}
-use Rattle.matching.specs.Decision.{Refusal, Ruling, not?, every?, accepted, refused}
+use Rattle.matching.specs.Decision.{Refusal, Ruling, both?, not?, iff?, map?, every?, accepted, refused}
 use Rattle.matching.specs.Edition.{first-edition}
 use Rattle.matching.specs.Graph.{Graph, over, pair-count, tutte}
-use Rattle.matching.specs.Pairs.{Pair, Pairs, everything, unmatched}
+use Rattle.matching.specs.Pairs.{Pair, Pairs, everything, unmatched, in?}
 use Rattle.matching.specs.Matching.{Perfect}
-use Rattle.matching.specs.Session.{Session, session, State, graph-of, with-pairs, InverseTable}
+use Rattle.matching.specs.Session.{Session, session, State, state, in-play, graph-of, with-pairs, InverseTable}
 use Rattle.matching.specs.Decided.{inverse-table?, witness?, perfect?}
 use Rattle.matching.specs.Causes.{session-ruling}
-use Rattle.matching.specs.Opening.{Opening, opened, singular, not-opened, Buffers, Singular, Opens, opens, refuses-opening, finds-singular, with-inverse, with-witness, ruling}
+use Rattle.matching.specs.Opening.{Opening, opened, singular, not-opened, Buffers, Singular, Kept, Opens, opens, refuses-opening, finds-singular, with-inverse, with-witness, ruling}
 use Rattle.matching.specs.Display.{Part, display}
 use Rattle.matching.specs.Model.{Call, automatic, Answer, done, denied, skew, Nonsingular, nonsingular?, answered, pairs-after, PicksToCome}
 use Rattle.matching.specs.Calls.{Returned, state-after, model-step, Handles, unsound, refuses, carries, Runs, none, more, row-ruling, open-row, ShowsRow, shows, row-refused}
@@ -40,15 +42,13 @@ linked n edges weights = over n (cells n edges) weights
 abbrev pub edge : ℕ → ℕ → Pair
 edge a b = record { smaller = a; larger = b }
 
--- a session over a graph, with these buffers
+-- a session over a graph, with this kept row and these buffers
+abbrev pub keeping : (kept : List ℕ) → Graph → ℕ → (inverse sequence : List ℕ) → State
+keeping kept g made inverse sequence = state (g .n) made (g .adjacency) (g .weights) inverse sequence kept
+
+-- and one in which every vertex is kept
 abbrev pub on : Graph → ℕ → (inverse sequence : List ℕ) → State
-on g made inverse sequence = record {
-  session = record { size = g .n; made = made };
-  adjacency = g .adjacency;
-  weights = g .weights;
-  inverse = inverse;
-  sequence = sequence;
-}
+on g made inverse sequence = keeping (replicate (g .n) 1) g made inverse sequence
 
 -- every weight is 1
 abbrev pub ones : ℕ → List ℕ
@@ -70,6 +70,9 @@ pub data Claim : Type 0 where
   -- these pairs are a perfect matching of a set of vertices, and they are not
   perfect : Graph → Subset → Pairs → Claim
   not-perfect : Graph → Subset → Pairs → Claim
+  -- this is the row of the kept vertices of a set, and it is not
+  kept : Graph → Subset → List ℕ → Claim
+  not-kept : Graph → Subset → List ℕ → Claim
   -- opening gives this inverse
   opening : Graph → List ℕ → Claim
   -- opening gives this witness, with its column
@@ -150,6 +153,8 @@ full n inverse words =
 unfoldable pub Holds : Claim → Type 0
 Holds (perfect g S pairs) = Perfect g S pairs
 Holds (not-perfect g S pairs) = ¬ Perfect g S pairs
+Holds (kept g S bytes) = Kept modulus g S bytes
+Holds (not-kept g S bytes) = ¬ Kept modulus g S bytes
 Holds (opening g inverse) =
     Opens modulus g everything (before (g .n)) (opened (session (g .n) [])) (full (g .n) inverse (replicate (g .n) 0))
 Holds (witness g f words) =
@@ -229,7 +234,7 @@ ShownHandled s c e t =
     (session-ruling modulus s ≡ accepted)
     × (model-step modulus-prime s c .answer ≡ done e)
     × (length inverse ≡ size * size)
-    × IsYes (inverse-table? modulus (graph-of s) (unmatched everything pairs) inverse)
+    × IsYes (inverse-table? modulus (graph-of s) (unmatched (in-play s) pairs) inverse)
     × (with-pairs (graph-of s) pairs inverse s ≡ t)
 
 shown-handled : (s : State) (c : Call) (e : Pair) (t : State) → ShownHandled s c e t → Handles modulus-prime s c (done e) t
@@ -361,9 +366,29 @@ filled-text seed bytes adjacency weights o adjacency′ weights′ (dimacs.unrea
 filled-text seed bytes adjacency weights o adjacency′ weights′ (dimacs.text n edges) q e =
     reads-lines (shown-read-text bytes q) (shown-filled n (draws (first-edition .draw) seed (pair-count n)) edges adjacency weights o adjacency′ weights′ e)
 
+-- whether a row of the matrix is a combination of the rows before it, and whether a row of bytes is that of the kept vertices, are decided
+unfoldable dependent? : (g : Graph) (S : Subset) (v : ℕ) → Dec (DependentRow modulus (g .n) (tutte g modulus) S v)
+unfolding dependent-row? member? decLt
+dependent? g S v = go (decLt v (g .n)) (member? S v)
+  where
+    go : Dec (v < g .n) → Member S v → Dec (DependentRow modulus (g .n) (tutte g modulus) S v)
+    go (no d) _ = no (λ D. d (D .below))
+    go (yes l) (outside o) = no (λ D. clash (D .in-L) o)
+    go (yes l) (inside m) = dependent-row? modulus-prime (g .n) (tutte g modulus) (skew modulus-prime g) S v l m
+
+unfoldable pub kept? : (g : Graph) (S : Subset) (bytes : List ℕ) → Dec (Kept modulus g S bytes)
+unfolding dependent? dependent-row? member? every? decLe decLt ℕ-discrete
+kept? g S bytes =
+    map? (λ h. record { size = h .0; bits = h .1 .0; exactly = h .1 .1 }) (λ h. (h .size, (h .bits, h .exactly)))
+    (both? (ℕ-discrete (length bytes) (g .n))
+    (both? (every? _ (g .n) (λ v. decLe (getD bytes v 0) 1))
+    (every? _ (g .n) (λ v. iff? (ℕ-discrete (getD bytes v 0) 1) (both? (in? S v) (not? (dependent? g S v)))))))
+
 unfoldable pub Shown : Claim → Type 0
 Shown (perfect g S pairs) = IsYes (perfect? g S pairs)
 Shown (not-perfect g S pairs) = IsYes (not? (perfect? g S pairs))
+Shown (kept g S bytes) = IsYes (kept? g S bytes)
+Shown (not-kept g S bytes) = IsYes (not? (kept? g S bytes))
 Shown (opening g inverse) =
     (ruling modulus g (before (g .n)) ≡ accepted)
     × (length inverse ≡ g .n * g .n)
@@ -429,6 +454,8 @@ enough : (c : Claim) → Shown c → Holds c
 unfolding Shown Holds
 enough (perfect g S pairs) e = decided (perfect? g S pairs) e
 enough (not-perfect g S pairs) e = decided (not? (perfect? g S pairs)) e
+enough (kept g S bytes) e = decided (kept? g S bytes) e
+enough (not-kept g S bytes) e = decided (not? (kept? g S bytes)) e
 enough (opening g inverse) e =
     subst (λ (b : Buffers). Opens modulus g everything (before (g .n)) (opened (session (g .n) [])) b) (e .2)
     (opens inverse (e .0) (e .1) (decided (inverse-table? modulus g everything inverse) (e .3)))

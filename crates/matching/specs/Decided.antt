@@ -1,5 +1,5 @@
--- Whether a buffer holds the inverse, whether a sequence is well formed, and whether pairs are a perfect matching, are decided. Assumes
--- nothing.
+-- Whether a buffer holds the inverse, whether a sequence is well formed, whether a kept row fits it, and whether pairs are a perfect
+-- matching, are decided. Assumes nothing.
 use mathlib.Core.Path.{_≡_}
 use mathlib.Core.Logic.{_≢_}
 use mathlib.Core.List.{List, [], _∷_}
@@ -10,14 +10,14 @@ use Rattle.lists.specs.Table.{table}
 use Rattle.modular.specs.Congruence.{Congruent}
 use Rattle.modular.specs.Prime.{congruent?}
 use Rattle.modular.specs.Sum.{sum}
-use Rattle.skew.specs.Subset.{Subset, _∈_, _∉_}
+use Rattle.skew.specs.Subset.{Subset, _∈_, _∉_, marked}
 use Rattle.skew.specs.Inverse.{Matrix, Vector, column, apply, Inverse}
 use Rattle.skew.specs.Column.{Witness}
 use Rattle.matching.specs.Decision.{Every, both?, not?, implies?, map?, every?}
 use Rattle.matching.specs.Graph.{Graph, cell, tutte}
 use Rattle.matching.specs.Pairs.{Pair, Pairs, unmatched, in?, out?, unused}
 use Rattle.matching.specs.Matching.{adjacent?, Appendable, Matching, empty, another, Perfect}
-use Rattle.matching.specs.Session.{InverseTable, WellFormed}
+use Rattle.matching.specs.Session.{State, kept-in, graph-of, InverseTable, WellFormed, KeptFits, WellFormedSession}
 
 unfoldable pub inverse? : (p n : ℕ) (A : Matrix) (L : Subset) (T : Matrix) → Dec (Inverse p n A L T)
 unfolding every? congruent? apply sum ℕ-discrete
@@ -115,6 +115,16 @@ well-formed? g made sequence = map? to from (both? few? (both? ordered? (both? b
 
     from : WellFormed g made sequence → Parts
     from w = (w .few, (w .ordered, (w .below, (w .adjacent, (w .different, w .rest)))))
+
+unfoldable pub kept-fits? : (n made : ℕ) (sequence kept : List ℕ) → Dec (KeptFits n made sequence kept)
+unfolding every? decLe marked
+kept-fits? n made sequence kept =
+    map? (λ h. record { bits = h .0; matched = h .1 }) (λ h. (h .bits, h .matched))
+    (both? (every? _ n (λ v. decLe (getD kept v 0) 1)) (every? _ (made + made) (λ x. in? (kept-in n kept) (getD sequence x 0))))
+
+abbrev pub well-formed-session? : (s : State) → Dec (WellFormedSession s)
+well-formed-session? s =
+    both? (well-formed? (graph-of s) (s .session .made) (s .sequence)) (kept-fits? (s .session .size) (s .session .made) (s .sequence) (s .kept))
 
 unfoldable pub witness? : (p n : ℕ) (A : Matrix) (L : Subset) (f : ℕ) (w : Vector) → Dec (Witness p n A L f w)
 unfolding every? congruent? apply sum decLt

@@ -66,7 +66,7 @@ module _ {p : ℕ} (P : OddPrime p) (g : Graph) (S : Subset) where
       -- an accepted undo, except of a pair from before the list, restores the session and every word and byte from before its pick
       pub restores : (j : ℕ) (e : Pair) → At calls j undo → At (map (λ (r : Returned). r .answer) returned) j (done e) → length start < length (pairs-at j)
           → (i : ℕ) × Undoes i j e × (state-after s returned (suc j) ≡ state-after s returned i)
-      -- if no vertex is unmatched, each stands in the sequence exactly once, in a pair of adjacent vertices
+      -- if no vertex is unmatched, each in play stands in the sequence exactly once, in a pair of adjacent vertices
       pub once : Every (g .n) (λ c. ¬ (c ∈ unmatched S pairs-left))
           → Every (g .n) (λ v. v ∈ S → Once g (length pairs-left) (state-after s returned (length calls) .sequence) v)
 

@@ -101,10 +101,17 @@ answer-number (denied r) s = refusal-number r
 abbrev pub session-back : ℕ → Session → Session
 session-back answer s = choose (ℕ-discrete (cause-in answer) 0) (record { size = s .size; made = made-in answer }) s
 
--- the state that a call hands back: the session of its number, the tables that were lent, and the buffers as it left them
+-- the state that a call hands back: the session of its number, the tables and the kept row that were lent, and the buffers as it left them
 abbrev pub handed-back : State → (answer : ℕ) → (inverse sequence : List ℕ) → State
 handed-back s answer inverse sequence =
-    record { session = session-back answer (s .session); adjacency = s .adjacency; weights = s .weights; inverse = inverse; sequence = sequence }
+    record {
+      session = session-back answer (s .session);
+      adjacency = s .adjacency;
+      weights = s .weights;
+      inverse = inverse;
+      sequence = sequence;
+      kept = s .kept;
+    }
 
 -- a call that is only accepted or refused: its answer-kind, and the number of pairs of the session handed back
 abbrev pub ruled-number : ℕ → Ruling → Session → ℕ
@@ -162,9 +169,10 @@ unpacked-state E s = record {
   weights = words (E .width) (s .weights);
   inverse = words (E .width) (s .inverse);
   sequence = s .sequence;
+  kept = s .kept;
 }
 
--- the words of a state, stored over the bytes of the host's; the tables are not written
+-- the words of a state, stored over the bytes of the host's; the tables and the kept row are not written
 abbrev pub stored-over : Edition → State → State → State
 stored-over E left s = record {
   session = left .session;
@@ -172,6 +180,7 @@ stored-over E left s = record {
   weights = s .weights;
   inverse = onto (bytes-of (E .width) (left .inverse)) (s .inverse);
   sequence = left .sequence;
+  kept = s .kept;
 }
 
 -- the host's state after a call: on a refusal all is as it came

@@ -7,7 +7,7 @@ use Rattle.matching.specs.Decision.{At}
 use Rattle.matching.specs.Edition.{Edition}
 use Rattle.matching.specs.Graph.{Graph, over}
 use Rattle.matching.specs.Pairs.{Pair}
-use Rattle.matching.specs.Session.{State, in-play}
+use Rattle.matching.specs.Session.{State, all-kept, in-play}
 use Rattle.matching.specs.Opening.{Buffers}
 use Rattle.matching.specs.Model.{Call, undo}
 use Rattle.matching.specs.Calls.{Returned, state-after, Runs}
@@ -26,7 +26,7 @@ host-after s returned zero = s
 host-after s [] (suc k) = s
 host-after s (r ∷ later) (suc k) = host-after (r .state) later k
 
--- the host's state after an opening: the session of its number, the tables that were lent, and the bytes that it left
+-- the host's state after an opening: the session of its number, the tables that were lent, the bytes that it left, and every vertex kept
 abbrev pub host-opened-state : ℕ → (adjacency weights : List ℕ) → (answer : ℕ) → Buffers → State
 host-opened-state n adjacency weights answer b = record {
   session = record { size = n; made = made-in answer };
@@ -34,6 +34,7 @@ host-opened-state n adjacency weights answer b = record {
   weights = weights;
   inverse = b .inverse;
   sequence = b .sequence;
+  kept = all-kept;
 }
 
 module _ (E : Edition) where

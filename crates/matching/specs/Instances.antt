@@ -14,7 +14,7 @@ use Rattle.matching.specs.Decision.{Refusal, because, Every, At, accepte
 use Rattle.matching.specs.Edition.{first-edition}
 use Rattle.matching.specs.Graph.{Graph, over, cell, tutte}
 use Rattle.matching.specs.Pairs.{Pair, everything, unmatched, sequence, pairs-on}
-use Rattle.matching.specs.Session.{State}
+use Rattle.matching.specs.Session.{State, in-play}
 use Rattle.matching.specs.Decided.{inverse-table?, witness?}
 use Rattle.matching.specs.Causes.{session-ruling, opening-ruling}
 use Rattle.matching.specs.Opening.{opened, singular, Buffers, Opens, opens, finds-singular}
@@ -292,7 +292,7 @@ host-ran =
     (record {
       given = done (edge 0 1);
       left = _;
-      outcome = carries (edge 0 1) (edge 0 1 ∷ []) (replicate 4 0) refl refl refl (decided (inverse-table? modulus (over 2 (host-graph .adjacency) (2 ∷ 1027 ∷ [])) (unmatched everything (edge 0 1 ∷ [])) (replicate 4 0)) tt);
+      outcome = carries (edge 0 1) (edge 0 1 ∷ []) (replicate 4 0) refl refl refl (decided (inverse-table? modulus (over 2 (host-graph .adjacency) (2 ∷ 1027 ∷ [])) (unmatched (in-play host-empty) (edge 0 1 ∷ [])) (replicate 4 0)) tt);
       numbered = refl;
       stored = refl;
     })
@@ -305,7 +305,7 @@ module _ (returned : List HostReturned) (R : HostRestores first-edition host-gra
   unfolding At host-after
   host-says-restored answer given ok = let r = R 1 answer refl given ok in go (r .0) (r .1) (r .2) (r .3)
     where
-      go : (i : ℕ) (e : Pair) → Undoes modulus-prime host-graph everything [] (pick 1 0 ∷ undo ∷ []) i 1 e
+      go : (i : ℕ) (e : Pair) → Undoes modulus-prime host-graph (in-play host-empty) [] (pick 1 0 ∷ undo ∷ []) i 1 e
           → host-after host-empty returned 2 ≡ host-after host-empty returned i → host-after host-empty returned 2 ≡ host-empty
       go zero e U q = q
       go (suc i) e U q = absurd (omega (arith, U .earlier))

@@ -32,4 +32,5 @@ pub mod Marked
 pub mod Worked
 pub mod DimacsWorked
 pub mod VerdictsWorked
+pub mod KeptWorked
 pub mod Instances

@@ -8,11 +8,11 @@ use lib.ListN.{length, take, replicate}
 use Rattle.lists.specs.Choose.{choose}
 use Rattle.lists.specs.Onto.{onto}
 use Rattle.modular.specs.Prime.{OddPrime}
-use Rattle.skew.specs.Subset.{Subset, count}
+use Rattle.skew.specs.Subset.{Subset, marked, count}
 use Rattle.matching.specs.Decision.{place-number, Refusal}
 use Rattle.matching.specs.Edition.{Edition}
 use Rattle.matching.specs.Graph.{Graph}
-use Rattle.matching.specs.Pairs.{Pair, Pairs, everything}
+use Rattle.matching.specs.Pairs.{Pair, Pairs}
 use Rattle.matching.specs.Model.{automatic, Nonsingular, pairs-after, PicksToCome}
 use Rattle.matching.specs.Opening.{Singular}
 use Rattle.matching.specs.Filling.{graph}
@@ -119,7 +119,7 @@ pub data GraphLines {p : ℕ} (P : OddPrime p) (g : Graph) (S : Subset) : List �
 
 -- the vertices in play of a sheet with n vertices: all of them
 abbrev pub players-of : ℕ → Subset
-players-of n = everything
+players-of n = marked (replicate n 1)
 
 -- what is printed for an input: the refusal, or the lines of the sheet's graph
 pub data Lists (E : Edition) (input : List ℕ) : List ℕ → Type 0 where

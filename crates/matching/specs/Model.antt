@@ -65,7 +65,7 @@ module _ {p : ℕ} (P : OddPrime p) (g : Graph) (S : Subset) where
   unfolding invertible? tutte unmatched
   nonsingular? pairs = invertible? P (g .n) (tutte g p) (skew P g) (unmatched S pairs)
 
-  -- causes 7 to 10 of a pick: not two vertices, one of them matched, not adjacent, no inverse for the vertices then unmatched
+  -- causes 7 to 10 of a pick: not two vertices, one of them not unmatched, not adjacent, no inverse for the vertices then unmatched
   unfoldable pub pick-ruling : Pairs → ℕ → ℕ → Ruling
   unfolding nonsingular? pair-of unmatched decLt ℕ-discrete
   pick-ruling pairs a b =

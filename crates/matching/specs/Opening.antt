@@ -2,17 +2,17 @@
 use mathlib.Core.Path.{_≡_}
 use mathlib.Core.Logic.{_↔_}
 use mathlib.Core.List.{List, []}
-use Prim.Native.Nat.{ℕ, _*_, _<_}
+use Prim.Native.Nat.{ℕ, _*_, _≤_, _<_}
 use lib.ListN.{length, getD, replicate}
 use Rattle.lists.specs.Table.{vector}
 use Rattle.lists.specs.Onto.{onto}
-use Rattle.skew.specs.Subset.{Subset}
+use Rattle.skew.specs.Subset.{Subset, _∈_}
 use Rattle.skew.specs.Inverse.{Invertible}
-use Rattle.skew.specs.Column.{FirstDependent, Witness}
+use Rattle.skew.specs.Column.{DependentRow, FirstDependent, Witness}
 use Rattle.matching.specs.Decision.{Every, Refusal, Ruling, accepted, refused}
 use Rattle.matching.specs.Graph.{Graph, tutte}
 use Rattle.matching.specs.Pairs.{everything, unused}
-use Rattle.matching.specs.Session.{Session, session, State, InverseTable}
+use Rattle.matching.specs.Session.{Session, session, State, all-kept, InverseTable}
 use Rattle.matching.specs.Causes.{opening-ruling}
 
 -- "opened" and a session with no pairs; "witness" with the first dependent column f; or a refusal
@@ -34,6 +34,13 @@ pub record Singular (p : ℕ) (g : Graph) (S : Subset) (f : ℕ) (witness : List
   pub small : Every (g .n) (λ x. getD witness x 0 < p)
   pub first : FirstDependent p (g .n) (tutte g p) S f
   pub kernel : Witness p (g .n) (tutte g p) S f (vector witness)
+
+-- the row of the kept vertices (document 02, request 4): 1 for a vertex of S whose row of the matrix is not a combination of the rows of S
+-- before it, else 0
+pub record Kept (p : ℕ) (g : Graph) (S : Subset) (row : List ℕ) : Type 0 where
+  pub size : length row ≡ g .n
+  pub bits : Every (g .n) (λ v. getD row v 0 ≤ 1)
+  pub exactly : Every (g .n) (λ v. (getD row v 0 ≡ 1) ↔ ((v ∈ S) × (¬ DependentRow p (g .n) (tutte g p) S v)))
 
 -- the buffers that an opening with the inverse leaves, and one with a witness; the excess is as it was
 abbrev pub with-inverse : ℕ → List ℕ → Buffers → Buffers
@@ -71,7 +78,13 @@ pub data Opens (p : ℕ) (g : Graph) (S : Subset) (b : Buffers) : Opening → Bu
 abbrev pub OpenedExactly : ℕ → Graph → Subset → Buffers → Opening → Type 0
 OpenedExactly p g S b o = ruling p g b ≡ accepted → (((s : Session) × (o ≡ opened s)) ↔ Invertible p (g .n) (tutte g p) S)
 
--- the state of a session over a graph and the buffers that opening left
+-- the state of a session over a graph and the buffers that opening left: every vertex is kept
 abbrev pub opened-state : Graph → Session → Buffers → State
-opened-state g s b =
-    record { session = s; adjacency = g .adjacency; weights = g .weights; inverse = b .inverse; sequence = b .sequence }
+opened-state g s b = record {
+  session = s;
+  adjacency = g .adjacency;
+  weights = g .weights;
+  inverse = b .inverse;
+  sequence = b .sequence;
+  kept = all-kept;
+}

@@ -74,7 +74,7 @@ module _ {p : ℕ} (P : OddPrime p) where
   unfoldable pub replay-ruling : State → (numbers answers : List ℕ) → Ruling
   unfolding session-ruling unknown-kind
   replay-ruling s numbers answers =
-      judge (session-causes p s (lent-answers (call-count numbers) (length answers) ∷ []) ++ list-causes numbers)
+      judge (session-causes p s [] (lent-answers (call-count numbers) (length answers) ∷ []) ++ list-causes numbers)
 
   -- either it is refused as a whole and nothing changes, or the calls are run: the state is that after the last of them, and the first answers
   -- are the numbers of the calls
