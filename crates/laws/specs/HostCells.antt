@@ -75,12 +75,12 @@ unfolding opening-ruling
 opening-points p g inverse sequence witness work e = points p g (lent-to-opening g inverse sequence witness work) [] tt e
 
 -- a session call, whatever else it is lent and looks at afterwards
-session-points : (p : ℕ) (s : State) (besides : List Lent) (later : List Cause) {r : Refusal} → Others later → judge (session-causes p s besides ++ later) ≡ refused r
-    → PointsTo (graph-of s) r
+session-points : (p : ℕ) (s : State) (before after : List Lent) (later : List Cause) {r : Refusal} → Others later
+    → judge (session-causes p s before after ++ later) ≡ refused r → PointsTo (graph-of s) r
 unfolding ill-formed not-inverse
-session-points p s besides later h e =
-    points p (graph-of s) (lent-to-session s besides)
-    (ill-formed (graph-of s) (s .session .made) (s .sequence) ∷ not-inverse p (graph-of s) (unmatched (in-play s) (pairs-of s)) (s .inverse) ∷ later)
+session-points p s before after later h e =
+    points p (graph-of s) (lent-to-session s before after)
+    (ill-formed s ∷ not-inverse p (graph-of s) (unmatched (in-play s) (pairs-of s)) (s .inverse) ∷ later)
     (λ z. omega arith, (λ z. omega arith, h)) e
 
 module _ {p : ℕ} (P : OddPrime p) where
@@ -96,7 +96,7 @@ module _ {p : ℕ} (P : OddPrime p) where
 
   pub handles-points : {s t : State} {c : Call} {r : Refusal} → Handles P s c (denied r) t → PointsTo (graph-of s) r
   unfolding session-ruling
-  handles-points {s} (unsound r e) three = session-points p s [] [] tt e three
+  handles-points {s} (unsound r e) three = session-points p s [] [] [] tt e three
   handles-points {s} {c = c} (refuses r e k) three =
       let I = session-accepted p s .0 e .1 in
       absurd (rule-others (graph-of s) (step-rule P (graph-of s) (in-play s) (pairs-of s) c (_, I .as-defined .is-inverse)) k three)
@@ -104,13 +104,13 @@ module _ {p : ℕ} (P : OddPrime p) where
   pub row-points : {s t : State} {a : ℕ} {row row′ : List ℕ} {r : Refusal} → ShowsRow P s a row (refused r) t row′ → PointsTo (graph-of s) r
   unfolding row-ruling
   row-points {s} {a = a} {row = row} (row-refused r e) =
-      session-points p s (lent-row (s .session .size) (length row) ∷ [])
+      session-points p s (lent-row (s .session .size) (length row) ∷ []) []
       (needs 7 (decLt a (s .session .size)) ∷ needs 8 (in? (unmatched (in-play s) (pairs-of s)) a) ∷ []) (λ z. omega arith, (λ z. omega arith, tt)) e
 
   pub replays-points : {s t : State} {numbers answers answers′ : List ℕ} {r : Refusal} → Replays P s numbers answers (refused r) t answers′ → PointsTo (graph-of s) r
   unfolding replay-ruling unknown-kind
   replays-points {s} {numbers = numbers} {answers = answers} (refuses-replay r e) =
-      session-points p s (lent-answers (call-count numbers) (length answers) ∷ []) (list-causes numbers) (λ z. omega arith, (λ z. omega arith, tt)) e
+      session-points p s [] (lent-answers (call-count numbers) (length answers) ∷ []) (list-causes numbers) (λ z. omega arith, (λ z. omega arith, tt)) e
 
 -- the cell that a number gives
 abbrev pub cell-in : ℕ → Place

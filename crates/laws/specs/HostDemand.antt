@@ -11,7 +11,7 @@ use Rattle.matching.specs.Decision.{At, accepted}
 use Rattle.matching.specs.Edition.{Edition}
 use Rattle.matching.specs.Graph.{Graph, over}
 use Rattle.matching.specs.Pairs.{Pair, unused, sequence}
-use Rattle.matching.specs.Session.{Session, session, State, in-play}
+use Rattle.matching.specs.Session.{Session, session, State, all-kept, in-play}
 use Rattle.matching.specs.Causes.{session-ruling}
 use Rattle.matching.specs.Opening.{Opening, opened, singular, not-opened, Buffers, players, Opens, opens, opened-state}
 use Rattle.matching.specs.Model.{Call, undo, Answer, done, denied}
@@ -40,6 +40,7 @@ module _ (E : Edition) where
         weights = words (E .width) (s .weights);
         inverse = i;
         sequence = onto (sequence (s .session .size) pairs) (s .sequence);
+        kept = s .kept;
       })
       (read-words (E .width) table (s .inverse) B (omega arith) (λ x h. omega (arith, E .fits, I .small x (omega arith))))
 
@@ -61,14 +62,14 @@ module _ (E : Edition) where
   -- the words of a state, stored over its own bytes
   own : (s : State) → Bytes (s .inverse) → s ≡ stored-over E (unpacked-state E s) s
   own s B =
-      ap (λ i. record { session = s .session; adjacency = s .adjacency; weights = s .weights; inverse = i; sequence = s .sequence })
+      ap (λ i. record { session = s .session; adjacency = s .adjacency; weights = s .weights; inverse = i; sequence = s .sequence; kept = s .kept })
       (sym (own-words (E .width) (s .inverse) B))
 
   -- and over the bytes that a call left
   over-left : (a : Answer) (left s t : State) → length (t .inverse) ≡ length (left .inverse) → stored-over E t (state-stored E a left s) ≡ stored-over E t s
   over-left (denied r) left s t q = refl
   over-left (done x) left s t q =
-      ap (λ i. record { session = t .session; adjacency = s .adjacency; weights = s .weights; inverse = i; sequence = t .sequence })
+      ap (λ i. record { session = t .session; adjacency = s .adjacency; weights = s .weights; inverse = i; sequence = t .sequence; kept = s .kept })
       (onto-again (bytes-of (E .width) (left .inverse)) (bytes-of (E .width) (t .inverse)) (s .inverse) (bytes-length (E .width) (t .inverse) ∙ ap (λ n. E .width * n) q ∙ sym (bytes-length (E .width) (left .inverse))))
 
   left-bytes : (a : Answer) (left s : State) → Bytes (s .inverse) → Bytes (state-stored E a left s .inverse)
@@ -195,7 +196,7 @@ module _ (E : Edition) where
           is = refl;
           bytes = stored-bytes (E .width) (onto table (words (E .width) (b .inverse))) (b .inverse) B;
           read =
-              ap (λ i. record { session = session n []; adjacency = adjacency; weights = words (E .width) weights; inverse = i; sequence = onto (replicate n unused) (b .sequence) })
+              ap (λ i. record { session = session n []; adjacency = adjacency; weights = words (E .width) weights; inverse = i; sequence = onto (replicate n unused) (b .sequence); kept = all-kept })
               (read-words (E .width) table (b .inverse) B (omega arith) (λ x h. omega (arith, E .fits, I .small x (omega arith))));
         }
     back b buffers (singular f) B O k = absurd (omega (arith, k, kind-field 0 2 f 0 (omega arith) (omega arith) (opens-small O)))

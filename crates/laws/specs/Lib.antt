@@ -28,6 +28,7 @@ pub mod Longest
 pub mod Outcomes
 pub mod Decimal
 pub mod Verdicts
+pub mod Kept
 -- The host: its number, words as bytes, reading, and demand 3 by single calls.
 pub mod Numbers
 pub mod HostCells

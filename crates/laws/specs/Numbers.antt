@@ -18,7 +18,7 @@ use Rattle.matching.specs.Graph.{Graph, largest, pair-count, Faulty}
 use Rattle.matching.specs.Pairs.{Pair, Pairs, unmatched, in?, pairs-on}
 use Rattle.matching.specs.Session.{Session, State, in-play, graph-of, pairs-of}
 use Rattle.matching.specs.Causes.{Lent, lent-row, lent-to-opening, lent-to-session, opening-causes, session-causes, first-short, too-large, too-short, bad-cell, bad-weight, first-faulty, cell-at, first-outside, ill-formed, not-inverse, opening-ruling, session-ruling}
-use Rattle.matching.specs.Decided.{well-formed?, inverse-table?}
+use Rattle.matching.specs.Decided.{well-formed-session?, inverse-table?}
 use Rattle.matching.specs.Opening.{Opening, opened, singular, not-opened, Buffers, Opens, refuses-opening, opens, finds-singular}
 use Rattle.matching.specs.Model.{Call, pick, Answer, done, denied, needs, Allowed, Step, Rule, picks, pick-refused, picks-lowest, none-left, no-pair, undo-refused, undoes}
 use Rattle.matching.specs.Calls.{Returned, state-after, Handles, unsound, refuses, carries, Runs, none, more, row-ruling, ShowsRow, shows, row-refused}
@@ -200,6 +200,10 @@ abbrev SmallNumbers : List Lent → Type 0
 SmallNumbers [] = Unit {0}
 SmallNumbers (b ∷ later) = (b .number < 2 ^ 16) × SmallNumbers later
 
+small-both : (a b : List Lent) → SmallNumbers a → SmallNumbers b → SmallNumbers (a ++ b)
+small-both [] b h k = k
+small-both (x ∷ a) b h k = (h .0, small-both a b (h .1) k)
+
 place-short : (buffers : List Lent) → SmallNumbers buffers → (x : Place) → first-short buffers ≡ at x → PlaceFits 2 x
 place-short [] h x e = clash (sym e)
 place-short (b ∷ later) h x e = go (decLt (b .length) (b .needed)) e (place-short later (h .1) x)
@@ -282,18 +286,18 @@ opens-small {p} {g} (finds-singular f witness e l s) =
 
 module _ {p : ℕ} (P : OddPrime p) where
   -- and so is what a session call answers, whatever else it is lent and looks at afterwards
-  session-small : (s : State) (besides : List Lent) (later : List Cause) {r : Refusal} → SmallNumbers besides → SmallCauses later
-      → judge (session-causes p s besides ++ later) ≡ refused r → Small r
+  session-small : (s : State) (before after : List Lent) (later : List Cause) {r : Refusal} → SmallNumbers before → SmallNumbers after → SmallCauses later
+      → judge (session-causes p s before after ++ later) ≡ refused r → Small r
   unfolding ill-formed not-inverse
-  session-small s besides later h k e =
-      small-causes p (graph-of s) (lent-to-session s besides)
-      (ill-formed (graph-of s) (s .session .made) (s .sequence) ∷ not-inverse p (graph-of s) (unmatched (in-play s) (pairs-of s)) (s .inverse) ∷ later)
-      (omega arith, (omega arith, (omega arith, (omega arith, h))))
-      (omega arith, omega arith, at-zero 5 (not? (well-formed? (graph-of s) (s .session .made) (s .sequence))) (λ z. omega arith), (omega arith, omega arith, at-zero 6 (not? (inverse-table? p (graph-of s) (unmatched (in-play s) (pairs-of s)) (s .inverse))) (λ z. omega arith), k)) e
+  session-small s before after later b h k e =
+      small-causes p (graph-of s) (lent-to-session s before after)
+      (ill-formed s ∷ not-inverse p (graph-of s) (unmatched (in-play s) (pairs-of s)) (s .inverse) ∷ later)
+      (omega arith, (omega arith, (omega arith, (omega arith, small-both before _ b (omega arith, h)))))
+      (omega arith, omega arith, at-zero 5 (not? (well-formed-session? s)) (λ z. omega arith), (omega arith, omega arith, at-zero 6 (not? (inverse-table? p (graph-of s) (unmatched (in-play s) (pairs-of s)) (s .inverse))) (λ z. omega arith), k)) e
 
   unsound-small : (s : State) {r : Refusal} → session-ruling p s ≡ refused r → Small r
   unfolding session-ruling
-  unsound-small s e = session-small s [] [] tt tt e
+  unsound-small s e = session-small s [] [] [] tt tt tt e
 
   rule-small : (g : Graph) {S : Subset} {pairs after : Pairs} {c : Call} {a : Answer} {r : Refusal} → Rule P g S pairs c a after → a ≡ denied r → Small r
   rule-small g {S} {pairs} {r = r} (pick-refused {a} {b} {r = w} e) q =
@@ -383,9 +387,9 @@ module _ {p : ℕ} (P : OddPrime p) where
   unfolding row-ruling
   row-small {s} {a = a} {row = row} (shows e) =
       made-few s
-      (more-accepted p s (lent-row (s .session .size) (length row) ∷ []) (needs 7 (decLt a (s .session .size)) ∷ needs 8 (in? (unmatched (in-play s) (pairs-of s)) a) ∷ []) .0 e .0)
+      (more-accepted p s (lent-row (s .session .size) (length row) ∷ []) [] (needs 7 (decLt a (s .session .size)) ∷ needs 8 (in? (unmatched (in-play s) (pairs-of s)) a) ∷ []) .0 e .0)
   row-small {s} {a = a} {row = row} (row-refused r e) =
-      session-small s (lent-row (s .session .size) (length row) ∷ []) (needs 7 (decLt a (s .session .size)) ∷ needs 8 (in? (unmatched (in-play s) (pairs-of s)) a) ∷ []) (omega arith, tt)
+      session-small s (lent-row (s .session .size) (length row) ∷ []) [] (needs 7 (decLt a (s .session .size)) ∷ needs 8 (in? (unmatched (in-play s) (pairs-of s)) a) ∷ []) (omega arith, tt) tt
       (omega arith, omega arith, at-zero 7 (not? (decLt a (s .session .size))) (λ z. omega arith), (omega arith, omega arith, at-zero 8 (not? (in? (unmatched (in-play s) (pairs-of s)) a)) (λ z. omega arith), tt)) e
 
   list-small : (numbers : List ℕ) → SmallCauses (list-causes numbers)
@@ -412,7 +416,7 @@ module _ {p : ℕ} (P : OddPrime p) where
   pub replays-small : {s t : State} {numbers answers answers′ : List ℕ} {v : Ruling} → Replays P s numbers answers v t answers′ → SmallRuling v (t .session)
   unfolding replay-ruling
   replays-small {s} {numbers = numbers} {answers = answers} (refuses-replay r e) =
-      session-small s (lent-answers (call-count numbers) (length answers) ∷ []) (list-causes numbers) (omega arith, tt) (list-small numbers) e
+      session-small s [] (lent-answers (call-count numbers) (length answers) ∷ []) (list-causes numbers) tt (omega arith, tt) (list-small numbers) e
   replays-small {s} {numbers = numbers} {answers = answers} (replays returned e runs) =
       run-made runs (made-few s (replay-accepted P s numbers answers .0 e .0))
 

@@ -6,17 +6,17 @@ use mathlib.Core.List.{List, []}
 use Prim.Native.Nat.{ℕ, zero, suc, _+_, _*_, _/_, _%_, _^_, _<_}
 use native.Mathlib.Nat.{mod-lt}
 use native.Mathlib.Omega.{arith}
-use lib.ListN.{length, getD}
+use lib.ListN.{length, getD, replicate, getD-replicate}
 use lib.Seq.{ext-getD}
 use Rattle.lists.specs.Values.{length-list-of, getD-list-of, list-of}
 use Rattle.lists.specs.Table.{row-below, column-below, index-of, index-row, index-column, index-below, table, vector}
 use Rattle.modular.specs.Prime.{OddPrime, below-equal, remainder}
 use Rattle.modular.specs.Congruence.{Congruent, equals, _⨾_}
-use Rattle.skew.specs.Subset.{Subset, count, count-none, count-suc}
+use Rattle.skew.specs.Subset.{Subset, _∈_, marked, marked-in, count, count-none, count-suc, count-equal}
 use Rattle.skew.specs.Matching.{invertible-even}
 use Rattle.skew.specs.Inverse.{Matrix, Inverse, Invertible, inverse-unique}
 use Rattle.skew.specs.Column.{FirstDependent, Witness, witness-unique}
-use Rattle.skew.specs.Same.{inverse-same, witness-same}
+use Rattle.skew.specs.Same.{inverse-same, witness-same, first-same}
 use Rattle.skew.specs.Decide.{Outcome, inverse, column, outcome, witness-singular, first-unique}
 use Rattle.matching.specs.Decision.{Every, Ruling, accepted, refused}
 use Rattle.matching.specs.Edition.{Edition}
@@ -31,12 +31,32 @@ pub count-everything : (n : ℕ) → count n everything ≡ n
 count-everything zero = count-none everything
 count-everything (suc n) = simp (count-suc, count-everything n) (omega arith)
 
+-- every vertex is marked in a row of ones
+pub every-vertex : (n v : ℕ) → v < n → v ∈ marked (replicate n 1)
+every-vertex n v l = marked-in (replicate n 1) v (λ e. omega (arith, e, getD-replicate {A = ℕ} n v 1 0 l))
+
+pub count-vertices : (n : ℕ) → count n (marked (replicate n 1)) ≡ n
+count-vertices n = count-equal n (marked (replicate n 1)) everything (λ v l. sym (every-vertex n v l)) ∙ count-everything n
+
 -- a table with the same first words
 pub table-over : {p : ℕ} {g : Graph} {L : Subset} (words other : List ℕ) → ((x : ℕ) → x < g .n * g .n → getD other x 0 ≡ getD words x 0) → InverseTable p g L words
     → InverseTable p g L other
 table-over {p} {g} words other e I = record {
   small = λ x h. rw (e x h) (I .small x h);
   is-inverse = inverse-same (λ _ _ _ _. refl) (λ _ _. refl) (λ i j hi hj. equals (e (i * g .n + j) (index-below (g .n) i j hi hj))) (I .is-inverse);
+}
+
+-- a table is the inverse, and a witness is one, on every set with the same elements below n
+pub table-on : {p : ℕ} {g : Graph} {L M : Subset} {words : List ℕ} → ((i : ℕ) → i < g .n → M i ≡ L i) → InverseTable p g L words
+    → InverseTable p g M words
+table-on members I = record { small = I .small; is-inverse = inverse-same (λ _ _ _ _. refl) members (λ _ _ _ _. equals refl) (I .is-inverse) }
+
+pub singular-on : {p : ℕ} {g : Graph} {L M : Subset} {f : ℕ} {words : List ℕ} → ((i : ℕ) → i < g .n → M i ≡ L i) → Singular p g L f words
+    → Singular p g M f words
+singular-on members S = record {
+  small = S .small;
+  first = first-same (λ _ _ _ _. refl) members (S .first);
+  kernel = witness-same (λ _ _ _ _. refl) members (λ _ _. equals refl) (S .kernel);
 }
 
 module _ {p : ℕ} (P : OddPrime p) (g : Graph) (S : Subset) where

@@ -55,7 +55,9 @@ module _ {p : ℕ} (P : OddPrime p) where
       → (replay-ruling P s numbers answers ≡ accepted)
       ↔ ((session-ruling p s ≡ accepted) × LongEnough (lent-answers (call-count numbers) (length answers) ∷ []) × (judge (list-causes numbers) ≡ accepted))
   unfolding replay-ruling
-  replay-accepted s numbers answers = more-accepted p s (lent-answers (call-count numbers) (length answers) ∷ []) (list-causes numbers)
+  replay-accepted s numbers answers =
+      let m = more-accepted p s [] (lent-answers (call-count numbers) (length answers) ∷ []) (list-causes numbers) in
+      (λ e. let h = m .0 e in (h .0, h .2, h .3), λ h. m .1 (h .0, tt, h .1, h .2))
 
   pub replays-some : (s : State) (numbers answers : List ℕ) → (v : Ruling) × (t : State) × (after : List ℕ) × Replays P s numbers answers v t after
   replays-some s numbers answers = go (replay-ruling P s numbers answers) refl

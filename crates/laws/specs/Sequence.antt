@@ -2,7 +2,7 @@
 use mathlib.Core.Path.{_≡_, refl, sym, ap, _∙_}
 use mathlib.Core.Logic.{_≢_}
 use mathlib.Core.List.{List, [], _∷_, _++_, append-assoc}
-use Prim.Native.Nat.{ℕ, zero, suc, _+_, _-_, _≤_, _<_}
+use Prim.Native.Nat.{ℕ, zero, suc, _+_, _-_, _/_, _≤_, _<_}
 use native.Mathlib.Omega.{arith}
 use native.Mathlib.Decide.{ℕ-discrete, decLt}
 use lib.ListN.{length, getD, take, replicate, length-append, length-replicate, getD-replicate, List·getD-append}
@@ -153,6 +153,44 @@ module _ (g : Graph) (S : Subset) where
           ∙ List·getD-append spare rest 0 k o'
           ∙ getD-replicate (g .n - (length pairs + length pairs)) k unused 0 o
 
+-- a vertex that is unmatched is in play
+pub unmatched-within : (S : Subset) (pairs : Pairs) (v : ℕ) → v ∈ unmatched S pairs → v ∈ S
+unfolding unmatched
+unmatched-within S [] v m = m
+unmatched-within S (e ∷ earlier) v m = unmatched-within S earlier v (still (unmatched S earlier) (e .smaller) (still (remove (unmatched S earlier) (e .smaller)) (e .larger) m))
+  where
+    still : (L : Subset) (a : ℕ) → v ∈ remove L a → v ∈ L
+    still L a m = go (ℕ-discrete v a)
+      where
+        go : Dec (v ≡ a) → v ∈ L
+        go (yes e) = clash m (ap (remove L a) e ∙ remove-same L a)
+        go (no d) = sym (remove-other L a v d) ∙ m
+
+-- the vertices of the pairs are in play
+abbrev pub Inside : Subset → ℕ → List ℕ → Type 0
+Inside S made s = Every (made + made) (λ x. getD s x 0 ∈ S)
+
+-- so it is in the sequence of a matching, whatever stands after it
+pub inside-sequence : (g : Graph) (S : Subset) (pairs : Pairs) (rest : List ℕ) → Matching g S pairs → Inside S (length pairs) (sequence (g .n) pairs ++ rest)
+unfolding sequence
+inside-sequence g S pairs rest M x l = rw append-assoc (go (ℕ-discrete x (x / 2 + x / 2)))
+  where
+    spare : List ℕ
+    spare = replicate (g .n - (length pairs + length pairs)) unused ++ rest
+
+    xs : List ℕ
+    xs = bytes pairs ++ spare
+
+    two : (getD xs (x / 2 + x / 2) 0 ∈ S) × (getD xs (x / 2 + x / 2 + 1) 0 ∈ S)
+    two =
+        every-pair g S (λ a b. (a ∈ S) × (b ∈ S))
+        (λ e earlier f. (unmatched-within S earlier (e .smaller) (f .smaller-left), unmatched-within S earlier (e .larger) (f .larger-left)))
+        pairs spare M (x / 2) (omega arith)
+
+    go : Dec (x ≡ x / 2 + x / 2) → getD xs x 0 ∈ S
+    go (yes e) = ap (λ y. S (getD xs y 0)) e ∙ two .0
+    go (no d) = let e : x ≡ x / 2 + x / 2 + 1 = omega arith in ap (λ y. S (getD xs y 0)) e ∙ two .1
+
 -- a well-formed sequence is that of the pairs read off it
 pub length-pairs-on : (s : List ℕ) (k : ℕ) → length (pairs-on s k) ≡ k
 unfolding pairs-on
@@ -193,10 +231,6 @@ sequence-on g made s l W =
         ∙ getD-append-add (take (made + made) s) _ d 0
         ∙ getD-replicate (g .n - (made + made)) d unused 0 (omega arith)
         ∙ sym (getD-take (g .n) s x 0 h ∙ W .rest x h (omega arith))
-
--- the vertices of the pairs are in play
-abbrev pub Inside : Subset → ℕ → List ℕ → Type 0
-Inside S made s = Every (made + made) (λ x. getD s x 0 ∈ S)
 
 -- a vertex in play that is not among the first bytes is unmatched
 pub left-on : (S : Subset) (s : List ℕ) (v k : ℕ) → v ∈ S → Every (k + k) (λ x. getD s x 0 ≢ v) → v ∈ unmatched S (pairs-on s k)

@@ -10,10 +10,10 @@ use lib.ListN.{length}
 use Rattle.lists.specs.Choose.{choose}
 use Rattle.matching.specs.Decision.{Every, index, absent, at, when, Cause, accepted, judge}
 use Rattle.matching.specs.Graph.{Graph, largest, pair-count, fault-at, InRange, InOrder}
-use Rattle.matching.specs.Session.{State, in-play, graph-of, pairs-of, InverseTable, WellFormed}
+use Rattle.matching.specs.Session.{State, in-play, graph-of, pairs-of, InverseTable, WellFormed, KeptFits}
 use Rattle.matching.specs.Pairs.{unmatched}
-use Rattle.matching.specs.Decided.{inverse-table?, well-formed?}
-use Rattle.matching.specs.Causes.{Lent, LongEnough, lent-graph, lent-to-opening, opening-causes, lent-to-session, session-causes, too-large, first-short, first-faulty, cell-at, bad-cell, in-range?, first-outside, bad-weight, ill-formed, not-inverse, opening-ruling, session-ruling}
+use Rattle.matching.specs.Decided.{inverse-table?, well-formed-session?}
+use Rattle.matching.specs.Causes.{Lent, LongEnough, lent-kept, lent-graph, lent-to-opening, opening-causes, lent-to-session, session-causes, too-large, first-short, first-faulty, cell-at, bad-cell, in-range?, first-outside, bad-weight, ill-formed, not-inverse, opening-ruling, session-ruling}
 use Rattle.laws.specs.Judge.{stable, clash, NoneApplies, judge-accepted, when-absent, unless-absent, found-absent}
 
 pub short-absent : (buffers : List Lent) → (first-short buffers ≡ absent) ↔ LongEnough buffers
@@ -43,6 +43,7 @@ pub record SessionFits (s : State) : Type 0 where
   pub graph : GraphFits (graph-of s)
   pub inverse-fits : s .session .size * s .session .size ≤ length (s .inverse)
   pub sequence-fits : s .session .size ≤ length (s .sequence)
+  pub kept-fits : s .session .size ≤ length (s .kept)
 
 pub graph-fits : (g : Graph) → LongEnough (lent-graph g) ↔ GraphFits g
 graph-fits g = (λ h. record { cells = h .0; weights = h .1 .0 }, λ f. (f .cells, (f .weights, tt)))
@@ -61,14 +62,29 @@ opening-fits g inverse sequence witness work = (
       (f .graph .cells, (f .graph .weights, (f .inverse-fits, (f .sequence-fits, (f .witness-fits, (f .work-fits, tt)))))),
 )
 
-pub session-fits : (s : State) (more : List Lent) → LongEnough (lent-to-session s more) ↔ (SessionFits s × LongEnough more)
-session-fits s more = (
-  λ h. (
-    record { graph = record { cells = h .0; weights = h .1 .0 }; inverse-fits = h .1 .1 .0; sequence-fits = h .1 .1 .1 .0 },
-    h .1 .1 .1 .1,
-  ),
-  λ f. (f .0 .graph .cells, (f .0 .graph .weights, (f .0 .inverse-fits, (f .0 .sequence-fits, f .1)))),
-)
+-- the buffers of two lists
+long-both : (a b : List Lent) → LongEnough (a ++ b) ↔ (LongEnough a × LongEnough b)
+long-both [] b = (λ h. (tt, h), λ h. h .1)
+long-both (x ∷ a) b = let k = long-both a b in (λ h. ((h .0, k .0 (h .1) .0), k .0 (h .1) .1), λ h. (h .0 .0, k .1 (h .0 .1, h .1)))
+
+pub session-fits : (s : State) (before after : List Lent)
+    → LongEnough (lent-to-session s before after) ↔ (SessionFits s × LongEnough before × LongEnough after)
+session-fits s before after =
+    let m = long-both before (lent-kept (s .session .size) (length (s .kept)) ∷ after) in (
+      λ h.
+          let k = m .0 (h .1 .1 .1 .1) in (
+            record {
+              graph = record { cells = h .0; weights = h .1 .0 };
+              inverse-fits = h .1 .1 .0;
+              sequence-fits = h .1 .1 .1 .0;
+              kept-fits = k .1 .0;
+            },
+            k .0,
+            k .1 .1,
+          ),
+      λ f.
+          (f .0 .graph .cells, (f .0 .graph .weights, (f .0 .inverse-fits, (f .0 .sequence-fits, m .1 (f .1, (f .0 .kept-fits, f .2)))))),
+    )
 
 size-ok : (n : ℕ) → (too-large n .finding ≡ absent) ↔ (n ≤ largest)
 size-ok n =
@@ -112,51 +128,54 @@ opening-accepted p g inverse sequence witness work =
 pub record Sound (p : ℕ) (s : State) : Type 0 where
   pub in-order : InOrder p (graph-of s)
   pub well-formed : WellFormed (graph-of s) (s .session .made) (s .sequence)
+  pub kept-fits : KeptFits (s .session .size) (s .session .made) (s .sequence) (s .kept)
   pub as-defined : InverseTable p (graph-of s) (unmatched (in-play s) (pairs-of s)) (s .inverse)
 
-pub session-in-order : (p : ℕ) (s : State) (more : List Lent)
-    → NoneApplies (session-causes p s more) ↔ (LongEnough (lent-to-session s more) × Sound p s)
+pub session-in-order : (p : ℕ) (s : State) (before after : List Lent)
+    → NoneApplies (session-causes p s before after) ↔ (LongEnough (lent-to-session s before after) × Sound p s)
 unfolding ill-formed not-inverse
-session-in-order p s more =
-    let o = graph-in-order p (graph-of s) (lent-to-session s more) in
-    let w = unless-absent (well-formed? (graph-of s) (s .session .made) (s .sequence)) 0 in
+session-in-order p s before after =
+    let o = graph-in-order p (graph-of s) (lent-to-session s before after) in
+    let w = unless-absent (well-formed-session? s) 0 in
     let h = unless-absent (inverse-table? p (graph-of s) (unmatched (in-play s) (pairs-of s)) (s .inverse)) 0 in (
       λ a.
           let k = o .0 (a .0, (a .1 .0, (a .1 .1 .0, (a .1 .1 .1 .0, tt)))) in
-          (k .0, record { in-order = k .1; well-formed = w .0 (a .1 .1 .1 .1 .0); as-defined = h .0 (a .1 .1 .1 .1 .1 .0) }),
+          let f = w .0 (a .1 .1 .1 .1 .0) in
+          (k .0, record { in-order = k .1; well-formed = f .0; kept-fits = f .1; as-defined = h .0 (a .1 .1 .1 .1 .1 .0) }),
       λ c.
           let k = o .1 (c .0, c .1 .in-order) in
-          (k .0, (k .1 .0, (k .1 .1 .0, (k .1 .1 .1 .0, (w .1 (c .1 .well-formed), (h .1 (c .1 .as-defined), tt)))))),
+          (k .0, (k .1 .0, (k .1 .1 .0, (k .1 .1 .1 .0, (w .1 (c .1 .well-formed, c .1 .kept-fits), (h .1 (c .1 .as-defined), tt)))))),
     )
 
 pub session-accepted : (p : ℕ) (s : State) → (session-ruling p s ≡ accepted) ↔ (SessionFits s × Sound p s)
 unfolding session-ruling
 session-accepted p s =
-    let r = judge-accepted (session-causes p s []) in
-    let o = session-in-order p s [] in
-    let f = session-fits s [] in
-    (λ e. let h = o .0 (r .0 e) in (f .0 (h .0) .0, h .1), λ h. r .1 (o .1 (f .1 (h .0, tt), h .1)))
+    let r = judge-accepted (session-causes p s [] []) in
+    let o = session-in-order p s [] [] in
+    let f = session-fits s [] [] in
+    (λ e. let h = o .0 (r .0 e) in (f .0 (h .0) .0, h .1), λ h. r .1 (o .1 (f .1 (h .0, tt, tt), h .1)))
 
 -- none of the causes of two lists applies
 none-both : (a b : List Cause) → NoneApplies (a ++ b) ↔ (NoneApplies a × NoneApplies b)
 none-both [] b = (λ h. (tt, h), λ h. h .1)
 none-both (c ∷ a) b = let k = none-both a b in (λ h. ((h .0, k .0 (h .1) .0), k .0 (h .1) .1), λ h. (h .0 .0, k .1 (h .0 .1, h .1)))
 
--- a session call that is lent `more` as well and looks at `later` after 1 to 6 is accepted exactly when the session is sound, `more` are
--- long enough, and none of the later causes applies
-pub more-accepted : (p : ℕ) (s : State) (more : List Lent) (later : List Cause)
-    → (judge (session-causes p s more ++ later) ≡ accepted) ↔ ((session-ruling p s ≡ accepted) × LongEnough more × (judge later ≡ accepted))
-more-accepted p s more later =
-    let r = judge-accepted (session-causes p s more ++ later) in
-    let n = none-both (session-causes p s more) later in
-    let o = session-in-order p s more in
-    let l = session-fits s more in (
+-- a session call that is lent more buffers, before and after the kept row, and looks at `later` after 1 to 6 is accepted exactly when the
+-- session is sound, these buffers are long enough, and none of the later causes applies
+pub more-accepted : (p : ℕ) (s : State) (before after : List Lent) (later : List Cause)
+    → (judge (session-causes p s before after ++ later) ≡ accepted)
+    ↔ ((session-ruling p s ≡ accepted) × LongEnough before × LongEnough after × (judge later ≡ accepted))
+more-accepted p s before after later =
+    let r = judge-accepted (session-causes p s before after ++ later) in
+    let n = none-both (session-causes p s before after) later in
+    let o = session-in-order p s before after in
+    let l = session-fits s before after in (
       λ e.
           let none = n .0 (r .0 e) in
           let ok = o .0 (none .0) in
           let long = l .0 (ok .0) in
-          (session-accepted p s .1 (long .0, ok .1), long .1, judge-accepted later .1 (none .1)),
+          (session-accepted p s .1 (long .0, ok .1), long .1, long .2, judge-accepted later .1 (none .1)),
       λ h.
           let ok = session-accepted p s .0 (h .0) in
-          r .1 (n .1 (o .1 (l .1 (ok .0, h .1), ok .1), judge-accepted later .0 (h .2))),
+          r .1 (n .1 (o .1 (l .1 (ok .0, h .1, h .2), ok .1), judge-accepted later .0 (h .3))),
     )

@@ -25,7 +25,7 @@ use Rattle.matching.specs.Listing.{input-limit, decimal, text-verdict, text-ref
 use Rattle.laws.specs.MatchingLaws.{perfect-half, odd-imperfect}
 use Rattle.laws.specs.ModelLaws.{Automatic, lowest, nobody, automatic-cases, step-nonsingular, picks-to-come, unlike}
 use Rattle.laws.specs.History.{change, change-matching}
-use Rattle.laws.specs.OpeningOutcome.{count-everything}
+use Rattle.laws.specs.OpeningOutcome.{count-vertices}
 use Rattle.laws.specs.Reading.{reads-unique}
 use Rattle.laws.specs.Outcomes.{sheets}
 use Rattle.laws.specs.Decimal.{decimal-last}
@@ -175,7 +175,7 @@ printed-odd-exactly {E} {n = n} {weights = weights} {edges = edges} L R =
     let g = graph n weights edges in
     let T = lists-lines L R in
     let exactly = odd-exactly (E .prime) g (players-of n) (T .1) in
-    let size = count-everything n in (
+    let size = count-vertices n in (
       λ X. omega (arith, size, exactly .0 (lines-end (E .prime) g (players-of n) (first-line n (length edges)) (T .1) (rw (T .2) at X))),
       λ o. rw (T .2) (ends-after (first-line n (length edges)) (exactly .1 (omega (arith, size)))),
     )
