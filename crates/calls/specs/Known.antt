@@ -13,7 +13,7 @@ use Rattle.matching.specs.Graph.{Graph, over, tutte}
 use Rattle.matching.specs.Pairs.{Pair, Pairs, pair-of, unmatched, pairs-on}
 use Rattle.matching.specs.Pairs as spelling
 use Rattle.matching.specs.Matching.{Matching, another}
-use Rattle.matching.specs.Session.{State, in-play, with-pairs, InverseTable, state}
+use Rattle.matching.specs.Session.{State, kept-in, in-play, with-pairs, InverseTable, state}
 use Rattle.matching.specs.Causes.{Lent, session-ruling}
 use Rattle.matching.specs.Model.{Call, pick, automatic, done, denied, skew, pick-ruling, Allowed, OpenPartner, step, picks, pick-refused, picks-lowest, none-left}
 use Rattle.matching.specs.Calls.{Handles, unsound, refuses, carries}
@@ -38,56 +38,65 @@ use Rattle.calls.specs.Bytes.{bytes-appended}
 use Rattle.calls.specs.declared.Reply.{Reply}
 
 -- the session is sound, and the marks are those of the unmatched vertices
-pub record Known (n made : ℕ) (adjacency weights inverse sequence marks : List ℕ) : Type 0 where
-  pub sound : session-ruling modulus (state n made adjacency weights inverse sequence) ≡ accepted
-  pub left : Left n sequence made marks
+pub record Known (n made : ℕ) (adjacency weights inverse sequence kept marks : List ℕ) : Type 0 where
+  pub sound : session-ruling modulus (state n made adjacency weights inverse sequence kept) ≡ accepted
+  pub left : Left n (kept-in n kept) sequence made marks
 
 -- the call does what the definition says, and the marks are those of the vertices then unmatched
-pub record Called (c : Call) (n made : ℕ) (adjacency weights inverse sequence : List ℕ) (r : Reply) (inverse′ sequence′ marks′ : List ℕ) : Type 0 where
-  pub handled : Handles modulus-prime (state n made adjacency weights inverse sequence) c (answer-of (r .answer))
-      (state n (r .made) adjacency weights inverse′ sequence′)
-  pub left : Left n sequence′ (r .made) marks′
+pub record Called (c : Call) (n made : ℕ) (adjacency weights inverse sequence kept : List ℕ) (r : Reply) (inverse′ sequence′ marks′ : List ℕ) : Type 0 where
+  pub handled : Handles modulus-prime (state n made adjacency weights inverse sequence kept) c (answer-of (r .answer))
+      (state n (r .made) adjacency weights inverse′ sequence′ kept)
+  pub left : Left n (kept-in n kept) sequence′ (r .made) marks′
 
--- the same for a call that does not read the weights: some weights make the session known, and what the call does holds for all of them
+-- a call does not read the kept row: some row makes the session known, and what the call does holds for all of them
+abbrev pub KnownWith : (n made : ℕ) (adjacency weights inverse sequence marks : List ℕ) → Type 0
+KnownWith n made adjacency weights inverse sequence marks = (kept : List ℕ) × Known n made adjacency weights inverse sequence kept marks
+
+abbrev pub CalledWith : (c : Call) (n made : ℕ) (adjacency weights inverse sequence marks : List ℕ) (r : Reply) (inverse′ sequence′ marks′ : List ℕ) → Type 0
+CalledWith c n made adjacency weights inverse sequence marks r inverse′ sequence′ marks′ =
+    (kept : List ℕ) → Known n made adjacency weights inverse sequence kept marks
+    → Called c n made adjacency weights inverse sequence kept r inverse′ sequence′ marks′
+
+-- and a pick does not read the weights either
 abbrev pub KnownFor : (n made : ℕ) (adjacency inverse sequence marks : List ℕ) → Type 0
-KnownFor n made adjacency inverse sequence marks = (weights : List ℕ) × Known n made adjacency weights inverse sequence marks
+KnownFor n made adjacency inverse sequence marks = (weights kept : List ℕ) × Known n made adjacency weights inverse sequence kept marks
 
 abbrev pub CalledFor : (c : Call) (n made : ℕ) (adjacency inverse sequence marks : List ℕ) (r : Reply) (inverse′ sequence′ marks′ : List ℕ) → Type 0
 CalledFor c n made adjacency inverse sequence marks r inverse′ sequence′ marks′ =
-    (weights : List ℕ) → Known n made adjacency weights inverse sequence marks
-    → Called c n made adjacency weights inverse sequence r inverse′ sequence′ marks′
+    (weights kept : List ℕ) → Known n made adjacency weights inverse sequence kept marks
+    → Called c n made adjacency weights inverse sequence kept r inverse′ sequence′ marks′
 
 -- a reply that denies a call which the definition denies
-pub called-denied : {c : Call} {n made cause : ℕ} {adjacency weights inverse sequence inverse′ sequence′ marks′ : List ℕ} {r : Reply}
+pub called-denied : {c : Call} {n made cause : ℕ} {adjacency weights inverse sequence kept inverse′ sequence′ marks′ : List ℕ} {r : Reply}
     → (r .made ≡ made) × (answer-of (r .answer) ≡ denied (because cause 0))
-    → Handles modulus-prime (state n made adjacency weights inverse sequence) c (denied (because cause 0)) (state n made adjacency weights inverse′ sequence′)
-    → Left n sequence′ made marks′ → Called c n made adjacency weights inverse sequence r inverse′ sequence′ marks′
+    → Handles modulus-prime (state n made adjacency weights inverse sequence kept) c (denied (because cause 0)) (state n made adjacency weights inverse′ sequence′ kept)
+    → Left n (kept-in n kept) sequence′ made marks′ → Called c n made adjacency weights inverse sequence kept r inverse′ sequence′ marks′
 called-denied e h l = record { handled = rw (e .0, e .1) h; left = rw (e .0) l }
 
 -- states with the same parts
-pub same-state : (n : ℕ) (adjacency weights : List ℕ) {m m′ : ℕ} {i i′ q q′ : List ℕ} → m ≡ m′ → i ≡ i′ → q ≡ q′
-    → state n m adjacency weights i q ≡ state n m′ adjacency weights i′ q′
-same-state n adjacency weights em ei eq = rw (em, ei, eq)
+pub same-state : (n : ℕ) (adjacency weights kept : List ℕ) {m m′ : ℕ} {i i′ q q′ : List ℕ} → m ≡ m′ → i ≡ i′ → q ≡ q′
+    → state n m adjacency weights i q kept ≡ state n m′ adjacency weights i′ q′ kept
+same-state n adjacency weights kept em ei eq = rw (em, ei, eq)
 
 -- a confirmation makes the session known, or refuses every call
-module _ {n made : ℕ} {adjacency weights inverse sequence marks : List ℕ} {v : Ruling} (C : Confirmed n made adjacency weights inverse sequence marks v) where
-  pub known : v ≡ Accepted → Known n made adjacency weights inverse sequence marks
+module _ {n made : ℕ} {adjacency weights inverse sequence kept marks : List ℕ} {v : Ruling} (C : Confirmed n made adjacency weights inverse sequence kept marks v) where
+  pub known : v ≡ Accepted → Known n made adjacency weights inverse sequence kept marks
   known e = let ok : ruling-of v ≡ accepted = ap ruling-of e in record { sound = sym (C .ruled) ∙ ok; left = C .left ok }
 
   pub not-sound : (c : Call) {r : _} → v ≡ Refused r
-      → Handles modulus-prime (state n made adjacency weights inverse sequence) c (denied (refusal-of r)) (state n made adjacency weights inverse sequence)
+      → Handles modulus-prime (state n made adjacency weights inverse sequence kept) c (denied (refusal-of r)) (state n made adjacency weights inverse sequence kept)
   not-sound c e = unsound _ (sym (C .ruled) ∙ ap ruling-of e)
 
-pub known-lent : {l : Lent} {n made : ℕ} {adjacency weights inverse sequence marks : List ℕ} {v : Ruling} → ConfirmedLent l n made adjacency weights inverse sequence marks v
-    → v ≡ Accepted → Known n made adjacency weights inverse sequence marks
+pub known-lent : {before after : List Lent} {n made : ℕ} {adjacency weights inverse sequence kept marks : List ℕ} {v : Ruling} → ConfirmedLent before after n made adjacency weights inverse sequence kept marks v
+    → v ≡ Accepted → Known n made adjacency weights inverse sequence kept marks
 known-lent C e = known (C .confirmed (ap ruling-of e)) e
 
-module _ {n made : ℕ} {adjacency weights inverse sequence marks : List ℕ} (K : Known n made adjacency weights inverse sequence marks) where
+module _ {n made : ℕ} {adjacency weights inverse sequence kept marks : List ℕ} (K : Known n made adjacency weights inverse sequence kept marks) where
   abbrev g : Graph
   g = over n adjacency weights
 
   abbrev s : State
-  s = state n made adjacency weights inverse sequence
+  s = state n made adjacency weights inverse sequence kept
 
   abbrev pairs : Pairs
   pairs = pairs-on sequence made
@@ -120,7 +129,7 @@ module _ {n made : ℕ} {adjacency weights inverse sequence marks : List ℕ} (K
   words = table-over inverse _ (λ x h. getD-take (n * n) inverse x 0 h) (ok .1 .as-defined)
 
   pub matching : Matching g (in-play s) pairs
-  matching = matching-on g (in-play s) made sequence (ok .1 .well-formed) (λ x l. refl)
+  matching = matching-on g (in-play s) made sequence (ok .1 .well-formed) (ok .1 .kept-fits .matched)
 
   -- the sequence is that of the session's pairs
   pub spelled : sequence ≡ spelling.sequence n pairs ++ drop n sequence
@@ -172,18 +181,18 @@ module _ {n made : ℕ} {adjacency weights inverse sequence marks : List ℕ} (K
           (invertible-without modulus-prime n (tutte g modulus) (skew modulus-prime g) removed (A .named .0) (A .named .1) (words .is-inverse) .0 (A .nonsingular))
           (W .shrinks)
 
-      after : with-pairs g (e ∷ pairs) (W .words) s ≡ state n (made + 1) adjacency weights inverse′ sequence′
+      after : with-pairs g (e ∷ pairs) (W .words) s ≡ state n (made + 1) adjacency weights inverse′ sequence′ kept
       after =
-          same-state n adjacency weights counted (sym (W .inverse-is))
+          same-state n adjacency weights kept counted (sym (W .inverse-is))
           (ap (λ k. spelling.sequence n (e ∷ pairs) ++ drop k sequence) (length-sequence g (in-play s) (e ∷ pairs) with-pair) ∙ sym spelled′)
 
       pub appends : (c : Call) → step modulus-prime g (in-play s) pairs c ≡ record { answer = done e; pairs = e ∷ pairs }
-          → Handles modulus-prime s c (done x) (state n (made + 1) adjacency weights inverse′ sequence′)
+          → Handles modulus-prime s c (done x) (state n (made + 1) adjacency weights inverse′ sequence′ kept)
       appends c q =
           rw (W .pair, ← after)
           (carries e (e ∷ pairs) (W .words) (K .sound) q (W .shrinks .size ∙ length-take-le (n * n) inverse (tables .entries)) held′)
 
-      pub appends-left : Left n sequence′ (made + 1) marks′
+      pub appends-left : Left n (kept-in n kept) sequence′ (made + 1) marks′
       unfolding unmatched
       appends-left = record {
         size = rw (W .marks-is) (simp length-set (K .left .size));
@@ -239,6 +248,6 @@ module _ {n made : ℕ} {adjacency weights inverse sequence marks : List ℕ} (K
   automatic-step C R = rule-step modulus-prime g (in-play s) (picks-lowest (lowest-left C) R)
 
   -- after a call the session is known again
-  pub called-known : {c : Call} {r : Reply} {inverse′ sequence′ marks′ : List ℕ} → Called c n made adjacency weights inverse sequence r inverse′ sequence′ marks′
-      → Known n (r .made) adjacency weights inverse′ sequence′ marks′
-  called-known C = record { sound = handles-sound modulus-prime s (K .sound) (λ x l. refl) (C .handled); left = C .left }
+  pub called-known : {c : Call} {r : Reply} {inverse′ sequence′ marks′ : List ℕ} → Called c n made adjacency weights inverse sequence kept r inverse′ sequence′ marks′
+      → Known n (r .made) adjacency weights inverse′ sequence′ kept marks′
+  called-known C = record { sound = handles-sound modulus-prime s (K .sound) (C .handled); left = C .left }

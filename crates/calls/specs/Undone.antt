@@ -15,7 +15,7 @@ use Rattle.matching.specs.Graph.{Graph, over}
 use Rattle.matching.specs.Pairs.{Pair, Pairs, unmatched, pairs-on, unused}
 use Rattle.matching.specs.Pairs as spelling
 use Rattle.matching.specs.Matching.{Appendable, Matching, another}
-use Rattle.matching.specs.Session.{State, in-play, with-pairs, state}
+use Rattle.matching.specs.Session.{kept-in, State, in-play, with-pairs, state}
 use Rattle.matching.specs.Model.{undo, done, denied, no-pair, undo-refused, undoes}
 use Rattle.matching.specs.Calls.{Handles, carries}
 use Rattle.laws.specs.Rules.{rule-step}
@@ -28,8 +28,8 @@ use Rattle.calls.specs.Bytes.{bytes-removed}
 use Rattle.calls.specs.Known.{Known, few, tables, sequence-fits, denies, words, matching, spelled, same-state}
 
 -- if there is no pair
-pub undo-none : {n made : ℕ} {adjacency weights inverse sequence marks : List ℕ} (K : Known n made adjacency weights inverse sequence marks) → made ≡ 0
-    → Handles modulus-prime (state n made adjacency weights inverse sequence) undo (denied (because 11 0)) (state n made adjacency weights inverse sequence)
+pub undo-none : {n made : ℕ} {adjacency weights inverse sequence kept marks : List ℕ} (K : Known n made adjacency weights inverse sequence kept marks) → made ≡ 0
+    → Handles modulus-prime (state n made adjacency weights inverse sequence kept) undo (denied (because 11 0)) (state n made adjacency weights inverse sequence kept)
 unfolding pairs-on
 undo-none {n} {made} {adjacency} {weights} {sequence = sequence} K e =
     denies K undo (rule-step modulus-prime (over n adjacency weights) _ (no-pair (ap (pairs-on sequence) e)))
@@ -40,12 +40,12 @@ newest-appendable (another f _) = f
 earlier-matching : {g : Graph} {S : Subset} {e : Pair} {earlier : Pairs} → Matching g S (e ∷ earlier) → Matching g S earlier
 earlier-matching (another _ M) = M
 
-module _ {n k : ℕ} {adjacency weights inverse sequence marks : List ℕ} (K : Known n (suc k) adjacency weights inverse sequence marks) where
+module _ {n k : ℕ} {adjacency weights inverse sequence kept marks : List ℕ} (K : Known n (suc k) adjacency weights inverse sequence kept marks) where
   abbrev g : Graph
   g = over n adjacency weights
 
   abbrev s : State
-  s = state n (suc k) adjacency weights inverse sequence
+  s = state n (suc k) adjacency weights inverse sequence kept
 
   abbrev pub e : Pair
   e = record { smaller = getD sequence (k + k) 0; larger = getD sequence (k + k + 1) 0 }
@@ -92,12 +92,12 @@ module _ {n k : ℕ} {adjacency weights inverse sequence marks : List ℕ} (K : 
       inverse-same : inverse′ ≡ inverse
       inverse-same = R .inverse-is ∙ ap (λ w. onto w inverse) (R .grows .same q) ∙ onto-front-same (n * n) inverse (tables K .entries)
 
-      pub undo-denied : Handles modulus-prime s undo (denied (because 10 0)) (state n (suc k) adjacency weights inverse′ sequence′)
+      pub undo-denied : Handles modulus-prime s undo (denied (because 10 0)) (state n (suc k) adjacency weights inverse′ sequence′ kept)
       undo-denied =
           rw (inverse-same, R .sequence-same q)
           (denies K undo (rule-step modulus-prime g (in-play s) (undo-refused split (grown .none q))))
 
-      pub denied-left : Left n sequence′ (suc k) marks′
+      pub denied-left : Left n (kept-in n kept) sequence′ (suc k) marks′
       denied-left = rw (R .sequence-same q, R .marks-same q) (K .left)
 
     -- if the newest pair is removed
@@ -109,12 +109,12 @@ module _ {n k : ℕ} {adjacency weights inverse sequence marks : List ℕ} (K : 
           ∙ ap (λ m. set (set (spelling.sequence n (e ∷ earlier) ++ drop n sequence) (m + m) unused) (m + m + 1) unused) (sym counted)
           ∙ bytes-removed n earlier e (drop n sequence) (well-formed-sequence g (in-play s) (e ∷ earlier) [] with-newest .few)
 
-      after : with-pairs g earlier (R .words) s ≡ state n k adjacency weights inverse′ sequence′
+      after : with-pairs g earlier (R .words) s ≡ state n k adjacency weights inverse′ sequence′ kept
       after =
-          same-state n adjacency weights counted (sym (R .inverse-is))
+          same-state n adjacency weights kept counted (sym (R .inverse-is))
           (ap (λ m. spelling.sequence n earlier ++ drop m sequence) (length-sequence g (in-play s) earlier before) ∙ sym spelled′)
 
-      pub undo-done : Handles modulus-prime s undo (done e) (state n k adjacency weights inverse′ sequence′)
+      pub undo-done : Handles modulus-prime s undo (done e) (state n k adjacency weights inverse′ sequence′ kept)
       undo-done =
           rw (← after)
           (carries e earlier (R .words) (K .sound) (rule-step modulus-prime g (in-play s) (undoes split (_, grown .held q .is-inverse)))
@@ -126,7 +126,7 @@ module _ {n k : ℕ} {adjacency weights inverse sequence marks : List ℕ} (K : 
           ∙ ap (λ l. pairs-on l (length earlier)) spelled′
           ∙ pairs-on-sequence n earlier (drop n sequence)
 
-      pub done-left : Left n sequence′ k marks′
+      pub done-left : Left n (kept-in n kept) sequence′ k marks′
       unfolding unmatched
       done-left = record {
         size = rw (R .marks-is q) (simp length-set (tables K .marks-length));
@@ -137,15 +137,15 @@ module _ {n k : ℕ} {adjacency weights inverse sequence marks : List ℕ} (K : 
       }
 
 -- the same, if the number of pairs made is not 0
-module _ {n made : ℕ} {adjacency weights inverse sequence marks : List ℕ} (K : Known n made adjacency weights inverse sequence marks) (some : made ≢ 0) where
+module _ {n made : ℕ} {adjacency weights inverse sequence kept marks : List ℕ} (K : Known n made adjacency weights inverse sequence kept marks) (some : made ≢ 0) where
   abbrev less : ℕ
   less = made - 1
 
   one-more : suc less ≡ made
   one-more = omega arith
 
-  known-pair : Known n (suc less) adjacency weights inverse sequence marks
-  known-pair = subst (λ m. Known n m adjacency weights inverse sequence marks) (sym one-more) K
+  known-pair : Known n (suc less) adjacency weights inverse sequence kept marks
+  known-pair = subst (λ m. Known n m adjacency weights inverse sequence kept marks) (sym one-more) K
 
   abbrev newest : Pair
   newest = record { smaller = getD sequence (less + less) 0; larger = getD sequence (less + less + 1) 0 }
@@ -155,19 +155,19 @@ module _ {n made : ℕ} {adjacency weights inverse sequence marks : List ℕ} (K
 
   module _ {r : Bool} {inverse′ sequence′ marks′ : List ℕ} (R : Removed modulus (over n adjacency weights) less (newest .smaller) (newest .larger) inverse sequence marks r inverse′ sequence′ marks′) where
     pub denies-undo : r ≡ false
-        → Handles modulus-prime (state n made adjacency weights inverse sequence) undo (denied (because 10 0)) (state n made adjacency weights inverse′ sequence′)
-        × Left n sequence′ made marks′
+        → Handles modulus-prime (state n made adjacency weights inverse sequence kept) undo (denied (because 10 0)) (state n made adjacency weights inverse′ sequence′ kept)
+        × Left n (kept-in n kept) sequence′ made marks′
     denies-undo q = (
-      subst (λ m. Handles modulus-prime (state n m adjacency weights inverse sequence) undo (denied (because 10 0)) (state n m adjacency weights inverse′ sequence′)) one-more
+      subst (λ m. Handles modulus-prime (state n m adjacency weights inverse sequence kept) undo (denied (because 10 0)) (state n m adjacency weights inverse′ sequence′ kept)) one-more
           (undo-denied known-pair R q),
-      subst (λ m. Left n sequence′ m marks′) one-more (denied-left known-pair R q),
+      subst (λ m. Left n (kept-in n kept) sequence′ m marks′) one-more (denied-left known-pair R q),
     )
 
     pub does-undo : r ≡ true
-        → Handles modulus-prime (state n made adjacency weights inverse sequence) undo (done newest) (state n less adjacency weights inverse′ sequence′)
-        × Left n sequence′ less marks′
+        → Handles modulus-prime (state n made adjacency weights inverse sequence kept) undo (done newest) (state n less adjacency weights inverse′ sequence′ kept)
+        × Left n (kept-in n kept) sequence′ less marks′
     does-undo q = (
-      subst (λ m. Handles modulus-prime (state n m adjacency weights inverse sequence) undo (done newest) (state n less adjacency weights inverse′ sequence′)) one-more
+      subst (λ m. Handles modulus-prime (state n m adjacency weights inverse sequence kept) undo (done newest) (state n less adjacency weights inverse′ sequence′ kept)) one-more
           (undo-done known-pair R q),
       done-left known-pair R q,
     )

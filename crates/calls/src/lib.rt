@@ -10,7 +10,7 @@ ghost use Rattle.matching.specs.Decision.{because};
 ghost use Rattle.matching.specs.Model.{pick, automatic, undo, denied};
 ghost use Rattle.matching.specs.Host.{answer-number};
 ghost use Rattle.calls.specs.Meaning.{call-is, answer-of, AnswerFits};
-ghost use Rattle.calls.specs.Known.{Known, Called, KnownFor, CalledFor};
+ghost use Rattle.calls.specs.Known.{KnownWith, CalledWith, KnownFor, CalledFor};
 
 // A session call that changes the pairs: a pick of two vertices, an automatic pick, or an undo.
 pub enum Call {
@@ -128,10 +128,10 @@ pub fn undo(
     sequence: &mut [u8],
     marks: &mut [u8],
 ) -> Reply
-    requires { ⌜ Known n made (now adjacency) (now weights) (now inverse) (now sequence) (now marks) ⌝ }
+    requires { ⌜ KnownWith n made (now adjacency) (now weights) (now inverse) (now sequence) (now marks) ⌝ }
     ensures { λ r.
-        ⌜ Called undo n made (now (adjacency .entry)) (now (weights .entry)) (now (inverse .entry)) (now (sequence .entry)) r
-        (now (inverse .exit)) (now (sequence .exit)) (now (marks .exit)) ⌝ }
+        ⌜ CalledWith undo n made (now (adjacency .entry)) (now (weights .entry)) (now (inverse .entry)) (now (sequence .entry))
+        (now (marks .entry)) r (now (inverse .exit)) (now (sequence .exit)) (now (marks .exit)) ⌝ }
 {
     if made == 0 {
         return deny(11, made);
@@ -165,10 +165,10 @@ pub fn make(
     sequence: &mut [u8],
     marks: &mut [u8],
 ) -> Reply
-    requires { ⌜ Known n made (now adjacency) (now weights) (now inverse) (now sequence) (now marks) ⌝ }
+    requires { ⌜ KnownWith n made (now adjacency) (now weights) (now inverse) (now sequence) (now marks) ⌝ }
     ensures { λ r.
-        ⌜ Called (call-is call) n made (now (adjacency .entry)) (now (weights .entry)) (now (inverse .entry)) (now (sequence .entry))
-        r (now (inverse .exit)) (now (sequence .exit)) (now (marks .exit)) ⌝ }
+        ⌜ CalledWith (call-is call) n made (now (adjacency .entry)) (now (weights .entry)) (now (inverse .entry))
+        (now (sequence .entry)) (now (marks .entry)) r (now (inverse .exit)) (now (sequence .exit)) (now (marks .exit)) ⌝ }
 {
     match call {
         Call::Pick(a, b) => pick(n, made, adjacency, inverse, sequence, marks, a, b),

@@ -1,5 +1,5 @@
 -- Laws of the number of vertices and of the lengths of the lent buffers. Assumes nothing.
-use mathlib.Core.Path.{_≡_, refl, ap, _∙_}
+use mathlib.Core.Path.{_≡_, refl, sym, ap, _∙_}
 use mathlib.Core.List.{List, [], _∷_, _++_}
 use Prim.Native.Nat.{ℕ, _*_, _≤_, _<_}
 use native.Mathlib.Omega.{arith}
@@ -32,6 +32,13 @@ is-short length needed number later l = choose-yes (decLt length needed) (at (in
 
 pub is-long : (length needed number : ℕ) (later : Finding) → needed ≤ length → choose (decLt length needed) (at (index number)) later ≡ later
 is-long length needed number later l = choose-no (decLt length needed) (at (index number)) later (λ h. omega arith)
+
+-- a buffer that is long enough among others
+pub long-before : (before : List Lent) (b : Lent) (after : List Lent) → b .needed ≤ b .length → first-short (before ++ b ∷ after) ≡ first-short (before ++ after)
+long-before before b after l =
+    short-append before (b ∷ after)
+    ∙ ap (or (first-short before)) (is-long (b .length) (b .needed) (b .number) (first-short after) l)
+    ∙ sym (short-append before after)
 
 -- the number of vertices, and the buffers that are always lent, case by case
 module _ (n adjacency weights inverse sequence : ℕ) where

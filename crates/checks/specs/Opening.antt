@@ -1,14 +1,14 @@
 -- Laws of causes 3 and 4, and of causes 1 to 4 as session calls and opening look at them, case by case. Assumes nothing.
-use mathlib.Core.Path.{_≡_, sym, _∙_}
-use mathlib.Core.List.{List, [], _∷_}
-use Prim.Native.Nat.{ℕ, _*_, _≤_}
+use mathlib.Core.Path.{_≡_, sym, ap, _∙_}
+use mathlib.Core.List.{List, [], _∷_, _++_}
+use Prim.Native.Nat.{ℕ, _*_, _≤_, _<_}
 use lib.ListN.{length}
-use Rattle.matching.specs.Decision.{index, faulty-cell, absent, at, Refusal, because, because-cell, Ruling, accepted, refused, Cause, judge}
+use Rattle.matching.specs.Decision.{index, faulty-cell, absent, at, Refusal, because, because-cell, Ruling, accepted, refused, unless, Cause, judge}
 use Rattle.matching.specs.Graph.{Graph, largest, pair-count}
-use Rattle.matching.specs.Causes.{Lent, lent-always, lent-besides, too-large, too-short, bad-cell, bad-weight, opening-causes, opening-ruling}
+use Rattle.matching.specs.Causes.{Lent, lent-always, lent-besides, lent-kept, too-large, too-short, bad-cell, bad-weight, opening-causes, opening-ruling}
 use Rattle.laws.specs.Judge.{judge-refused, judge-next}
 use Rattle.checks.specs.Meaning.{then}
-use Rattle.checks.specs.Lengths.{short-then, lengths-refused, lengths-accepted}
+use Rattle.checks.specs.Lengths.{is-short, is-long, short-then, lengths-refused, lengths-accepted}
 
 module _ (p : ℕ) (g : Graph) where
   abbrev pub graph-causes : List Cause
@@ -40,11 +40,22 @@ module _ (p : ℕ) (g : Graph) where
         (judged .0, judged .1 .0, judged .1 .1 .0)
 
     -- causes 1 to 4 of a session call
-    pub session-lengths : (r : Refusal) → refused r ≡ lengths-judged → refused r ≡ judge (opening-causes p g before)
-    session-lengths r e = sym (lengths-refused (g .n) before [] graph-causes r (sym e))
+    module _ (kept : ℕ) where
+      abbrev row : List Lent
+      row = lent-kept (g .n) kept ∷ []
 
-    pub session-rest : accepted ≡ lengths-judged → (c : Ruling) → c ≡ judge graph-causes → c ≡ judge (opening-causes p g before)
-    session-rest e c r = r ∙ sym (lengths-accepted (g .n) before [] graph-causes (sym e) .2)
+      pub session-lengths : (r : Refusal) → refused r ≡ lengths-judged → refused r ≡ judge (opening-causes p g (before ++ row))
+      session-lengths r e = sym (lengths-refused (g .n) before row graph-causes r (sym e))
+
+      module _ (ok : accepted ≡ lengths-judged) where
+        after-lengths : judge (opening-causes p g (before ++ row)) ≡ judge (too-short row ∷ graph-causes)
+        after-lengths = lengths-accepted (g .n) before row graph-causes (sym ok) .2
+
+        pub session-short : kept < g .n → refused (because 2 8) ≡ judge (opening-causes p g (before ++ row))
+        session-short h = sym (after-lengths ∙ ap (λ f. unless f 2 (judge graph-causes)) (is-short kept (g .n) 8 absent h))
+
+        pub session-rest : g .n ≤ kept → (c : Ruling) → c ≡ judge graph-causes → c ≡ judge (opening-causes p g (before ++ row))
+        session-rest h c r = r ∙ sym (after-lengths ∙ ap (λ f. unless f 2 (judge graph-causes)) (is-long kept (g .n) 8 absent h))
 
     -- causes 1 to 4 of opening
     module _ (witness work : ℕ) where

@@ -8,7 +8,7 @@ ghost use lib.ListN.{length, getD};
 ghost use Rattle.residue.specs.Modulus.{modulus};
 ghost use Rattle.matching.specs.Decision.{judge, Every};
 ghost use Rattle.matching.specs.Graph.{largest, pair-count, over};
-ghost use Rattle.matching.specs.Causes.{lent-always, lent-besides, first-short, opening-causes, opening-ruling};
+ghost use Rattle.matching.specs.Causes.{lent-always, lent-besides, lent-kept, first-short, opening-causes, opening-ruling};
 ghost use Rattle.matching.specs.Causes.{too-large, too-short, bad-cell, bad-weight};
 ghost use Rattle.checks.specs.Weights.{needed};
 ghost use Rattle.refusals.specs.Meaning.{finding-of, ruling-of};
@@ -283,19 +283,20 @@ fn earlier(a: Ruling, b: Ruling) -> Ruling
     }
 }
 
-// Judges causes 1 to 4 for a session call; inverse and sequence are the lengths of these buffers.
+// Judges causes 1 to 4 for a session call; inverse, sequence and kept are the lengths of these buffers.
 pub fn judge_session(
     n: usize,
     adjacency: &[u8],
     weights: &[u16],
     inverse: usize,
     sequence: usize,
+    kept: usize,
 ) -> Ruling
     ensures { λ r.
         let g = over n (now (adjacency .entry)) (now (weights .entry)) in
         ⌜ ruling-of r ≡ judge
         (opening-causes modulus g
-        (lent-always n (length (now (adjacency .entry))) (length (now (weights .entry))) inverse sequence)) ⌝ }
+        (lent-always n (length (now (adjacency .entry))) (length (now (weights .entry))) inverse sequence ++ lent-kept n kept ∷ [])) ⌝ }
 {
     if let Ruling::Refused(refusal) = judge_lengths(
         n,
@@ -305,6 +306,9 @@ pub fn judge_session(
         sequence,
     ) {
         return Ruling::Refused(refusal);
+    }
+    if kept < n {
+        return refusals::refuse(2, 8);
     }
     judge_graph(n, adjacency, weights)
 }

@@ -50,20 +50,20 @@ unfolding pairs-after
 picked-none g S = record { pairs-are = refl; to-come = λ m c. let e : 0 + m ≡ m = omega arith in rw e c }
 
 -- an automatic pick on a session that is known to be sound
-module _ {n made : ℕ} {adjacency weights inverse sequence marks : List ℕ} (K : Known n made adjacency weights inverse sequence marks)
-    {r : Reply} {inverse′ sequence′ marks′ : List ℕ} (C : Called automatic n made adjacency weights inverse sequence r inverse′ sequence′ marks′) where
+module _ {n made : ℕ} {adjacency weights inverse sequence kept marks : List ℕ} (K : Known n made adjacency weights inverse sequence kept marks)
+    {r : Reply} {inverse′ sequence′ marks′ : List ℕ} (C : Called automatic n made adjacency weights inverse sequence kept r inverse′ sequence′ marks′) where
   abbrev g : Graph
   g = over n adjacency weights
 
   abbrev S : Subset
-  S = in-play (state n made adjacency weights inverse sequence)
+  S = in-play (state n made adjacency weights inverse sequence kept)
 
   abbrev pairs : Pairs
   pairs = pairs-on sequence made
 
   model : (answer-of (r .answer) ≡ step modulus-prime g S pairs automatic .answer)
       × (pairs-on sequence′ (r .made) ≡ step modulus-prime g S pairs automatic .pairs)
-  model = handles-model modulus-prime (state n made adjacency weights inverse sequence) (K .sound) (λ x l. refl) (C .handled)
+  model = handles-model modulus-prime (state n made adjacency weights inverse sequence kept) (K .sound) (C .handled)
 
   -- if it is accepted, there is one pair more
   one-more : {e : Pair} → step modulus-prime g S pairs automatic .answer ≡ done e → r .made ≡ made + 1

@@ -16,9 +16,9 @@ pub fn complete(
 ) -> usize
     requires { ⌜ KnownFor n 0 (now adjacency) (now inverse) (now sequence) (now marks) ⌝ }
     ensures { λ made.
-        ⌜ ((weights : List ℕ)
-        → Known n 0 (now (adjacency .entry)) weights (now (inverse .entry)) (now (sequence .entry)) (now (marks .entry))
-        → CompletedFrom (state n 0 (now (adjacency .entry)) weights (now (inverse .entry)) (now (sequence .entry))) made
+        ⌜ ((weights kept : List ℕ)
+        → Known n 0 (now (adjacency .entry)) weights (now (inverse .entry)) (now (sequence .entry)) kept (now (marks .entry))
+        → CompletedFrom (state n 0 (now (adjacency .entry)) weights (now (inverse .entry)) (now (sequence .entry)) kept) made
         (now (sequence .exit))) ⌝ }
 {
     let mut made = 0;

@@ -99,7 +99,7 @@ fn show(n: usize, adjacency: &[u8], inverse: &[u16], marks: &[u8], a: usize, row
     }
 }
 
-// Calls show, unless a is out of range or already matched: causes 7 and 8.
+// Calls show, unless a is out of range or not unmatched: causes 7 and 8.
 pub fn row(
     n: usize,
     adjacency: &[u8],

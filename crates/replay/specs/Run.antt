@@ -111,7 +111,7 @@ ran-more {s} {t} {u} {numbers} {old} {answers} {k} {x} {a} R l h e m = rw add-on
 module _ (s : State) (numbers answers : List ℕ) where
   -- 1 to 6, and then 12 and 13 of the list
   abbrev first : List Cause
-  first = session-causes modulus s (lent-answers (call-count numbers) (length answers) ∷ [])
+  first = session-causes modulus s [] (lent-answers (call-count numbers) (length answers) ∷ [])
 
   whole : replay-ruling modulus-prime s numbers answers ≡ judge (first ++ list-causes numbers)
   unfolding replay-ruling
@@ -131,7 +131,7 @@ module _ (s : State) (numbers answers : List ℕ) where
         written = refl;
         follows =
             subst (λ ps. FollowsModel modulus-prime (graph-of s) (in-play s) ps (calls-of numbers) s returned) (ap (pairs-on (s .sequence)) unpaired)
-            (follows modulus-prime s sound (λ x l. refl) (calls-of numbers) returned runs);
+            (follows modulus-prime s sound (calls-of numbers) returned runs);
       }
 
   -- all that the contract says of an outcome

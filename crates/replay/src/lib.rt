@@ -5,7 +5,7 @@ use refusals::Ruling;
 use session::Session;
 ghost use mathlib.Core.Path.{_≡_};
 ghost use mathlib.Core.List.{List};
-ghost use Prim.Native.Nat.{_*_, _≤_};
+ghost use Prim.Native.Nat.{ℕ, _*_, _≤_};
 ghost use lib.ListN.{length};
 ghost use Rattle.residue.specs.Modulus.{modulus-prime};
 ghost use Rattle.matching.specs.Calls.{Returned, Runs};
@@ -13,7 +13,7 @@ ghost use Rattle.matching.specs.Replay.{calls-of, Replays, DemandThreeOf};
 ghost use Rattle.matching.specs.Session.{state};
 ghost use Rattle.refusals.specs.Meaning.{ruling-of};
 ghost use Rattle.calls.specs.Meaning.{answer-of};
-ghost use Rattle.calls.specs.Known.{Known};
+ghost use Rattle.calls.specs.Known.{Known, KnownWith};
 ghost use Rattle.replay.specs.Run.{changed-by, changes, Ran};
 
 // The session handed back, whether the calls were made, and whether one of them was accepted: if not, no buffer has changed.
@@ -52,13 +52,15 @@ fn run(
     list: &[u64],
     answers: &mut [u64],
 ) -> Reached
-    requires { ⌜ Known n start (now adjacency) (now weights) (now inverse) (now sequence) (now marks) ⌝ }
+    requires { ⌜ KnownWith n start (now adjacency) (now weights) (now inverse) (now sequence) (now marks) ⌝ }
     requires { ⌜ 3 * length (now answers) ≤ length (now list) ⌝ }
     ensures { λ r.
-        let before = state n start (now (adjacency .entry)) (now (weights .entry)) (now (inverse .entry)) (now (sequence .entry)) in
-        let after = state n (r .made) (now (adjacency .entry)) (now (weights .entry)) (now (inverse .exit)) (now (sequence .exit)) in
-        ⌜ Ran before (now (list .entry)) (now (answers .entry)) (length (now (answers .entry))) after
-        (now (answers .exit)) (r .changed) ⌝ }
+        ⌜ ((kept : List ℕ)
+        → Known n start (now (adjacency .entry)) (now (weights .entry)) (now (inverse .entry)) (now (sequence .entry)) kept (now (marks .entry))
+        → Ran (state n start (now (adjacency .entry)) (now (weights .entry)) (now (inverse .entry)) (now (sequence .entry)) kept)
+        (now (list .entry)) (now (answers .entry)) (length (now (answers .entry)))
+        (state n (r .made) (now (adjacency .entry)) (now (weights .entry)) (now (inverse .exit)) (now (sequence .exit)) kept)
+        (now (answers .exit)) (r .changed)) ⌝ }
 {
     let mut made = start;
     let mut changed = false;
@@ -86,24 +88,25 @@ pub fn replay(
     weights: &[u16],
     inverse: &mut [u16],
     sequence: &mut [u8],
+    kept: &[u8],
     list: &[u64],
     answers: &mut [u64],
 ) -> Replayed
     ensures run { λ r.
         let before = state (session .size) (session .made)
-        (now (adjacency .entry)) (now (weights .entry)) (now (inverse .entry)) (now (sequence .entry)) in
+        (now (adjacency .entry)) (now (weights .entry)) (now (inverse .entry)) (now (sequence .entry)) (now (kept .entry)) in
         let after = state (r .session .size) (r .session .made)
-        (now (adjacency .entry)) (now (weights .entry)) (now (inverse .exit)) (now (sequence .exit)) in
+        (now (adjacency .entry)) (now (weights .entry)) (now (inverse .exit)) (now (sequence .exit)) (now (kept .entry)) in
         ⌜ Replays modulus-prime before (now (list .entry)) (now (answers .entry)) (ruling-of (r .ruling)) after (now (answers .exit)) ⌝ }
     ensures demand { λ r.
         let before = state (session .size) (session .made)
-        (now (adjacency .entry)) (now (weights .entry)) (now (inverse .entry)) (now (sequence .entry)) in
+        (now (adjacency .entry)) (now (weights .entry)) (now (inverse .entry)) (now (sequence .entry)) (now (kept .entry)) in
         let after = state (r .session .size) (r .session .made)
-        (now (adjacency .entry)) (now (weights .entry)) (now (inverse .exit)) (now (sequence .exit)) in
+        (now (adjacency .entry)) (now (weights .entry)) (now (inverse .exit)) (now (sequence .exit)) (now (kept .entry)) in
         ⌜ DemandThreeOf modulus-prime before (now (list .entry)) (now (answers .entry)) after (now (answers .exit)) ⌝ }
     ensures changed { λ r.
         let before = state (session .size) (session .made)
-        (now (adjacency .entry)) (now (weights .entry)) (now (inverse .entry)) (now (sequence .entry)) in
+        (now (adjacency .entry)) (now (weights .entry)) (now (inverse .entry)) (now (sequence .entry)) (now (kept .entry)) in
         ⌜ ((returned : List Returned) → Runs modulus-prime before (calls-of (now (list .entry))) returned
         → r .changed ≡ changes (ruling-of (r .ruling)) returned) ⌝ }
 {
@@ -111,14 +114,14 @@ pub fn replay(
     let made = session.made;
     let count = list.len() / 3;
     let mut marks = [0u8; 96];
-    let sound = soundness::confirm_lent(
+    let sound = soundness::confirm_answers(
         n,
         made,
         adjacency,
         weights,
         inverse,
         sequence,
-        10,
+        kept,
         answers.len(),
         count,
         &mut marks,

@@ -1,9 +1,10 @@
-// Checks a session's sequence of pairs, cause 5 of document 01's table, and marks the vertices that its pairs leave unmatched: a byte for
-// each vertex, not 0 if it is unmatched.
+// Checks a session's sequence of pairs and its kept row, cause 5 of document 01's table, and marks the kept vertices that its pairs leave
+// unmatched: a byte for each vertex, not 0 if it is unmatched.
 ghost use mathlib.Core.Path.{_≡_};
 ghost use Prim.Native.Nat.{_+_, _≤_, _<_};
 ghost use lib.ListN.{length, set};
-ghost use Rattle.sequence.specs.Formed.{AdjacencyFits, Tells, PairFits, Left, Taken, UnusedFrom, Formed};
+ghost use Rattle.skew.specs.Subset.{marked};
+ghost use Rattle.sequence.specs.Formed.{AdjacencyFits, Tells, PairFits, Taken, UnusedFrom, Bits, Formed};
 
 // The byte of an unused place.
 pub const UNUSED: u8 = 255;
@@ -42,8 +43,9 @@ fn unmark(marks: &mut [u8], a: usize, b: usize)
 
 // Removes the marks of the first made pairs, as long as the pairs are in order, and tells whether all of them are.
 fn take_pairs(n: usize, adjacency: &[u8], sequence: &[u8], made: usize, marks: &mut [u8]) -> bool
-    requires { ⌜ AdjacencyFits n (now adjacency) × (made + made ≤ n) × (n ≤ length (now sequence)) × Left n (now sequence) 0 (now marks) ⌝ }
-    ensures { λ r. ⌜ Taken n (now (adjacency .entry)) (now (sequence .entry)) made (now (marks .exit)) r ⌝ }
+    requires { ⌜ AdjacencyFits n (now adjacency) × (made + made ≤ n) × (n ≤ length (now sequence)) × (length (now marks) ≡ n) ⌝ }
+    ensures { λ r.
+        ⌜ Taken n (marked (now (marks .entry))) (now (adjacency .entry)) (now (sequence .entry)) made (now (marks .exit)) r ⌝ }
 {
     let mut k = 0;
     // The first k pairs are in order, and the marks are those of the vertices that they leave unmatched.
@@ -76,15 +78,41 @@ fn unused_from(sequence: &[u8], start: usize, n: usize) -> bool
     true
 }
 
-// Tells whether a sequence with made pairs is well formed; if it is, the marks are those of the unmatched vertices.
-pub fn formed(n: usize, adjacency: &[u8], sequence: &[u8], made: usize, marks: &mut [u8]) -> bool
-    requires { ⌜ AdjacencyFits n (now adjacency) × (n ≤ length (now sequence)) × (length (now marks) ≡ n) ⌝ }
-    ensures { λ r. ⌜ Formed n (now (adjacency .entry)) (now (sequence .entry)) made (now (marks .exit)) r ⌝ }
+// Tells whether every byte of row is 0 or 1.
+fn only_bits(row: &[u8]) -> bool
+    ensures { λ r. ⌜ Tells (Bits (now (row .entry))) r ⌝ }
+{
+    let mut i = 0;
+    while i < row.len() {
+        if 1 < row[i] {
+            return false;
+        }
+        i += 1;
+    }
+    true
+}
+
+// Tells whether a sequence with made pairs is well formed, and the first n bytes of the kept row are 0 or 1, and 1 for each matched vertex; if
+// so, the marks are those of the kept vertices that are unmatched.
+pub fn formed(
+    n: usize,
+    adjacency: &[u8],
+    sequence: &[u8],
+    made: usize,
+    kept: &[u8],
+    marks: &mut [u8],
+) -> bool
+    requires { ⌜ AdjacencyFits n (now adjacency) × (n ≤ length (now sequence)) × (n ≤ length (now kept)) × (length (now marks) ≡ n) ⌝ }
+    ensures { λ r. ⌜ Formed n (now (adjacency .entry)) (now (sequence .entry)) made (now (kept .entry)) (now (marks .exit)) r ⌝ }
 {
     if n / 2 < made {
         return false;
     }
-    buffers::fill_bytes(marks, n, 1);
+    let bits = only_bits(&kept[..n]);
+    if !bits {
+        return false;
+    }
+    buffers::copy_bytes(&kept[..n], marks);
     let taken = take_pairs(n, adjacency, sequence, made, marks);
     if !taken {
         return false;

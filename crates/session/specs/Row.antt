@@ -19,7 +19,7 @@ module _ (s : State) (a : ℕ) (row : List ℕ) where
 
   -- causes 1 to 6, and then 7 and 8 of the vertex
   abbrev first : List Cause
-  first = session-causes modulus s (lent-row n (length row) ∷ [])
+  first = session-causes modulus s (lent-row n (length row) ∷ []) []
 
   whole : row-ruling modulus-prime s a row ≡ judge (first ++ vertex-causes n (in-play s) (pairs-of s) a)
   unfolding row-ruling

@@ -1,5 +1,6 @@
 // The session: the number of vertices and the number of pairs made, passed in and handed back by every call. Each call first confirms that
-// the session is sound. It reads the graph's tables, the inverse and the sequence of pairs; all but row also write the last two.
+// the session is sound. It reads the graph's tables, the inverse, the sequence of pairs and the kept row; all but row also write the inverse
+// and the sequence.
 use calls::Answer;
 use calls::Call;
 use refusals::Ruling;
@@ -37,18 +38,28 @@ impl Session {
         weights: &[u16],
         inverse: &mut [u16],
         sequence: &mut [u8],
+        kept: &[u8],
     ) -> Returned
         ensures { λ r.
             let before = state (self .size) (self .made)
-            (now (adjacency .entry)) (now (weights .entry)) (now (inverse .entry)) (now (sequence .entry)) in
+            (now (adjacency .entry)) (now (weights .entry)) (now (inverse .entry)) (now (sequence .entry)) (now (kept .entry)) in
             let after = state (r .session .size) (r .session .made)
-            (now (adjacency .entry)) (now (weights .entry)) (now (inverse .exit)) (now (sequence .exit)) in
+            (now (adjacency .entry)) (now (weights .entry)) (now (inverse .exit)) (now (sequence .exit)) (now (kept .entry)) in
             ⌜ Handles modulus-prime before (call-is call) (answer-of (r .answer)) after ⌝ }
     {
         let n = self.size;
         let made = self.made;
         let mut marks = [0u8; 96];
-        let ruling = soundness::confirm(n, made, adjacency, weights, inverse, sequence, &mut marks);
+        let ruling = soundness::confirm(
+            n,
+            made,
+            adjacency,
+            weights,
+            inverse,
+            sequence,
+            kept,
+            &mut marks,
+        );
         if let Ruling::Refused(refusal) = ruling {
             return Returned {
                 session: self,
@@ -80,21 +91,29 @@ impl Session {
         weights: &[u16],
         inverse: &mut [u16],
         sequence: &mut [u8],
+        kept: &[u8],
         a: usize,
         b: usize,
     ) -> Returned
         ensures handled { λ r.
             let before = state (self .size) (self .made)
-            (now (adjacency .entry)) (now (weights .entry)) (now (inverse .entry)) (now (sequence .entry)) in
+            (now (adjacency .entry)) (now (weights .entry)) (now (inverse .entry)) (now (sequence .entry)) (now (kept .entry)) in
             let after = state (r .session .size) (r .session .made)
-            (now (adjacency .entry)) (now (weights .entry)) (now (inverse .exit)) (now (sequence .exit)) in
+            (now (adjacency .entry)) (now (weights .entry)) (now (inverse .exit)) (now (sequence .exit)) (now (kept .entry)) in
             ⌜ Handles modulus-prime before (pick a b) (answer-of (r .answer)) after ⌝ }
         ensures exactly { λ r.
             let before = state (self .size) (self .made)
-            (now (adjacency .entry)) (now (weights .entry)) (now (inverse .entry)) (now (sequence .entry)) in
+            (now (adjacency .entry)) (now (weights .entry)) (now (inverse .entry)) (now (sequence .entry)) (now (kept .entry)) in
             ⌜ PickedExactly modulus-prime before a b (answer-of (r .answer)) ⌝ }
     {
-        self.call(Call::Pick(a, b), adjacency, weights, inverse, sequence)
+        self.call(
+            Call::Pick(a, b),
+            adjacency,
+            weights,
+            inverse,
+            sequence,
+            kept,
+        )
     }
 
     // Picks the lowest unmatched vertex and its lowest partner.
@@ -104,15 +123,16 @@ impl Session {
         weights: &[u16],
         inverse: &mut [u16],
         sequence: &mut [u8],
+        kept: &[u8],
     ) -> Returned
         ensures { λ r.
             let before = state (self .size) (self .made)
-            (now (adjacency .entry)) (now (weights .entry)) (now (inverse .entry)) (now (sequence .entry)) in
+            (now (adjacency .entry)) (now (weights .entry)) (now (inverse .entry)) (now (sequence .entry)) (now (kept .entry)) in
             let after = state (r .session .size) (r .session .made)
-            (now (adjacency .entry)) (now (weights .entry)) (now (inverse .exit)) (now (sequence .exit)) in
+            (now (adjacency .entry)) (now (weights .entry)) (now (inverse .exit)) (now (sequence .exit)) (now (kept .entry)) in
             ⌜ Handles modulus-prime before automatic (answer-of (r .answer)) after ⌝ }
     {
-        self.call(Call::Automatic, adjacency, weights, inverse, sequence)
+        self.call(Call::Automatic, adjacency, weights, inverse, sequence, kept)
     }
 
     // Removes the newest pair.
@@ -122,15 +142,16 @@ impl Session {
         weights: &[u16],
         inverse: &mut [u16],
         sequence: &mut [u8],
+        kept: &[u8],
     ) -> Returned
         ensures { λ r.
             let before = state (self .size) (self .made)
-            (now (adjacency .entry)) (now (weights .entry)) (now (inverse .entry)) (now (sequence .entry)) in
+            (now (adjacency .entry)) (now (weights .entry)) (now (inverse .entry)) (now (sequence .entry)) (now (kept .entry)) in
             let after = state (r .session .size) (r .session .made)
-            (now (adjacency .entry)) (now (weights .entry)) (now (inverse .exit)) (now (sequence .exit)) in
+            (now (adjacency .entry)) (now (weights .entry)) (now (inverse .exit)) (now (sequence .exit)) (now (kept .entry)) in
             ⌜ Handles modulus-prime before undo (answer-of (r .answer)) after ⌝ }
     {
-        self.call(Call::Undo, adjacency, weights, inverse, sequence)
+        self.call(Call::Undo, adjacency, weights, inverse, sequence, kept)
     }
 
     // Sets row[b], for each vertex b, to 1 if a pick of a and b would be accepted, else to 0.
@@ -140,29 +161,29 @@ impl Session {
         weights: &[u16],
         inverse: &[u16],
         sequence: &[u8],
+        kept: &[u8],
         a: usize,
         row: &mut [u8],
     ) -> Shown
         ensures { λ r.
             let before = state (self .size) (self .made)
-            (now (adjacency .entry)) (now (weights .entry)) (now (inverse .entry)) (now (sequence .entry)) in
+            (now (adjacency .entry)) (now (weights .entry)) (now (inverse .entry)) (now (sequence .entry)) (now (kept .entry)) in
             let after = state (r .session .size) (r .session .made)
-            (now (adjacency .entry)) (now (weights .entry)) (now (inverse .entry)) (now (sequence .entry)) in
+            (now (adjacency .entry)) (now (weights .entry)) (now (inverse .entry)) (now (sequence .entry)) (now (kept .entry)) in
             ⌜ ShowsRow modulus-prime before a (now (row .entry)) (ruling-of (r .ruling)) after (now (row .exit)) ⌝ }
     {
         let n = self.size;
         let made = self.made;
         let mut marks = [0u8; 96];
-        let sound = soundness::confirm_lent(
+        let sound = soundness::confirm_row(
             n,
             made,
             adjacency,
             weights,
             inverse,
             sequence,
-            7,
+            kept,
             row.len(),
-            n,
             &mut marks,
         );
         if let Ruling::Refused(refusal) = sound {

@@ -1,6 +1,6 @@
 -- What the confirmation of a session says. Assumes nothing.
 use mathlib.Core.Path.{_≡_, sym, _∙_}
-use mathlib.Core.List.{List, [], _∷_}
+use mathlib.Core.List.{List, [], _∷_, _++_}
 use Prim.Native.Nat.{ℕ, _*_, _≤_}
 use native.Mathlib.Omega.{arith}
 use lib.ListN.{length}
@@ -8,9 +8,9 @@ use Rattle.residue.specs.Modulus.{modulus}
 use Rattle.matching.specs.Decision.{index, Refusal, because, Cause, accepted, refused, judge, not?}
 use Rattle.matching.specs.Graph.{over}
 use Rattle.matching.specs.Pairs.{unmatched, pairs-on}
-use Rattle.matching.specs.Session.{State, state, in-play, graph-of, pairs-of, InverseTable, WellFormed}
-use Rattle.matching.specs.Decided.{well-formed?, inverse-table?}
-use Rattle.matching.specs.Causes.{lent-always, lent-to-session, opening-causes, ill-formed, not-inverse, session-ruling}
+use Rattle.matching.specs.Session.{State, state, in-play, graph-of, pairs-of, kept-in, InverseTable, WellFormedSession}
+use Rattle.matching.specs.Decided.{well-formed-session?, inverse-table?}
+use Rattle.matching.specs.Causes.{lent-always, lent-kept, lent-to-session, opening-causes, ill-formed, not-inverse, session-ruling}
 use Rattle.laws.specs.Sound.{session-fits, graph-in-order}
 use Rattle.laws.specs.Judge.{judge-accepted, judge-first, judge-second, judge-refused, judge-next, when-at, unless-absent}
 use Rattle.refusals.specs.declared.Ruling.{Ruling}
@@ -19,46 +19,48 @@ use Rattle.sequence.specs.Formed.{AdjacencyFits, Left}
 use Rattle.tutte.specs.Table.{Complete}
 
 -- the ruling of causes 1 to 6, and the marks of the unmatched vertices if none applies
-pub record Confirmed (n made : ℕ) (adjacency weights inverse sequence marks : List ℕ) (r : Ruling) : Type 0 where
-  pub ruled : ruling-of r ≡ session-ruling modulus (state n made adjacency weights inverse sequence)
-  pub left : ruling-of r ≡ accepted → Left n sequence made marks
+pub record Confirmed (n made : ℕ) (adjacency weights inverse sequence kept marks : List ℕ) (r : Ruling) : Type 0 where
+  pub ruled : ruling-of r ≡ session-ruling modulus (state n made adjacency weights inverse sequence kept)
+  pub left : ruling-of r ≡ accepted → Left n (kept-in n kept) sequence made marks
 
 -- none of causes 1 to 4 applies
-pub record Judged (n : ℕ) (adjacency weights inverse sequence : List ℕ) : Type 0 where
-  pub four : judge (opening-causes modulus (over n adjacency weights) (lent-always n (length adjacency) (length weights) (length inverse) (length sequence))) ≡ accepted
+pub record Judged (n : ℕ) (adjacency weights inverse sequence kept : List ℕ) : Type 0 where
+  pub four : judge (opening-causes modulus (over n adjacency weights) (lent-always n (length adjacency) (length weights) (length inverse) (length sequence) ++ lent-kept n (length kept) ∷ [])) ≡ accepted
 
-pub judged : (n : ℕ) (adjacency weights inverse sequence : List ℕ)
-    → accepted ≡ judge (opening-causes modulus (over n adjacency weights) (lent-always n (length adjacency) (length weights) (length inverse) (length sequence)))
-    → Judged n adjacency weights inverse sequence
-judged n adjacency weights inverse sequence e = record { four = sym e }
+pub judged : (n : ℕ) (adjacency weights inverse sequence kept : List ℕ)
+    → accepted ≡ judge (opening-causes modulus (over n adjacency weights) (lent-always n (length adjacency) (length weights) (length inverse) (length sequence) ++ lent-kept n (length kept) ∷ []))
+    → Judged n adjacency weights inverse sequence kept
+judged n adjacency weights inverse sequence kept e = record { four = sym e }
 
 -- what follows from this for the next checks
-pub record SessionReady (n : ℕ) (adjacency weights inverse sequence : List ℕ) : Type 0 where
+pub record SessionReady (n : ℕ) (adjacency weights inverse sequence kept : List ℕ) : Type 0 where
   pub lent : AdjacencyFits n adjacency
   pub complete : Complete n adjacency weights
   pub inverse-fits : n * n ≤ length inverse
   pub sequence-fits : n ≤ length sequence
+  pub kept-fits : n ≤ length kept
 
-pub ready : {n : ℕ} {adjacency weights inverse sequence : List ℕ} → Judged n adjacency weights inverse sequence → SessionReady n adjacency weights inverse sequence
-ready {n} {adjacency} {weights} {inverse} {sequence} J =
-    let s = state n 0 adjacency weights inverse sequence in
-    let causes = opening-causes modulus (graph-of s) (lent-to-session s []) in
-    let k = graph-in-order modulus (graph-of s) (lent-to-session s []) .0 (judge-accepted causes .0 (J .four)) in
-    let f = session-fits s [] .0 (k .0) .0 in
+pub ready : {n : ℕ} {adjacency weights inverse sequence kept : List ℕ} → Judged n adjacency weights inverse sequence kept → SessionReady n adjacency weights inverse sequence kept
+ready {n} {adjacency} {weights} {inverse} {sequence} {kept} J =
+    let s = state n 0 adjacency weights inverse sequence kept in
+    let causes = opening-causes modulus (graph-of s) (lent-to-session s [] []) in
+    let k = graph-in-order modulus (graph-of s) (lent-to-session s [] []) .0 (judge-accepted causes .0 (J .four)) in
+    let f = session-fits s [] [] .0 (k .0) .0 in
     record {
       lent = record { size = k .1 .size; cells = f .graph .cells };
       complete = record { size = k .1 .size; cells = f .graph .cells; weights-enough = f .graph .weights };
       inverse-fits = f .inverse-fits;
       sequence-fits = f .sequence-fits;
+      kept-fits = f .kept-fits;
     }
 
 -- the causes in their order
 module _ (s : State) where
   abbrev four : List Cause
-  four = opening-causes modulus (graph-of s) (lent-to-session s [])
+  four = opening-causes modulus (graph-of s) (lent-to-session s [] [])
 
   abbrev five : Cause
-  five = ill-formed (graph-of s) (s .session .made) (s .sequence)
+  five = ill-formed s
 
   abbrev six : Cause
   six = not-inverse modulus (graph-of s) (unmatched (in-play s) (pairs-of s)) (s .inverse)
@@ -68,18 +70,18 @@ module _ (s : State) where
   refused-first e = judge-first four (five ∷ six ∷ []) e
 
   module _ (ok : judge four ≡ accepted) where
-    pub refused-five : ¬ WellFormed (graph-of s) (s .session .made) (s .sequence) → session-ruling modulus s ≡ refused (because 5 0)
+    pub refused-five : ¬ WellFormedSession s → session-ruling modulus s ≡ refused (because 5 0)
     unfolding session-ruling ill-formed
     refused-five d =
         judge-second four (five ∷ six ∷ []) ok
-        ∙ judge-refused five (six ∷ []) (index 0) (when-at (not? (well-formed? (graph-of s) (s .session .made) (s .sequence))) 0 d)
+        ∙ judge-refused five (six ∷ []) (index 0) (when-at (not? (well-formed-session? s)) 0 d)
 
-    module _ (W : WellFormed (graph-of s) (s .session .made) (s .sequence)) where
+    module _ (W : WellFormedSession s) where
       rest : session-ruling modulus s ≡ judge (six ∷ [])
       unfolding session-ruling ill-formed
       rest =
           judge-second four (five ∷ six ∷ []) ok
-          ∙ judge-next five (six ∷ []) (unless-absent (well-formed? (graph-of s) (s .session .made) (s .sequence)) 0 .1 W)
+          ∙ judge-next five (six ∷ []) (unless-absent (well-formed-session? s) 0 .1 W)
 
       pub refused-six : ¬ InverseTable modulus (graph-of s) (unmatched (in-play s) (pairs-of s)) (s .inverse)
           → session-ruling modulus s ≡ refused (because 6 0)
@@ -96,33 +98,33 @@ module _ (s : State) where
           ∙ judge-next six [] (unless-absent (inverse-table? modulus (graph-of s) (unmatched (in-play s) (pairs-of s)) (s .inverse)) 0 .1 I)
 
 -- the answers of the confirmation
-module _ (n made : ℕ) (adjacency weights inverse sequence marks : List ℕ) (J : Judged n adjacency weights inverse sequence) where
+module _ (n made : ℕ) (adjacency weights inverse sequence kept marks : List ℕ) (J : Judged n adjacency weights inverse sequence kept) where
   abbrev lent-state : State
-  lent-state = state n made adjacency weights inverse sequence
+  lent-state = state n made adjacency weights inverse sequence kept
 
-  pub not-formed : {r : Ruling} → ruling-of r ≡ refused (because 5 0) → ¬ WellFormed (over n adjacency weights) made sequence
-      → Confirmed n made adjacency weights inverse sequence marks r
+  pub not-formed : {r : Ruling} → ruling-of r ≡ refused (because 5 0) → ¬ WellFormedSession lent-state
+      → Confirmed n made adjacency weights inverse sequence kept marks r
   not-formed e d = record {
     ruled = e ∙ sym (refused-five lent-state (J .four) d);
     left = λ q. absurd (let z : _≡_ {A = ℕ} 0 1 = cc in omega arith);
   }
 
-  module _ (W : WellFormed (over n adjacency weights) made sequence) where
+  module _ (W : WellFormedSession lent-state) where
     pub not-confirmed : {r : Ruling} → ruling-of r ≡ refused (because 6 0) → ¬ InverseTable modulus (over n adjacency weights) (unmatched (in-play lent-state) (pairs-on sequence made)) inverse
-        → Confirmed n made adjacency weights inverse sequence marks r
+        → Confirmed n made adjacency weights inverse sequence kept marks r
     not-confirmed e d = record {
       ruled = e ∙ sym (refused-six lent-state (J .four) W d);
       left = λ q. absurd (let z : _≡_ {A = ℕ} 0 1 = cc in omega arith);
     }
 
     pub all-confirmed : {r : Ruling} → ruling-of r ≡ accepted → InverseTable modulus (over n adjacency weights) (unmatched (in-play lent-state) (pairs-on sequence made)) inverse
-        → Left n sequence made marks → Confirmed n made adjacency weights inverse sequence marks r
+        → Left n (kept-in n kept) sequence made marks → Confirmed n made adjacency weights inverse sequence kept marks r
     all-confirmed e I L = record { ruled = e ∙ sym (confirmed lent-state (J .four) W I); left = λ _. L }
 
-pub first-refused : (n made : ℕ) (adjacency weights inverse sequence marks : List ℕ) {r : Ruling} {why : Refusal} → ruling-of r ≡ refused why
-    → refused why ≡ judge (opening-causes modulus (over n adjacency weights) (lent-always n (length adjacency) (length weights) (length inverse) (length sequence)))
-    → Confirmed n made adjacency weights inverse sequence marks r
-first-refused n made adjacency weights inverse sequence marks e q = record {
-  ruled = e ∙ sym (refused-first (state n made adjacency weights inverse sequence) (sym q));
+pub first-refused : (n made : ℕ) (adjacency weights inverse sequence kept marks : List ℕ) {r : Ruling} {why : Refusal} → ruling-of r ≡ refused why
+    → refused why ≡ judge (opening-causes modulus (over n adjacency weights) (lent-always n (length adjacency) (length weights) (length inverse) (length sequence) ++ lent-kept n (length kept) ∷ []))
+    → Confirmed n made adjacency weights inverse sequence kept marks r
+first-refused n made adjacency weights inverse sequence kept marks e q = record {
+  ruled = e ∙ sym (refused-first (state n made adjacency weights inverse sequence kept) (sym q));
   left = λ a. absurd (let z : _≡_ {A = ℕ} 0 1 = cc in omega arith);
 }

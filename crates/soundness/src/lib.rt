@@ -3,8 +3,11 @@
 use refusals::Refusal;
 use refusals::Ruling;
 ghost use mathlib.Core.Path.{_≡_};
+ghost use mathlib.Core.List.{[], _∷_};
 ghost use Prim.Native.Nat.{_≤_};
 ghost use lib.ListN.{length, take};
+ghost use Rattle.matching.specs.Causes.{lent-row};
+ghost use Rattle.matching.specs.Replay.{lent-answers};
 ghost use Rattle.soundness.specs.Sound.{Judged, Confirmed};
 ghost use Rattle.soundness.specs.Besides.{ConfirmedLent};
 
@@ -16,14 +19,15 @@ fn confirm_rest(
     weights: &[u16],
     inverse: &[u16],
     sequence: &[u8],
+    kept: &[u8],
     marks: &mut [u8],
 ) -> Ruling
-    requires { ⌜ Judged n (now adjacency) (now weights) (now inverse) (now sequence) × (length (now marks) ≡ n) ⌝ }
+    requires { ⌜ Judged n (now adjacency) (now weights) (now inverse) (now sequence) (now kept) × (length (now marks) ≡ n) ⌝ }
     ensures { λ r.
         ⌜ Confirmed n made (now (adjacency .entry)) (now (weights .entry)) (now (inverse .entry)) (now (sequence .entry))
-        (now (marks .exit)) r ⌝ }
+        (now (kept .entry)) (now (marks .exit)) r ⌝ }
 {
-    let formed = sequence::formed(n, adjacency, sequence, made, marks);
+    let formed = sequence::formed(n, adjacency, sequence, made, kept, marks);
     if !formed {
         return refusals::refuse(5, 0);
     }
@@ -42,14 +46,22 @@ pub fn confirm(
     weights: &[u16],
     inverse: &[u16],
     sequence: &[u8],
+    kept: &[u8],
     marks: &mut [u8],
 ) -> Ruling
     requires { ⌜ 96 ≤ length (now marks) ⌝ }
     ensures { λ r.
         ⌜ Confirmed n made (now (adjacency .entry)) (now (weights .entry)) (now (inverse .entry)) (now (sequence .entry))
-        (take n (now (marks .exit))) r ⌝ }
+        (now (kept .entry)) (take n (now (marks .exit))) r ⌝ }
 {
-    let ruling = checks::judge_session(n, adjacency, weights, inverse.len(), sequence.len());
+    let ruling = checks::judge_session(
+        n,
+        adjacency,
+        weights,
+        inverse.len(),
+        sequence.len(),
+        kept.len(),
+    );
     if let Ruling::Refused(refusal) = ruling {
         return Ruling::Refused(refusal);
     }
@@ -60,28 +72,28 @@ pub fn confirm(
         weights,
         inverse,
         sequence,
+        kept,
         &mut marks[..n],
     )
 }
 
-// Confirms a session whose call is lent one more buffer, with its number, its length room, and the length needed. It is judged after
-// buffers 1 to 4 and before anything else.
-pub fn confirm_lent(
+// Confirms a session whose call is lent a row of partners as well, of length row, which is judged after the lengths of buffers 1 to 4 and
+// before that of the kept row.
+pub fn confirm_row(
     n: usize,
     made: usize,
     adjacency: &[u8],
     weights: &[u16],
     inverse: &[u16],
     sequence: &[u8],
-    buffer: usize,
-    room: usize,
-    needed: usize,
+    kept: &[u8],
+    row: usize,
     marks: &mut [u8],
 ) -> Ruling
     requires { ⌜ 96 ≤ length (now marks) ⌝ }
     ensures { λ r.
-        ⌜ ConfirmedLent (record { number = buffer; length = room; needed = needed }) n made (now (adjacency .entry))
-        (now (weights .entry)) (now (inverse .entry)) (now (sequence .entry)) (take n (now (marks .exit))) r ⌝ }
+        ⌜ ConfirmedLent (lent-row n row ∷ []) [] n made (now (adjacency .entry)) (now (weights .entry)) (now (inverse .entry))
+        (now (sequence .entry)) (now (kept .entry)) (take n (now (marks .exit))) r ⌝ }
 {
     let lengths = checks::judge_lengths(
         n,
@@ -93,8 +105,46 @@ pub fn confirm_lent(
     if let Ruling::Refused(refusal) = lengths {
         return Ruling::Refused(refusal);
     }
-    if room < needed {
-        return refusals::refuse(2, buffer);
+    if row < n {
+        return refusals::refuse(2, 7);
     }
-    confirm(n, made, adjacency, weights, inverse, sequence, marks)
+    confirm(n, made, adjacency, weights, inverse, sequence, kept, marks)
+}
+
+// Confirms a session whose call is lent answers as well, and needs count of them; their length is judged after that of the kept row and
+// before cause 3.
+pub fn confirm_answers(
+    n: usize,
+    made: usize,
+    adjacency: &[u8],
+    weights: &[u16],
+    inverse: &[u16],
+    sequence: &[u8],
+    kept: &[u8],
+    answers: usize,
+    count: usize,
+    marks: &mut [u8],
+) -> Ruling
+    requires { ⌜ 96 ≤ length (now marks) ⌝ }
+    ensures { λ r.
+        ⌜ ConfirmedLent [] (lent-answers count answers ∷ []) n made (now (adjacency .entry)) (now (weights .entry))
+        (now (inverse .entry)) (now (sequence .entry)) (now (kept .entry)) (take n (now (marks .exit))) r ⌝ }
+{
+    let lengths = checks::judge_lengths(
+        n,
+        adjacency.len(),
+        weights.len(),
+        inverse.len(),
+        sequence.len(),
+    );
+    if let Ruling::Refused(refusal) = lengths {
+        return Ruling::Refused(refusal);
+    }
+    if kept.len() < n {
+        return refusals::refuse(2, 8);
+    }
+    if answers < count {
+        return refusals::refuse(2, 10);
+    }
+    confirm(n, made, adjacency, weights, inverse, sequence, kept, marks)
 }

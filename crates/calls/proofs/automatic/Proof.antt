@@ -14,7 +14,7 @@ enum-known-lowest c = search needs
 partner-requires : tie.Need-partner-requires
 partner-requires c κs =
     let start = c .before .before .before .before .before .before .before .before .before .before .before in
-    tables (start .pre .1)
+    tables (start .pre .2)
 
 enum-known-partner : tie.Need-enum-known-partner
 enum-known-partner c = search needs
@@ -23,11 +23,11 @@ append-requires : tie.Need-append-requires
 append-requires c κs =
     let partner = c .before .before .before .before .before .before in
     let start = c .before .before .before .before .before .before .before .before .before .before .before .before .before .before .before .before .before .before in
-    let K = start .pre .1 in
+    let K = start .pre .2 in
     append-room K _ _ (automatic-allowed K (rw (c .before .before .before .before .partner2 .given .1) at (partner .partner .ensures _ _ _ (standing K))))
 
 add-more : tie.Need-add-more
-add-more c = let K = c .before .before .before .before .before .before .before .before .before .before .before .before .before .before .before .before .before .before .before .before .before .before .before .before .before .pre .1 in omega (arith, few K, tables K .size)
+add-more c = let K = c .before .before .before .before .before .before .before .before .before .before .before .before .before .before .before .before .before .before .before .before .before .before .before .before .before .pre .2 in omega (arith, few K, tables K .size)
 
 same-length : tie.Need-same-length
 same-length c = search needs
@@ -39,7 +39,7 @@ same-length-3 : tie.Need-same-length-3
 same-length-3 c = search needs
 
 returns : tie.Need-returns
-returns c = λ weights K.
+returns c = λ weights kept K.
     let appended = c .before .before .before .before .before .before in
     let known = appended .before .before .before .before .before in
     let partner = known .before .before in
@@ -62,7 +62,7 @@ same-length-5 : tie.Need-same-length-5
 same-length-5 c = search needs
 
 returns-2 : tie.Need-returns-2
-returns-2 c = λ weights K.
+returns-2 c = λ weights kept K.
     let told = c .before in
     let partner = told .before .before in
     let found = partner .before .before .before .before in
@@ -79,7 +79,7 @@ same-length-6 : tie.Need-same-length-6
 same-length-6 c = search needs
 
 returns-3 : tie.Need-returns-3
-returns-3 c = λ weights K.
+returns-3 c = λ weights kept K.
     let told = c .before in
     let none = automatic-denied K (rw (told .enum-told2 .given .1) at (told .before .before .lowest .ensures)) in
     called-denied (c .deny2 .ensures) none (K .left)

@@ -6,7 +6,7 @@ use Rattle.calls.proofs.pick.Statement.{statement}
 use Rattle.calls.proofs.pick.Tie as tie
 
 judge-requires : tie.Need-judge-requires
-judge-requires c κs = tables (c .before .before .before .before .before .before .pre .1)
+judge-requires c κs = tables (c .before .before .before .before .before .before .pre .2)
 
 enum-known-ruling : tie.Need-enum-known-ruling
 enum-known-ruling c = search needs
@@ -18,7 +18,7 @@ same-length-2 : tie.Need-same-length-2
 same-length-2 c = search needs
 
 returns : tie.Need-returns
-returns c = λ weights K.
+returns c = λ weights kept K.
     let judged = c .before .before .before in
     record { handled = pick-denied K (rw (c .before .ruling .given .1) at (judged .judge .ensures weights _ _ (standing K))); left = K .left }
 
@@ -30,11 +30,11 @@ append-requires c κs =
     let told = c .before .before .before in
     let judged = told .before .before in
     let start = judged .before .before .before .before .before .before .before in
-    let K = start .pre .1 in
+    let K = start .pre .2 in
     append-room K _ _ (pick-allowed K (rw (told .enum-told .given .1) at (judged .judge .ensures _ _ _ (standing K))))
 
 add-more : tie.Need-add-more
-add-more c = let K = c .before .before .before .before .before .before .before .before .before .before .before .before .before .before .before .before .before .before .before .pre .1 in omega (arith, few K, tables K .size)
+add-more c = let K = c .before .before .before .before .before .before .before .before .before .before .before .before .before .before .before .before .before .before .before .pre .2 in omega (arith, few K, tables K .size)
 
 same-length-3 : tie.Need-same-length-3
 same-length-3 c = search needs
@@ -46,7 +46,7 @@ same-length-5 : tie.Need-same-length-5
 same-length-5 c = search needs
 
 returns-2 : tie.Need-returns-2
-returns-2 c = λ weights K.
+returns-2 c = λ weights kept K.
     let appended = c .before .before .before .before .before .before in
     let told = appended .before .before .before .before in
     let judged = told .before .before in

@@ -12,34 +12,33 @@ deny-requires : tie.Need-deny-requires
 deny-requires c κs = search needs
 
 returns : tie.Need-returns
-returns c =
+returns c = λ kept K.
     let if1 = c .before in
-    let K = if1 .before .before .before .before .before .before .pre in
     called-denied (c .deny .ensures) (undo-none K (if1 .if1 .taken)) (K .left)
 
 sub-less : tie.Need-sub-less
 sub-less c = search needs
 
 add-at : tie.Need-add-at
-add-at c = let K = c .before .before .before .before .before .before .pre in omega (arith, few K, tables K .size)
+add-at c = let K = c .before .before .before .before .before .before .pre .1 in omega (arith, few K, tables K .size)
 
 slice-read-a : tie.Need-slice-read-a
-slice-read-a c = let K = c .before .before .before .before .before .before .before .pre in omega (arith, few K, sequence-fits K)
+slice-read-a c = let K = c .before .before .before .before .before .before .before .pre .1 in omega (arith, few K, sequence-fits K)
 
 cast-a : tie.Need-cast-a
 cast-a c = let made = c .before .before .before .before .before .before .before .args .made in omega (arith, c .slice-known4 .given (made - 1 + (made - 1)))
 
 add-b : tie.Need-add-b
-add-b c = let K = c .before .before .before .before .before .before .before .pre in omega (arith, few K, tables K .size)
+add-b c = let K = c .before .before .before .before .before .before .before .pre .1 in omega (arith, few K, tables K .size)
 
 slice-read-b : tie.Need-slice-read-b
-slice-read-b c = let K = c .before .before .before .before .before .before .before .before .pre in omega (arith, few K, sequence-fits K)
+slice-read-b c = let K = c .before .before .before .before .before .before .before .before .pre .1 in omega (arith, few K, sequence-fits K)
 
 cast-b : tie.Need-cast-b
 cast-b c = let made = c .before .before .before .before .before .before .before .before .args .made in omega (arith, c .slice-known5 .given (made - 1 + (made - 1) + 1))
 
 remove-requires : tie.Need-remove-requires
-remove-requires c κs = let K = c .before .before .before .before .before .before .before .before .before .before .before .pre in (complete K, undo-room K (c .before .before .before .before .before .if1 .left))
+remove-requires c κs = let K = c .before .before .before .before .before .before .before .before .before .before .before .pre .1 in (complete K, undo-room K (c .before .before .before .before .before .if1 .left))
 
 deny-requires-2 : tie.Need-deny-requires-2
 deny-requires-2 c κs = search needs
@@ -54,10 +53,9 @@ same-length-3 : tie.Need-same-length-3
 same-length-3 c = search needs
 
 returns-2 : tie.Need-returns-2
-returns-2 c =
+returns-2 c = λ kept K.
     let if2 = c .before in
     let removed = if2 .before .before .before .before .before .before .before in
-    let K = if2 .before .before .before .before .before .before .before .before .before .before .before .before .before .before .before .before .before .before .before .pre in
     let h = denies-undo K (if2 .before .before .before .before .before .before .before .before .before .before .before .before .before .if1 .left) (removed .remove .ensures) (not-true _ (if2 .if2 .taken)) in
     called-denied (c .deny2 .ensures) (h .0) (h .1)
 
@@ -71,9 +69,8 @@ same-length-6 : tie.Need-same-length-6
 same-length-6 c = search needs
 
 returns-3 : tie.Need-returns-3
-returns-3 c =
+returns-3 c = λ kept K.
     let removed = c .before .before .before .before .before .before .before in
-    let K = c .before .before .before .before .before .before .before .before .before .before .before .before .before .before .before .before .before .before .before .pre in
     let h = does-undo K (c .before .before .before .before .before .before .before .before .before .before .before .before .before .if1 .left) (removed .remove .ensures) (not-false _ (c .if2 .left)) in
     record { handled = h .0; left = h .1 }
 

@@ -20,21 +20,21 @@ Inv-loop n adjacency inverse₀ sequence₀ marks₀ made₀ inverse sequence ma
     (length inverse ≡ length inverse₀)
     × (length sequence ≡ length sequence₀)
     × (length marks ≡ length marks₀)
-    × ((weights : List ℕ) → Known n 0 adjacency weights inverse₀ sequence₀ marks₀
-    → Known n made adjacency weights inverse sequence marks × Picked (over n adjacency weights) (in-play (state n made adjacency weights inverse sequence)) made (pairs-on sequence made))
+    × ((weights kept : List ℕ) → Known n 0 adjacency weights inverse₀ sequence₀ kept marks₀
+    → Known n made adjacency weights inverse sequence kept marks × Picked (over n adjacency weights) (in-play (state n made adjacency weights inverse sequence kept)) made (pairs-on sequence made))
 
 abbrev μ-loop : tie.MeasureT-loop
 μ-loop n adjacency inverse₀ sequence₀ marks₀ made₀ inverse sequence marks made = n - (made + made)
 
 loop-holds : tie.Need-loop-holds Inv-loop μ-loop
 unfolding pairs-on
-loop-holds c = (refl, refl, refl, λ weights K. (K, picked-none _ _))
+loop-holds c = (refl, refl, refl, λ weights kept K. (K, picked-none _ _))
 
 automatic-requires : tie.Need-automatic-requires Inv-loop μ-loop
 automatic-requires c κs =
     let at = c .before .before .before in
     let pre = at .before .before .before .before .before .pre in
-    (pre .0, at .loop .inv .3 (pre .0) (pre .1) .0)
+    (pre .0, pre .1, at .loop .inv .3 (pre .0) (pre .1) (pre .2) .0)
 
 enum-told : tie.Need-enum-told Inv-loop μ-loop
 enum-told c = search needs
@@ -55,10 +55,10 @@ same-length-3 c =
     at .automatic .kept .1 .1 .1 .1 .1 .0 ∙ at .before .before .before .before .loop .inv .2
 
 returns : tie.Need-returns Inv-loop μ-loop
-returns c = λ weights K.
+returns c = λ weights kept K.
     let at = c .before .before .before .before .before .before .before .before in
-    let now = at .before .before .before .before .loop .inv .3 weights K in
-    completes (now .0) (at .automatic .ensures weights (now .0)) (ap answer-of (c .enum-told .given .1)) (now .1)
+    let now = at .before .before .before .before .loop .inv .3 weights kept K in
+    completes (now .0) (at .automatic .ensures weights kept (now .0)) (ap answer-of (c .enum-told .given .1)) (now .1)
 
 enum-told-2 : tie.Need-enum-told-2 Inv-loop μ-loop
 enum-told-2 c = search needs
@@ -67,8 +67,8 @@ loop-less : tie.Need-loop-less Inv-loop μ-loop
 loop-less c =
     let at = c .before .before .before .before .before .before .before .before in
     let start = at .before .before .before .before .before .before .before .before .before in
-    let now = at .before .before .before .before .loop .inv .3 (start .pre .0) (start .pre .1) in
-    let C = at .automatic .ensures (start .pre .0) (now .0) in
+    let now = at .before .before .before .before .loop .inv .3 (start .pre .0) (start .pre .1) (start .pre .2) in
+    let C = at .automatic .ensures (start .pre .0) (start .pre .1) (now .0) in
     omega (arith, few (called-known (now .0) C), picked-more (now .0) C (ap answer-of (c .enum-told2 .given .1)) (now .1) .0)
 
 loop-again : tie.Need-loop-again Inv-loop μ-loop
@@ -78,9 +78,9 @@ loop-again c =
       at .automatic .kept .1 .1 .1 .0 ∙ inv .0,
       at .automatic .kept .1 .1 .1 .1 .0 ∙ inv .1,
       at .automatic .kept .1 .1 .1 .1 .1 .0 ∙ inv .2,
-      λ weights K.
-          let now = inv .3 weights K in
-          let C = at .automatic .ensures weights (now .0) in
+      λ weights kept K.
+          let now = inv .3 weights kept K in
+          let C = at .automatic .ensures weights kept (now .0) in
           (called-known (now .0) C, picked-more (now .0) C (ap answer-of (c .enum-told2 .given .1)) (now .1) .1),
     )
 

@@ -1,7 +1,8 @@
 -- `replay::run` meets its contract. The invariant of its loop: the calls before i have led to the current session, which is known to be
 -- sound. The measure is what is left of the answers. Assumes nothing.
 use mathlib.Core.Path.{_≡_, refl, _∙_}
-use Prim.Native.Nat.{_-_, _≤_}
+use mathlib.Core.List.{List}
+use Prim.Native.Nat.{ℕ, _-_, _≤_}
 use native.Mathlib.Omega.{arith}
 use lib.ListN.{length, length-set}
 use borrow.Author.Needs.{needs}
@@ -19,15 +20,16 @@ Inv-loop n start adjacency weights inverse₀ sequence₀ marks₀ list answers�
     × (length sequence ≡ length sequence₀)
     × (length marks ≡ length marks₀)
     × (length answers ≡ length answers₀)
-    × Known n made adjacency weights inverse sequence marks
-    × Ran (state n start adjacency weights inverse₀ sequence₀) list answers₀ i (state n made adjacency weights inverse sequence) answers changed
+    × ((kept : List ℕ) → Known n start adjacency weights inverse₀ sequence₀ kept marks₀
+    → Known n made adjacency weights inverse sequence kept marks
+    × Ran (state n start adjacency weights inverse₀ sequence₀ kept) list answers₀ i (state n made adjacency weights inverse sequence kept) answers changed)
 
 abbrev μ-loop : tie.MeasureT-loop
 μ-loop n start adjacency weights inverse₀ sequence₀ marks₀ list answers₀ made₀ changed₀ i₀ inverse sequence marks answers made changed i =
     length answers₀ - i
 
 loop-holds : tie.Need-loop-holds Inv-loop μ-loop
-loop-holds c = (omega arith, refl, refl, refl, refl, c .before .before .before .before .before .before .before .pre .0, ran-none _ _ _)
+loop-holds c = (omega arith, refl, refl, refl, refl, λ kept K. (K, ran-none _ _ _))
 
 mul-at : tie.Need-mul-at Inv-loop μ-loop
 mul-at c = omega arith
@@ -60,13 +62,20 @@ call-requires : tie.Need-call-requires Inv-loop μ-loop
 call-requires c κs = search needs
 
 make-requires : tie.Need-make-requires Inv-loop μ-loop
-make-requires c κs = c .before .before .before .before .before .before .before .before .loop .inv .5
+make-requires c κs =
+    let at = c .before .before .before .before .before .before .before .before in
+    let pre = at .before .before .before .before .before .before .before .before .pre .0 in
+    (pre .0, at .loop .inv .5 (pre .0) (pre .1) .0)
 
 accepts-requires : tie.Need-accepts-requires Inv-loop μ-loop
 accepts-requires c κs = search needs
 
 number-requires : tie.Need-number-requires Inv-loop μ-loop
-number-requires c κs = handles-fit (c .before .before .before .before .before .before .before .make .result .answer) (c .before .before .before .before .before .before .before .make .ensures .handled)
+number-requires c κs =
+    let called = c .before .before .before .before .before .before .before in
+    let at = called .before .before .before .before .before .before .before .before .before in
+    let pre = at .before .before .before .before .before .before .before .before .pre .0 in
+    handles-fit (called .make .result .answer) (called .make .ensures (pre .0) (at .loop .inv .5 (pre .0) (pre .1) .0) .handled)
 
 mul-answers : tie.Need-mul-answers Inv-loop μ-loop
 mul-answers c = let inside = c .before .before .before .before .before .before .before .before .before .before .before .before .before .before .before .before in omega (arith, inside .loop-test .taken, inside .before .loop .inv .4, inside .before .before .before .before .before .before .before .before .before .good, inside .before .before .before .before .before .before .before .before .before .pre .1)
@@ -89,8 +98,12 @@ loop-again c =
       called .kept .1 .1 .1 .1 .1 .1 .0 ∙ inv .2,
       called .kept .1 .1 .1 .1 .1 .1 .1 .0 ∙ inv .3,
       simp length-set (inv .4),
-      called-known (inv .5) (called .ensures),
-      ran-more (inv .6) (omega arith) (rw (c .before .before .before .before .before .before .before .before .before .before .before .before .call .ensures) at (called .ensures .handled)) (c .number .ensures _) (c .before .accepts .ensures),
+      λ kept K.
+          let now = inv .5 kept K in
+          let C = called .ensures kept (now .0) in (
+            called-known (now .0) C,
+            ran-more (now .1) (omega arith) (rw (c .before .before .before .before .before .before .before .before .before .before .before .before .call .ensures) at (C .handled)) (c .number .ensures _) (c .before .accepts .ensures),
+          ),
     )
 
 same-length : tie.Need-same-length Inv-loop μ-loop
@@ -106,11 +119,11 @@ same-length-4 : tie.Need-same-length-4 Inv-loop μ-loop
 same-length-4 c = c .before .loop .inv .4
 
 returns : tie.Need-returns Inv-loop μ-loop
-returns c =
+returns c = λ kept K.
     let at = c .before in
     let inv = at .loop .inv in
     let all : at .loop .i ≡ length (c .before .before .before .before .before .before .before .before .before .args .answers .now) = omega arith in
-    rw all at (inv .6)
+    rw all at (inv .5 kept K .1)
 
 pub run-spec : {M : Type 1} → statement M
 run-spec =

@@ -4,18 +4,19 @@ use mathlib.Core.Bool.{true≢false}
 use mathlib.Core.Path.{_≡_, _∙_, sym}
 use Prim.Native.Nat.{_+_, _-_, _≤_}
 use native.Mathlib.Omega.{arith}
-use Rattle.sequence.specs.Formed.{tells-true, tells-false, not-true, not-false, UpTo, Left, upto-start, upto-more, left-more, upto-fits}
+use Rattle.skew.specs.Subset.{marked}
+use Rattle.sequence.specs.Formed.{tells-true, tells-false, not-true, not-false, UpTo, Left, left-start, upto-start, upto-more, left-more, upto-fits}
 use Rattle.sequence.proofs.take_pairs.Statement.{statement}
 use Rattle.sequence.proofs.take_pairs.Tie as tie
 
 abbrev Inv-loop : tie.InvT-loop
-Inv-loop n adjacency sequence made marks₀ k₀ marks k = (k ≤ made) × UpTo n adjacency sequence k × Left n sequence k marks
+Inv-loop n adjacency sequence made marks₀ k₀ marks k = (k ≤ made) × UpTo n (marked marks₀) adjacency sequence k × Left n (marked marks₀) sequence k marks
 
 abbrev μ-loop : tie.MeasureT-loop
 μ-loop n adjacency sequence made marks₀ k₀ marks k = made - k
 
 loop-holds : tie.Need-loop-holds Inv-loop μ-loop
-loop-holds c = (omega arith, upto-start _ _ _, c .before .before .before .pre .3)
+loop-holds c = (omega arith, upto-start _ _ _ _, left-start _ _ _ (c .before .before .before .pre .3))
 
 add-at : tie.Need-add-at Inv-loop μ-loop
 add-at c = omega arith
@@ -43,7 +44,7 @@ fits-requires c κs =
 same-length : tie.Need-same-length Inv-loop μ-loop
 same-length c =
     let at = c .before .before .before .before .before .before in
-    at .loop .inv .2 .size ∙ sym (at .before .before .before .before .pre .3 .size)
+    at .loop .inv .2 .size ∙ sym (at .before .before .before .before .pre .3)
 
 returns : tie.Need-returns Inv-loop μ-loop
 returns c =
@@ -75,7 +76,7 @@ loop-again c =
 same-length-2 : tie.Need-same-length-2 Inv-loop μ-loop
 same-length-2 c =
     let at = c .before in
-    at .loop .inv .2 .size ∙ sym (at .before .before .before .before .pre .3 .size)
+    at .loop .inv .2 .size ∙ sym (at .before .before .before .before .pre .3)
 
 returns-2 : tie.Need-returns-2 Inv-loop μ-loop
 returns-2 c =

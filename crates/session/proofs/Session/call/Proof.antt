@@ -33,7 +33,7 @@ slice-aggregate-make : tie.Need-slice-aggregate-make
 slice-aggregate-make c = sym ((known (c .before .before .before .before .before .before .confirm .ensures) (c .before .before .before .enum-told .given .1)) .left .size)
 
 make-requires : tie.Need-make-requires
-make-requires c κs = known (c .before .before .before .before .before .before .confirm .ensures) (c .before .before .before .enum-told .given .1)
+make-requires c κs = (_, known (c .before .before .before .before .before .before .confirm .ensures) (c .before .before .before .enum-told .given .1))
 
 same-length-3 : tie.Need-same-length-3
 same-length-3 c = search needs
@@ -42,7 +42,10 @@ same-length-4 : tie.Need-same-length-4
 same-length-4 c = search needs
 
 returns-2 : tie.Need-returns-2
-returns-2 c = search needs
+returns-2 c =
+    let made = c .before .before .before .before .before in
+    let told = made .before .before .before .before in
+    made .make .ensures _ (known (told .before .before .before .confirm .ensures) (told .enum-told .given .1)) .handled
 
 pub call-spec : {M : Type 1} → statement M
 call-spec =
