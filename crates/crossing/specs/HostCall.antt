@@ -43,9 +43,9 @@ module _ {s left : State} {c : Call} {a : Answer} (h : Handles modulus-prime s c
   answers {given} q n w = record { given = given; left = left; outcome = rw q at h; numbered = n; stored = w; sequence = refl }
 
 -- a call over the words that the graph needs is a call over all words of the host
-module _ (n made : ℕ) (adjacency weights inverse sequence : List ℕ) where
+module _ (n made : ℕ) (adjacency weights inverse sequence kept : List ℕ) where
   abbrev host : State
-  host = state n made adjacency weights inverse sequence
+  host = state n made adjacency weights inverse sequence kept
 
   abbrev handed-state : Answer → State → State
   handed-state a left = record {
@@ -54,6 +54,7 @@ module _ (n made : ℕ) (adjacency weights inverse sequence : List ℕ) where
     weights = weights;
     inverse = stored a (n * n) (left .inverse) inverse;
     sequence = left .sequence;
+    kept = kept;
   }
 
   refused-through : (c : Call) {r : Refusal} → Handles modulus-prime (unpacked-state first-edition host) c (denied r) (unpacked-state first-edition host)
@@ -62,7 +63,7 @@ module _ (n made : ℕ) (adjacency weights inverse sequence : List ℕ) where
 
   module _ (B : Bytes inverse) (F : HostFits (unpacked-state first-edition host)) where
     same : session-ruling modulus (unpacked-state first-edition host) ≡ session-ruling modulus (needed-state host)
-    same = sym (ruling-same n made adjacency weights inverse sequence F modulus)
+    same = sym (ruling-same n made adjacency weights inverse sequence kept F modulus)
 
     steps : (c : Call) → session-ruling modulus (needed-state host) ≡ accepted
         → step modulus-prime (over n adjacency (words 2 weights)) (in-play host) (pairs-on sequence made) c
@@ -88,8 +89,9 @@ module _ (n made : ℕ) (adjacency weights inverse sequence : List ℕ) where
             weights = weights;
             inverse = i;
             sequence = with-pairs (over n adjacency (words 2 weights)) pairs table (unpacked-state first-edition host) .sequence;
+            kept = kept;
           })
-          (stored-front 2 table (needed-inverse n inverse) inverse (n * n) B l (F .fits .inverse-fits));
+          (stored-front 2 table (needed-inverse n inverse) inverse (n * n) B l (F .inverse-fits));
     }
 
   handed : {c : Call} {k : ℕ} (a : Answer) (left : State) → HostHandles first-edition host c k (handed-state a left)
@@ -99,7 +101,7 @@ module _ (n made : ℕ) (adjacency weights inverse sequence : List ℕ) where
   pub host-handles : Bytes inverse → HostFits (unpacked-state first-edition host) → {c : Call} {k : ℕ} {inverse′ sequence′ : List ℕ}
       → HandlesOver (needed-state host) c inverse k inverse′ sequence′ → HostHandles first-edition host c k (handed-back host k inverse′ sequence′)
   host-handles B F O =
-      rw (O .numbered, O .stored, O .sequence, table-length n made adjacency weights inverse sequence F)
+      rw (O .numbered, O .stored, O .sequence, table-length n made adjacency weights inverse sequence kept F)
       (handed (O .given) (O .left) (through B F (O .outcome)))
 
   -- a refusal for the number of vertices or the lengths is the host's

@@ -10,29 +10,30 @@ use lib.Seq.{length-take-le, getD-take}
 use Rattle.matching.specs.Decision.{Refusal, Ruling, accepted, refused, Cause, judge}
 use Rattle.matching.specs.Edition.{first-edition}
 use Rattle.matching.specs.Graph.{largest}
-use Rattle.matching.specs.Session.{State, state}
-use Rattle.matching.specs.Causes.{Lent, lent-always, lent-to-session, too-large, too-short, session-causes, session-ruling}
+use Rattle.matching.specs.Session.{State, state, graph-of}
+use Rattle.matching.specs.Causes.{Lent, lent-always, too-large, too-short, session-causes, session-ruling}
 use Rattle.matching.specs.Host.{words, unpacked-state}
-use Rattle.laws.specs.Sound.{short-absent, SessionFits, session-fits}
+use Rattle.laws.specs.Sound.{short-absent, GraphFits}
 use Rattle.laws.specs.Words.{words-length}
 use Rattle.laws.specs.Judge.{judge-accepted, when-absent}
-use Rattle.checks.specs.Meaning.{then}
 use Rattle.checks.specs.Weights.{needed}
 use Rattle.checks.specs.Lengths.{lengths-accepted}
-use Rattle.soundness.specs.Besides.{lengths-first, more-parts}
+use Rattle.soundness.specs.Besides.{four, lengths, lengths-first}
 use Rattle.crossing.specs.Needed.{needed-weights, needed-agree, needed-counted, needed-fits}
-use Rattle.crossing.specs.Steps.{session-same}
+use Rattle.crossing.specs.Steps.{causes-same}
 
--- the number of vertices and the lengths are in order
+-- the number of vertices is in order, and buffers 1 to 4 are long enough
 pub record HostFits (s : State) : Type 0 where
   pub size : s .session .size ≤ largest
-  pub fits : SessionFits s
+  pub graph : GraphFits (graph-of s)
+  pub inverse-fits : s .session .size * s .session .size ≤ length (s .inverse)
+  pub sequence-fits : s .session .size ≤ length (s .sequence)
 
-in-order : (s : State) → HostFits s → accepted ≡ judge (too-large (s .session .size) ∷ too-short (lent-to-session s []) ∷ [])
-in-order s F =
+pub in-order : (p : ℕ) (s : State) → HostFits s → accepted ≡ lengths p s
+in-order p s F =
     sym
-    (judge-accepted (too-large (s .session .size) ∷ too-short (lent-to-session s []) ∷ [])
-    .1 (when-absent (decLt largest (s .session .size)) 0 .1 (λ l. omega (arith, F .size)), (short-absent (lent-to-session s []) .1 (session-fits s [] .1 (F .fits, tt)), tt)))
+    (judge-accepted (too-large (s .session .size) ∷ too-short (four p s) ∷ [])
+    .1 (when-absent (decLt largest (s .session .size)) 0 .1 (λ l. omega (arith, F .size)), (short-absent (four p s) .1 (F .graph .cells, (F .graph .weights, (F .inverse-fits, (F .sequence-fits, tt)))), tt)))
 
 -- the words of the inverse that n vertices need
 abbrev pub needed-inverse : ℕ → List ℕ → List ℕ
@@ -73,57 +74,63 @@ needed-state s = record {
   weights = needed-weights (s .session .size) (s .weights);
   inverse = needed-inverse (s .session .size) (s .inverse);
   sequence = s .sequence;
+  kept = s .kept;
 }
 
-module _ (n made : ℕ) (adjacency weights inverse sequence : List ℕ) where
+module _ (n made : ℕ) (adjacency weights inverse sequence kept : List ℕ) where
   abbrev s : State
-  s = unpacked-state first-edition (state n made adjacency weights inverse sequence)
+  s = unpacked-state first-edition (state n made adjacency weights inverse sequence kept)
 
   -- the ruling on the number of vertices and the lengths of the bytes
   abbrev pub room : Ruling
   room = judge (too-large n ∷ too-short (lent-always n (length adjacency) (length weights / 2) (length inverse / 2) (length sequence)) ∷ [])
 
-  pub in-words : judge (too-large n ∷ too-short (lent-to-session s []) ∷ []) ≡ room
-  in-words = rw (words-length 2 weights, words-length 2 inverse)
+  pub in-words : (p : ℕ) → lengths p s ≡ room
+  in-words p = rw (words-length 2 weights, words-length 2 inverse)
 
   -- they are looked at first, whatever else a call is lent and looks at afterwards
-  pub room-first : (p : ℕ) (more : List Lent) (later : List Cause) {r : Refusal} → refused r ≡ room → judge (session-causes p s more ++ later) ≡ refused r
-  room-first p more later e = lengths-first p s more later (e ∙ sym in-words)
+  pub room-first : (p : ℕ) (before after : List Lent) (later : List Cause) {r : Refusal} → refused r ≡ room
+      → judge (session-causes p s before after ++ later) ≡ refused r
+  room-first p before after later e = lengths-first p s before after later (e ∙ sym (in-words p))
 
   pub room-refused : (p : ℕ) {r : Refusal} → refused r ≡ room → session-ruling p s ≡ refused r
   unfolding session-ruling
-  room-refused p e = room-first p [] [] e
+  room-refused p e = room-first p [] [] [] e
 
   pub room-accepted : accepted ≡ room → HostFits s
-  room-accepted e = let k = lengths-accepted n (lent-to-session s []) [] [] (in-words ∙ sym e) in record { size = k .0; fits = session-fits s [] .0 (k .1) .0 }
+  room-accepted e =
+      let k = lengths-accepted n (four 0 s) [] [] (in-words 0 ∙ sym e) in
+      let l = k .1 in
+      record { size = k .0; graph = record { cells = l .0; weights = l .1 .0 }; inverse-fits = l .1 .1 .0; sequence-fits = l .1 .1 .1 .0 }
 
   module _ (F : HostFits s) where
     pub table-length : length (needed-inverse n inverse) ≡ n * n
-    table-length = length-take-le (n * n) (words 2 inverse) (F .fits .inverse-fits)
+    table-length = length-take-le (n * n) (words 2 inverse) (F .inverse-fits)
 
     pub table-stores : 2 * (n * n) ≤ length inverse
-    table-stores = omega (arith, F .fits .inverse-fits, words-length 2 inverse)
+    table-stores = omega (arith, F .inverse-fits, words-length 2 inverse)
 
     pub needed-words : Needed n weights inverse
-    needed-words = record { size = F .size; weights-fit = needed-fits n weights (F .size) (F .fits .graph .weights); inverse-fits = table-stores }
+    needed-words = record { size = F .size; weights-fit = needed-fits n weights (F .size) (F .graph .weights); inverse-fits = table-stores }
 
-    pub needed-long : SessionFits (needed-state (state n made adjacency weights inverse sequence))
+    abbrev few-words : State
+    few-words = needed-state (state n made adjacency weights inverse sequence kept)
+
+    needed-long : HostFits few-words
     needed-long = record {
-      graph = record { cells = F .fits .graph .cells; weights = omega (arith, needed-counted n weights (F .size) (F .fits .graph .weights)) };
+      size = F .size;
+      graph = record { cells = F .graph .cells; weights = omega (arith, needed-counted n weights (F .size) (F .graph .weights)) };
       inverse-fits = omega (arith, table-length);
-      sequence-fits = F .fits .sequence-fits;
+      sequence-fits = F .sequence-fits;
     }
 
-    -- a call over the words needed is refused for the same cause
-    pub ruling-same : (p : ℕ) → session-ruling p (needed-state (state n made adjacency weights inverse sequence)) ≡ session-ruling p s
-    ruling-same p =
-        session-same p n made adjacency sequence (needed-weights n weights) (words 2 weights) (needed-inverse n inverse) (words 2 inverse) (needed-agree n weights (F .size))
-        (λ x l. getD-take (n * n) (words 2 inverse) x 0 l) needed-long (F .fits)
+    -- a call over the words needed is refused for the same cause, whatever else it is lent and looks at afterwards
+    pub more-same : (p : ℕ) (before after : List Lent) (later : List Cause)
+        → judge (session-causes p few-words before after ++ later) ≡ judge (session-causes p s before after ++ later)
+    more-same p before after later =
+        causes-same p n made adjacency sequence kept (needed-weights n weights) (words 2 weights) (needed-inverse n inverse) (words 2 inverse) (needed-agree n weights (F .size))
+        (λ x l. getD-take (n * n) (words 2 inverse) x 0 l) (in-order p few-words needed-long) (in-order p s F) before after later
 
-    -- and so is a call that is lent more buffers and looks at more causes afterwards
-    pub more-same : (p : ℕ) (more : List Lent) (later : List Cause)
-        → judge (session-causes p (needed-state (state n made adjacency weights inverse sequence)) more ++ later) ≡ judge (session-causes p s more ++ later)
-    more-same p more later =
-        more-parts p (needed-state (state n made adjacency weights inverse sequence)) more later (in-order (needed-state (state n made adjacency weights inverse sequence)) (record { size = F .size; fits = needed-long }))
-        ∙ ap (λ v. then (judge (too-short more ∷ [])) (then v (judge later))) (ruling-same p)
-        ∙ sym (more-parts p s more later (in-order s F))
+    pub ruling-same : (p : ℕ) → session-ruling p few-words ≡ session-ruling p s
+    unfolding session-ruling
+    ruling-same p = more-same p [] [] []

@@ -1,23 +1,25 @@
 -- Sessions whose weights and whose inverses agree as far as they are needed: the same ruling and the same step. Assumes nothing.
 use mathlib.Core.Path.{_≡_, refl, sym, ap, _∙_}
-use mathlib.Core.List.{List, [], _∷_}
+use mathlib.Core.List.{List, [], _∷_, _++_}
 use Prim.Native.Nat.{ℕ, _*_}
-use lib.ListN.{getD}
+use lib.ListN.{length, getD}
 use Rattle.modular.specs.Prime.{OddPrime}
 use Rattle.modular.specs.Congruence.{equals}
 use Rattle.skew.specs.Subset.{Subset}
 use Rattle.skew.specs.Same.{inverse-same}
-use Rattle.matching.specs.Decision.{Every, both?, not?, when, judge}
+use Rattle.matching.specs.Decision.{Every, both?, not?, when, accepted, Cause, judge}
 use Rattle.matching.specs.Graph.{pair-count, over}
 use Rattle.matching.specs.Pairs.{Pairs, pair-of, unmatched, in?, pairs-on}
-use Rattle.matching.specs.Session.{in-play, InverseTable, WellFormed, state}
-use Rattle.matching.specs.Decided.{well-formed?, inverse-table?}
-use Rattle.matching.specs.Causes.{lent-to-session, ill-formed, not-inverse, session-ruling}
+use Rattle.matching.specs.Session.{State, in-play, InverseTable, WellFormed, KeptFits, state}
+use Rattle.matching.specs.Decided.{well-formed-session?, inverse-table?}
+use Rattle.matching.specs.Causes.{Lent, lent-kept, first-short, bad-cell, bad-weight, ill-formed, not-inverse, session-causes, session-ruling}
 use Rattle.matching.specs.Matching.{adjacent?}
 use Rattle.matching.specs.Model.{Call, Answer, named?, needs, Nonsingular, nonsingular?, pick-ruling, Rule, picks, pick-refused, picks-lowest, none-left, no-pair, undo-refused, undoes, step}
-use Rattle.laws.specs.Sound.{SessionFits, session-fits, short-absent}
 use Rattle.laws.specs.OpeningOutcome.{table-over}
 use Rattle.laws.specs.Rules.{step-rule, rule-step}
+use Rattle.checks.specs.Meaning.{then}
+use Rattle.checks.specs.Lengths.{short-ruling}
+use Rattle.soundness.specs.Besides.{judge-then, lengths, rest, after-lengths}
 use Rattle.crossing.specs.Same.{cells-same, weights-same, tutte-same, table-same}
 
 -- causes with equivalent conditions apply alike
@@ -81,23 +83,42 @@ formed-same : (n made : ℕ) (adjacency u v sequence : List ℕ) → WellFormed 
 formed-same n made adjacency u v sequence W =
     record { few = W .few; ordered = W .ordered; below = W .below; adjacent = W .adjacent; different = W .different; rest = W .rest }
 
-module _ (p : ℕ) (n made : ℕ) (adjacency sequence : List ℕ) where
+module _ (p : ℕ) (n made : ℕ) (adjacency sequence kept : List ℕ) where
   inverse-both : (u v i j : List ℕ) → Agree (pair-count n) u v → Agree (n * n) i j → {L : Subset} → InverseTable p (over n adjacency u) L i → InverseTable p (over n adjacency v) L j
   inverse-both u v i j agree words I = table-same n adjacency u v agree (table-over i j (λ x l. sym (words x l)) I)
 
-  module _ (u v i j : List ℕ) (agree : Agree (pair-count n) u v) (words : Agree (n * n) i j)
-      (fits : SessionFits (state n made adjacency u i sequence)) (all-fits : SessionFits (state n made adjacency v j sequence)) where
-    pub session-same : session-ruling p (state n made adjacency u i sequence) ≡ session-ruling p (state n made adjacency v j sequence)
-    unfolding session-ruling ill-formed not-inverse
-    session-same =
-        let s = state n made adjacency u i sequence in
-        let t = state n made adjacency v j sequence in
+  formed-both : (u v : List ℕ) → WellFormed (over n adjacency u) made sequence × KeptFits n made sequence kept
+      → WellFormed (over n adjacency v) made sequence × KeptFits n made sequence kept
+  formed-both u v W = (formed-same n made adjacency u v sequence (W .0), W .1)
+
+  module _ (u v i j : List ℕ) (agree : Agree (pair-count n) u v) (words : Agree (n * n) i j) where
+    abbrev s : State
+    s = state n made adjacency u i sequence kept
+
+    abbrev t : State
+    t = state n made adjacency v j sequence kept
+
+    -- the causes after the lengths
+    rest-same : judge (rest p s) ≡ judge (rest p t)
+    unfolding bad-cell bad-weight ill-formed not-inverse
+    rest-same =
         let L = unmatched (in-play s) (pairs-on sequence made) in
         rw (
-          short-absent (lent-to-session s []) .1 (session-fits s [] .1 (fits, tt)),
-          short-absent (lent-to-session t []) .1 (session-fits t [] .1 (all-fits, tt)),
           cells-same n adjacency u v,
           weights-same n adjacency u v agree p,
-          when-same (well-formed? (over n adjacency u) made sequence) (well-formed? (over n adjacency v) made sequence) (formed-same n made adjacency u v sequence) (formed-same n made adjacency v u sequence),
+          when-same (well-formed-session? s) (well-formed-session? t) (formed-both u v) (formed-both v u),
           when-same (inverse-table? p (over n adjacency u) L i) (inverse-table? p (over n adjacency v) L j) (inverse-both u v i j agree words) (inverse-both v u j i (turned (pair-count n) u v agree) (turned (n * n) i j words)),
         )
+
+    -- all causes, if buffers 1 to 4 are long enough
+    pub causes-same : accepted ≡ lengths p s → accepted ≡ lengths p t → (before after : List Lent) (later : List Cause)
+        → judge (session-causes p s before after ++ later) ≡ judge (session-causes p t before after ++ later)
+    causes-same fits all-fits before after later =
+        after-lengths p s before after later fits
+        ∙ ap (then (short-ruling (first-short (before ++ lent-kept n (length kept) ∷ after))))
+        (judge-then (rest p s) later ∙ ap (λ r. then r (judge later)) rest-same ∙ sym (judge-then (rest p t) later))
+        ∙ sym (after-lengths p t before after later all-fits)
+
+    pub session-same : accepted ≡ lengths p s → accepted ≡ lengths p t → session-ruling p s ≡ session-ruling p t
+    unfolding session-ruling
+    session-same fits all-fits = causes-same fits all-fits [] [] []

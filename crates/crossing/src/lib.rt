@@ -25,15 +25,17 @@ fn call_over(
     table: &mut [u16],
     inverse: &mut [u8],
     sequence: &mut [u8],
+    kept: &[u8],
 ) -> u64
     requires { ⌜ 2 * length (now table) ≤ length (now inverse) ⌝ }
     ensures { λ r.
-        let before = state n made (now (adjacency .entry)) (now (weights .entry)) (now (table .entry)) (now (sequence .entry)) in
+        let before = state n made (now (adjacency .entry)) (now (weights .entry))
+        (now (table .entry)) (now (sequence .entry)) (now (kept .entry)) in
         ⌜ HandlesOver before (call-is call) (now (inverse .entry)) r (now (inverse .exit)) (now (sequence .exit)) ⌝ }
 {
     let cells = table.len();
     let session = Session { size: n, made };
-    let returned = session.call(call, adjacency, weights, table, sequence);
+    let returned = session.call(call, adjacency, weights, table, sequence, kept);
     let after = returned.session;
     let answer = returned.answer;
     let number = calls::number(answer, after.made);
@@ -67,10 +69,13 @@ fn call_words(
     weights: &[u8],
     inverse: &mut [u8],
     sequence: &mut [u8],
+    kept: &[u8],
 ) -> u64
-    requires { ⌜ HostFits (unpacked-state first-edition (state n made (now adjacency) (now weights) (now inverse) (now sequence))) ⌝ }
+    requires { ⌜ HostFits
+        (unpacked-state first-edition (state n made (now adjacency) (now weights) (now inverse) (now sequence) (now kept))) ⌝ }
     ensures { λ r.
-        let before = state n made (now (adjacency .entry)) (now (weights .entry)) (now (inverse .entry)) (now (sequence .entry)) in
+        let before = state n made (now (adjacency .entry)) (now (weights .entry))
+        (now (inverse .entry)) (now (sequence .entry)) (now (kept .entry)) in
         ⌜ HostHandles first-edition before (call-is call) r (handed-back before r (now (inverse .exit)) (now (sequence .exit))) ⌝ }
 {
     let mut values = [0u16; 4560];
@@ -87,10 +92,11 @@ fn call_words(
         &mut table[..cells],
         inverse,
         sequence,
+        kept,
     )
 }
 
-// Makes a call through the host. Unpacks words only if n and the lengths are in order.
+// Makes a call through the host. Unpacks words only if n and the lengths of buffers 1 to 4 are in order.
 fn handle(
     call: Call,
     n: usize,
@@ -99,9 +105,11 @@ fn handle(
     weights: &[u8],
     inverse: &mut [u8],
     sequence: &mut [u8],
+    kept: &[u8],
 ) -> u64
     ensures { λ r.
-        let before = state n made (now (adjacency .entry)) (now (weights .entry)) (now (inverse .entry)) (now (sequence .entry)) in
+        let before = state n made (now (adjacency .entry)) (now (weights .entry))
+        (now (inverse .entry)) (now (sequence .entry)) (now (kept .entry)) in
         ⌜ HostHandles first-edition before (call-is call) r (handed-back before r (now (inverse .exit)) (now (sequence .exit))) ⌝ }
 {
     let ruling = checks::judge_lengths(
@@ -114,7 +122,7 @@ fn handle(
     if let Ruling::Refused(refusal) = ruling {
         return numbers::refused(refusal);
     }
-    call_words(call, n, made, adjacency, weights, inverse, sequence)
+    call_words(call, n, made, adjacency, weights, inverse, sequence, kept)
 }
 
 // Picks a and b through the host.
@@ -127,12 +135,15 @@ pub fn pick(
     weights: &[u8],
     inverse: &mut [u8],
     sequence: &mut [u8],
+    kept: &[u8],
 ) -> u64
     ensures handled { λ r.
-        let before = state n made (now (adjacency .entry)) (now (weights .entry)) (now (inverse .entry)) (now (sequence .entry)) in
+        let before = state n made (now (adjacency .entry)) (now (weights .entry))
+        (now (inverse .entry)) (now (sequence .entry)) (now (kept .entry)) in
         ⌜ HostHandles first-edition before (model.pick a b) r (handed-back before r (now (inverse .exit)) (now (sequence .exit))) ⌝ }
     ensures exactly { λ r.
-        let before = state n made (now (adjacency .entry)) (now (weights .entry)) (now (inverse .entry)) (now (sequence .entry)) in
+        let before = state n made (now (adjacency .entry)) (now (weights .entry))
+        (now (inverse .entry)) (now (sequence .entry)) (now (kept .entry)) in
         ⌜ HostPickedExactly first-edition before a b r ⌝ }
 {
     handle(
@@ -143,6 +154,7 @@ pub fn pick(
         weights,
         inverse,
         sequence,
+        kept,
     )
 }
 
@@ -154,9 +166,11 @@ pub fn automatic(
     weights: &[u8],
     inverse: &mut [u8],
     sequence: &mut [u8],
+    kept: &[u8],
 ) -> u64
     ensures { λ r.
-        let before = state n made (now (adjacency .entry)) (now (weights .entry)) (now (inverse .entry)) (now (sequence .entry)) in
+        let before = state n made (now (adjacency .entry)) (now (weights .entry))
+        (now (inverse .entry)) (now (sequence .entry)) (now (kept .entry)) in
         ⌜ HostHandles first-edition before model.automatic r (handed-back before r (now (inverse .exit)) (now (sequence .exit))) ⌝ }
 {
     handle(
@@ -167,6 +181,7 @@ pub fn automatic(
         weights,
         inverse,
         sequence,
+        kept,
     )
 }
 
@@ -178,10 +193,21 @@ pub fn undo(
     weights: &[u8],
     inverse: &mut [u8],
     sequence: &mut [u8],
+    kept: &[u8],
 ) -> u64
     ensures { λ r.
-        let before = state n made (now (adjacency .entry)) (now (weights .entry)) (now (inverse .entry)) (now (sequence .entry)) in
+        let before = state n made (now (adjacency .entry)) (now (weights .entry))
+        (now (inverse .entry)) (now (sequence .entry)) (now (kept .entry)) in
         ⌜ HostHandles first-edition before model.undo r (handed-back before r (now (inverse .exit)) (now (sequence .exit))) ⌝ }
 {
-    handle(Call::Undo, n, made, adjacency, weights, inverse, sequence)
+    handle(
+        Call::Undo,
+        n,
+        made,
+        adjacency,
+        weights,
+        inverse,
+        sequence,
+        kept,
+    )
 }

@@ -36,7 +36,7 @@ pub record ReplaysOver (s : State) (numbers answers bytes : List ℕ) (answer : 
   pub numbered : answer ≡ replay-number verdict (left .session)
   pub stored : bytes′ ≡ onto (bytes-of 2 (take (extent changed (length (s .inverse))) (left .inverse))) bytes
   pub sequence : sequence′ ≡ left .sequence
-  pub kept : changed ≡ false → left ≡ s
+  pub unchanged : changed ≡ false → left ≡ s
 
 pub extent-small : (changed : Bool) (size : ℕ) → extent changed size ≤ size
 extent-small true size = omega arith
@@ -47,13 +47,13 @@ pub replays-fit : {s t : State} {numbers answers answers′ : List ℕ} {v : Rul
 replays-fit {t = t} {v = v} R = ruling-fits v (t .session) (replays-small modulus-prime R)
 
 -- a replay over the words that the graph needs is a replay over all words of the host
-module _ (n made : ℕ) (adjacency weights inverse sequence : List ℕ) (numbers answers : List ℕ) where
+module _ (n made : ℕ) (adjacency weights inverse sequence kept : List ℕ) (numbers answers : List ℕ) where
   abbrev host : State
-  host = state n made adjacency weights inverse sequence
+  host = state n made adjacency weights inverse sequence kept
 
   -- the host's state afterwards: the session is that of the number
   abbrev after-state : Session → (inverse sequence : List ℕ) → State
-  after-state x i q = record { session = x; adjacency = adjacency; weights = weights; inverse = i; sequence = q }
+  after-state x i q = record { session = x; adjacency = adjacency; weights = weights; inverse = i; sequence = q; kept = kept }
 
   handed : {k : ℕ} (x : Session) (i q : List ℕ) {answers′ : List ℕ} → HostReplays first-edition host numbers answers k (after-state x i q) answers′
       → HostReplays first-edition host numbers answers k (handed-back host k i q) answers′
@@ -65,11 +65,11 @@ module _ (n made : ℕ) (adjacency weights inverse sequence : List ℕ) (numbers
       record { verdict = refused r; left = unpacked-state first-edition host; outcome = refuses-replay r e; numbered = refl; stored = refl }
 
   -- a refusal for the number of vertices or the lengths is the host's
-  module _ {r : Refusal} (e : refused r ≡ room n made adjacency weights inverse sequence) where
+  module _ {r : Refusal} (e : refused r ≡ room n made adjacency weights inverse sequence kept) where
     refuses : replay-ruling modulus-prime (unpacked-state first-edition host) numbers answers ≡ refused r
     unfolding replay-ruling
     refuses =
-        room-first n made adjacency weights inverse sequence modulus (lent-answers (call-count numbers) (length answers) ∷ []) (list-causes numbers) e
+        room-first n made adjacency weights inverse sequence kept modulus [] (lent-answers (call-count numbers) (length answers) ∷ []) (list-causes numbers) e
 
     pub refusal-fits : place-number (r .place) < 2 ^ 24
     refusal-fits = place-below (replays-small modulus-prime (refuses-replay r refuses))
@@ -81,16 +81,16 @@ module _ (n made : ℕ) (adjacency weights inverse sequence : List ℕ) (numbers
     abbrev u : List ℕ
     u = needed-weights n weights
 
-    beside : Wide n adjacency u (words 2 weights) (words 2 inverse) (needed-state host) (unpacked-state first-edition host)
+    beside : Wide n adjacency kept u (words 2 weights) (words 2 inverse) (needed-state host) (unpacked-state first-edition host)
     beside =
-        subst (λ i. Wide n adjacency u (words 2 weights) (words 2 inverse) (needed-state host) (state n made adjacency (words 2 weights) i sequence))
-        (onto-front-same (n * n) (words 2 inverse) (F .fits .inverse-fits))
-        (wide made (needed-inverse n inverse) sequence (table-length n made adjacency weights inverse sequence F) (F .fits .sequence-fits))
+        subst (λ i. Wide n adjacency kept u (words 2 weights) (words 2 inverse) (needed-state host) (state n made adjacency (words 2 weights) i sequence kept))
+        (onto-front-same (n * n) (words 2 inverse) (F .inverse-fits))
+        (wide made (needed-inverse n inverse) sequence (table-length n made adjacency weights inverse sequence kept F) (F .sequence-fits))
 
     same : replay-ruling modulus-prime (unpacked-state first-edition host) numbers answers ≡ replay-ruling modulus-prime (needed-state host) numbers answers
     unfolding replay-ruling
     same =
-        sym (more-same n made adjacency weights inverse sequence F modulus (lent-answers (call-count numbers) (length answers) ∷ []) (list-causes numbers))
+        sym (more-same n made adjacency weights inverse sequence kept F modulus [] (lent-answers (call-count numbers) (length answers) ∷ []) (list-causes numbers))
 
     -- the words that are left, stored
     abbrev stored-bytes : State → List ℕ
@@ -100,26 +100,26 @@ module _ (n made : ℕ) (adjacency weights inverse sequence : List ℕ) (numbers
     same-bytes : {left : State} → left ≡ needed-state host → stored-bytes left ≡ inverse
     same-bytes q =
         ap stored-bytes q
-        ∙ ap (λ w. onto (bytes-of 2 w) inverse) (take-all (n * n) (needed-inverse n inverse) (omega (arith, table-length n made adjacency weights inverse sequence F)))
-        ∙ own-front 2 (n * n) inverse B (F .fits .inverse-fits)
+        ∙ ap (λ w. onto (bytes-of 2 w) inverse) (take-all (n * n) (needed-inverse n inverse) (omega (arith, table-length n made adjacency weights inverse sequence kept F)))
+        ∙ own-front 2 (n * n) inverse B (F .inverse-fits)
 
     as-stored : (changed : Bool) (left : State) → (changed ≡ false → left ≡ needed-state host)
         → onto (bytes-of 2 (take (extent changed (n * n)) (left .inverse))) inverse ≡ stored-bytes left
     unfolding bytes-of
-    as-stored true left kept = refl
-    as-stored false left kept = sym (same-bytes (kept refl))
+    as-stored true left same = refl
+    as-stored false left same = sym (same-bytes (same refl))
 
     -- the last state of both runs, stored
     record Last (small large : State) : Type 0 where
       sessions : large .session ≡ small .session
       stored : after-state (small .session) (stored-bytes small) (small .sequence) ≡ replay-stored first-edition accepted large host
 
-    last : {small large : State} → Wide n adjacency u (words 2 weights) (words 2 inverse) small large → Last small large
+    last : {small large : State} → Wide n adjacency kept u (words 2 weights) (words 2 inverse) small large → Last small large
     last (wide m table order full long) = record {
       sessions = refl;
       stored =
           ap (λ i. after-state (record { size = n; made = m }) i order)
-          (ap (λ w. onto (bytes-of 2 w) inverse) (take-all (n * n) table (omega arith)) ∙ sym (stored-words 2 table inverse B (omega (arith, F .fits .inverse-fits))));
+          (ap (λ w. onto (bytes-of 2 w) inverse) (take-all (n * n) table (omega arith)) ∙ sym (stored-words 2 table inverse B (omega (arith, F .inverse-fits))));
     }
 
     through : {v : Ruling} {left : State} {answers′ : List ℕ} → Replays modulus-prime (needed-state host) numbers answers v left answers′
@@ -135,8 +135,8 @@ module _ (n made : ℕ) (adjacency weights inverse sequence : List ℕ) (numbers
           stored = L .stored;
         }
       where
-        W : WideRun n adjacency u (words 2 weights) (words 2 inverse) (needed-agree n weights (F .size)) (F .fits .graph .cells) (omega (arith, needed-counted n weights (F .size) (F .fits .graph .weights))) (F .fits .graph .weights) (unpacked-state first-edition host) (calls-of numbers) (needed-state host) returned
-        W = wide-runs n adjacency u (words 2 weights) (words 2 inverse) (needed-agree n weights (F .size)) (F .fits .graph .cells) (omega (arith, needed-counted n weights (F .size) (F .fits .graph .weights))) (F .fits .graph .weights) beside runs
+        W : WideRun n adjacency kept u (words 2 weights) (words 2 inverse) (needed-agree n weights (F .size)) (F .size) (F .graph .cells) (omega (arith, needed-counted n weights (F .size) (F .graph .weights))) (F .graph .weights) (unpacked-state first-edition host) (calls-of numbers) (needed-state host) returned
+        W = wide-runs n adjacency kept u (words 2 weights) (words 2 inverse) (needed-agree n weights (F .size)) (F .size) (F .graph .cells) (omega (arith, needed-counted n weights (F .size) (F .graph .weights))) (F .graph .weights) beside runs
 
     pub host-replays : {k : ℕ} {inverse′ sequence′ answers′ : List ℕ} → ReplaysOver (needed-state host) numbers answers inverse k inverse′ sequence′ answers′
         → HostReplays first-edition host numbers answers k (handed-back host k inverse′ sequence′) answers′
@@ -146,8 +146,8 @@ module _ (n made : ℕ) (adjacency weights inverse sequence : List ℕ) (numbers
         bytes : inverse′ ≡ stored-bytes (O .left)
         bytes =
             O .stored
-            ∙ ap (λ k. onto (bytes-of 2 (take (extent (O .changed) k) (O .left .inverse))) inverse) (table-length n made adjacency weights inverse sequence F)
-            ∙ as-stored (O .changed) (O .left) (O .kept)
+            ∙ ap (λ k. onto (bytes-of 2 (take (extent (O .changed) k) (O .left .inverse))) inverse) (table-length n made adjacency weights inverse sequence kept F)
+            ∙ as-stored (O .changed) (O .left) (O .unchanged)
 
 -- demand 3 through the host
 pub host-demand : {s after : State} {numbers answers answers′ : List ℕ} {k : ℕ} → HostReplays first-edition s numbers answers k after answers′

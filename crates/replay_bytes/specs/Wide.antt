@@ -7,7 +7,7 @@ use lib.ListN.{length, drop, length-append, List·getD-append}
 use Rattle.lists.specs.Onto.{onto, onto-again, onto-covers, onto-longer}
 use Rattle.residue.specs.Modulus.{modulus, modulus-prime}
 use Rattle.matching.specs.Decision.{accepted}
-use Rattle.matching.specs.Graph.{over, pair-count}
+use Rattle.matching.specs.Graph.{over, largest, pair-count}
 use Rattle.matching.specs.Pairs.{pairs-on, sequence}
 use Rattle.matching.specs.Session.{in-play, State, with-pairs, state}
 use Rattle.matching.specs.Causes.{session-ruling}
@@ -18,29 +18,31 @@ use Rattle.matching.specs.Replay.{numbers-of}
 use Rattle.laws.specs.Sound.{session-accepted}
 use Rattle.crossing.specs.Same.{table-same}
 use Rattle.crossing.specs.Steps.{Agree, step-same, session-same}
+use Rattle.crossing.specs.HostFits.{in-order}
 
 -- a state over the words needed, and the same state over all words: u are the weights that n vertices need, and v all weights; old are all
 -- words of the inverse before
-pub data Wide (n : ℕ) (adjacency u v old : List ℕ) : State → State → Type 0 where
+pub data Wide (n : ℕ) (adjacency kept u v old : List ℕ) : State → State → Type 0 where
   wide : (made : ℕ) (words order : List ℕ) → length words ≡ n * n → n ≤ length order
-      → Wide n adjacency u v old (state n made adjacency u words order) (state n made adjacency v (onto words old) order)
+      → Wide n adjacency kept u v old (state n made adjacency u words order kept) (state n made adjacency v (onto words old) order kept)
 
-module _ (n : ℕ) (adjacency u v old : List ℕ) (agree : Agree (pair-count n) u v) (cells : n * n ≤ length adjacency)
+module _ (n : ℕ) (adjacency kept u v old : List ℕ) (agree : Agree (pair-count n) u v) (small : n ≤ largest) (cells : n * n ≤ length adjacency)
     (enough : pair-count n ≤ length u) (all : pair-count n ≤ length v) where
   module _ (made : ℕ) (words order : List ℕ) (full : length words ≡ n * n) (long : n ≤ length order) where
     abbrev small-state : State
-    small-state = state n made adjacency u words order
+    small-state = state n made adjacency u words order kept
 
     abbrev wide-state : State
-    wide-state = state n made adjacency v (onto words old) order
+    wide-state = state n made adjacency v (onto words old) order kept
 
     same : session-ruling modulus wide-state ≡ session-ruling modulus small-state
     same =
         sym
-        (session-same modulus n made adjacency order u v words (onto words old) agree
+        (session-same modulus n made adjacency order kept u v words (onto words old) agree
         (λ x l. sym (List·getD-append words (drop (length words) old) 0 x (omega arith)))
-        (record { graph = record { cells = cells; weights = enough }; inverse-fits = omega arith; sequence-fits = long })
-        (record { graph = record { cells = cells; weights = all }; inverse-fits = omega (arith, length-append words (drop (length words) old)); sequence-fits = long }))
+        (in-order modulus small-state (record { size = small; graph = record { cells = cells; weights = enough }; inverse-fits = omega arith; sequence-fits = long }))
+        (in-order modulus wide-state
+        (record { size = small; graph = record { cells = cells; weights = all }; inverse-fits = omega (arith, length-append words (drop (length words) old)); sequence-fits = long })))
 
     steps : (c : Call) → session-ruling modulus small-state ≡ accepted
         → step modulus-prime (over n adjacency v) (in-play small-state) (pairs-on order made) c ≡ step modulus-prime (over n adjacency u) (in-play small-state) (pairs-on order made) c
@@ -52,7 +54,7 @@ module _ (n : ℕ) (adjacency u v old : List ℕ) (agree : Agree (pair-count n) 
     pub record WideCall (c : Call) (a : Answer) (s′ : State) : Type 0 where
       pub left : State
       pub handled : Handles modulus-prime wide-state c a left
-      pub beside : Wide n adjacency u v old s′ left
+      pub beside : Wide n adjacency kept u v old s′ left
       pub session-same : left .session ≡ s′ .session
 
     pub wide-call : {c : Call} {a : Answer} {s′ : State} → Handles modulus-prime small-state c a s′ → WideCall c a s′
@@ -77,9 +79,9 @@ module _ (n : ℕ) (adjacency u v old : List ℕ) (agree : Agree (pair-count n) 
     pub returned′ : List Returned
     pub runs : Runs modulus-prime t calls returned′
     pub numbers : numbers-of returned′ ≡ numbers-of returned
-    pub last : Wide n adjacency u v old (state-after s returned (length returned)) (state-after t returned′ (length returned′))
+    pub last : Wide n adjacency kept u v old (state-after s returned (length returned)) (state-after t returned′ (length returned′))
 
-  pub wide-runs : {s t : State} {calls : List Call} {returned : List Returned} → Wide n adjacency u v old s t → Runs modulus-prime s calls returned → WideRun t calls s returned
+  pub wide-runs : {s t : State} {calls : List Call} {returned : List Returned} → Wide n adjacency kept u v old s t → Runs modulus-prime s calls returned → WideRun t calls s returned
   unfolding state-after
   wide-runs W none = record { returned′ = []; runs = none; numbers = refl; last = W }
   wide-runs (wide made words order full long) (more {c = c} {calls = calls} {r = r} {later = later} h rest) =

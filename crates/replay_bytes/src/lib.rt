@@ -30,18 +30,29 @@ fn replay_over(
     table: &mut [u16],
     inverse: &mut [u8],
     sequence: &mut [u8],
+    kept: &[u8],
     list: &[u64],
     answers: &mut [u64],
 ) -> u64
     requires { ⌜ 2 * length (now table) ≤ length (now inverse) ⌝ }
     ensures { λ r.
-        let before = state n made (now (adjacency .entry)) (now (weights .entry)) (now (table .entry)) (now (sequence .entry)) in
+        let before = state n made (now (adjacency .entry)) (now (weights .entry))
+        (now (table .entry)) (now (sequence .entry)) (now (kept .entry)) in
         ⌜ ReplaysOver before (now (list .entry)) (now (answers .entry)) (now (inverse .entry)) r
         (now (inverse .exit)) (now (sequence .exit)) (now (answers .exit)) ⌝ }
 {
     let cells = table.len();
     let session = Session { size: n, made };
-    let replayed = replay::replay(session, adjacency, weights, table, sequence, list, answers);
+    let replayed = replay::replay(
+        session,
+        adjacency,
+        weights,
+        table,
+        sequence,
+        kept,
+        list,
+        answers,
+    );
     let after = replayed.session;
     let ruling = replayed.ruling;
     let changed = replayed.changed;
@@ -58,12 +69,15 @@ fn replay_words(
     weights: &[u8],
     inverse: &mut [u8],
     sequence: &mut [u8],
+    kept: &[u8],
     list: &[u64],
     answers: &mut [u64],
 ) -> u64
-    requires { ⌜ HostFits (unpacked-state first-edition (state n made (now adjacency) (now weights) (now inverse) (now sequence))) ⌝ }
+    requires { ⌜ HostFits
+        (unpacked-state first-edition (state n made (now adjacency) (now weights) (now inverse) (now sequence) (now kept))) ⌝ }
     ensures { λ r.
-        let before = state n made (now (adjacency .entry)) (now (weights .entry)) (now (inverse .entry)) (now (sequence .entry)) in
+        let before = state n made (now (adjacency .entry)) (now (weights .entry))
+        (now (inverse .entry)) (now (sequence .entry)) (now (kept .entry)) in
         ⌜ HostReplays first-edition before (now (list .entry)) (now (answers .entry)) r
         (handed-back before r (now (inverse .exit)) (now (sequence .exit))) (now (answers .exit)) ⌝ }
 {
@@ -80,12 +94,13 @@ fn replay_words(
         &mut table[..cells],
         inverse,
         sequence,
+        kept,
         list,
         answers,
     )
 }
 
-// Replays through the host. Unpacks words only if n and the lengths are in order.
+// Replays through the host. Unpacks words only if n and the lengths of buffers 1 to 4 are in order.
 pub fn replay(
     n: usize,
     made: usize,
@@ -93,15 +108,18 @@ pub fn replay(
     weights: &[u8],
     inverse: &mut [u8],
     sequence: &mut [u8],
+    kept: &[u8],
     list: &[u64],
     answers: &mut [u64],
 ) -> u64
     ensures run { λ r.
-        let before = state n made (now (adjacency .entry)) (now (weights .entry)) (now (inverse .entry)) (now (sequence .entry)) in
+        let before = state n made (now (adjacency .entry)) (now (weights .entry))
+        (now (inverse .entry)) (now (sequence .entry)) (now (kept .entry)) in
         ⌜ HostReplays first-edition before (now (list .entry)) (now (answers .entry)) r
         (handed-back before r (now (inverse .exit)) (now (sequence .exit))) (now (answers .exit)) ⌝ }
     ensures demand { λ r.
-        let before = state n made (now (adjacency .entry)) (now (weights .entry)) (now (inverse .entry)) (now (sequence .entry)) in
+        let before = state n made (now (adjacency .entry)) (now (weights .entry))
+        (now (inverse .entry)) (now (sequence .entry)) (now (kept .entry)) in
         ⌜ HostDemandThree first-edition before (now (list .entry)) (now (answers .entry))
         (handed-back before r (now (inverse .exit)) (now (sequence .exit))) (now (answers .exit)) ⌝ }
 {
@@ -122,6 +140,7 @@ pub fn replay(
         weights,
         inverse,
         sequence,
+        kept,
         list,
         answers,
     )

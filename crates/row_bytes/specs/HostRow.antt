@@ -36,14 +36,14 @@ pub shown-fits : {s t : State} {a : ℕ} {row row′ : List ℕ} {v : Ruling} �
 shown-fits {s} {v = v} R = ruling-fits v (s .session) (row-small modulus-prime R)
 
 -- the row over the words that the graph needs is the row over all words of the host
-module _ (n made : ℕ) (adjacency weights inverse sequence : List ℕ) (a : ℕ) (row : List ℕ) (F : HostFits (unpacked-state first-edition (state n made adjacency weights inverse sequence))) where
+module _ (n made : ℕ) (adjacency weights inverse sequence kept : List ℕ) (a : ℕ) (row : List ℕ) (F : HostFits (unpacked-state first-edition (state n made adjacency weights inverse sequence kept))) where
   abbrev host : State
-  host = state n made adjacency weights inverse sequence
+  host = state n made adjacency weights inverse sequence kept
 
   same : row-ruling modulus-prime (unpacked-state first-edition host) a row ≡ row-ruling modulus-prime (needed-state host) a row
   unfolding row-ruling
   same =
-      sym (more-same n made adjacency weights inverse sequence F modulus (lent-row n (length row) ∷ []) (vertex-causes n (in-play host) (pairs-on sequence made) a))
+      sym (more-same n made adjacency weights inverse sequence kept F modulus (lent-row n (length row) ∷ []) [] (vertex-causes n (in-play host) (pairs-on sequence made) a))
 
   bits : open-row modulus-prime (needed-state host) a ≡ open-row modulus-prime (unpacked-state first-edition host) a
   unfolding open-row
@@ -60,14 +60,14 @@ module _ (n made : ℕ) (adjacency weights inverse sequence : List ℕ) (a : ℕ
   host-shows O = record { verdict = O .verdict; outcome = through (O .outcome); numbered = O .numbered; same = refl }
 
 -- a refusal for the number of vertices or the lengths is the host's
-pub host-refuses : (n made : ℕ) (adjacency weights inverse sequence : List ℕ) (a : ℕ) (row : List ℕ) {r : Refusal} → refused r ≡ room n made adjacency weights inverse sequence
-    → HostShowsRow first-edition (state n made adjacency weights inverse sequence) a row (row-number (refused r) (record { size = n; made = made })) (state n made adjacency weights inverse sequence) row
+pub host-refuses : (n made : ℕ) (adjacency weights inverse sequence kept : List ℕ) (a : ℕ) (row : List ℕ) {r : Refusal} → refused r ≡ room n made adjacency weights inverse sequence kept
+    → HostShowsRow first-edition (state n made adjacency weights inverse sequence kept) a row (row-number (refused r) (record { size = n; made = made })) (state n made adjacency weights inverse sequence kept) row
 unfolding row-ruling
-host-refuses n made adjacency weights inverse sequence a row {r} e = record {
+host-refuses n made adjacency weights inverse sequence kept a row {r} e = record {
   verdict = refused r;
   outcome =
       row-refused r
-      (room-first n made adjacency weights inverse sequence modulus (lent-row n (length row) ∷ []) (vertex-causes n (in-play (state n made adjacency weights inverse sequence)) (pairs-on sequence made) a) e);
+      (room-first n made adjacency weights inverse sequence kept modulus (lent-row n (length row) ∷ []) [] (vertex-causes n (in-play (state n made adjacency weights inverse sequence kept)) (pairs-on sequence made) a) e);
   numbered = refl;
   same = refl;
 }

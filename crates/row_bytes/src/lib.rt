@@ -17,14 +17,16 @@ fn row_over(
     weights: &[u16],
     inverse: &[u16],
     sequence: &[u8],
+    kept: &[u8],
     row: &mut [u8],
 ) -> u64
     ensures { λ r.
-        let before = state n made (now (adjacency .entry)) (now (weights .entry)) (now (inverse .entry)) (now (sequence .entry)) in
+        let before = state n made (now (adjacency .entry)) (now (weights .entry))
+        (now (inverse .entry)) (now (sequence .entry)) (now (kept .entry)) in
         ⌜ ShowsOver before a (now (row .entry)) r (now (row .exit)) ⌝ }
 {
     let session = Session { size: n, made };
-    let shown = session.row(adjacency, weights, inverse, sequence, a, row);
+    let shown = session.row(adjacency, weights, inverse, sequence, kept, a, row);
     let ruling = shown.ruling;
     numbers::ruled(4, ruling, made)
 }
@@ -38,11 +40,14 @@ fn row_words(
     weights: &[u8],
     inverse: &[u8],
     sequence: &[u8],
+    kept: &[u8],
     row: &mut [u8],
 ) -> u64
-    requires { ⌜ HostFits (unpacked-state first-edition (state n made (now adjacency) (now weights) (now inverse) (now sequence))) ⌝ }
+    requires { ⌜ HostFits
+        (unpacked-state first-edition (state n made (now adjacency) (now weights) (now inverse) (now sequence) (now kept))) ⌝ }
     ensures { λ r.
-        let before = state n made (now (adjacency .entry)) (now (weights .entry)) (now (inverse .entry)) (now (sequence .entry)) in
+        let before = state n made (now (adjacency .entry)) (now (weights .entry))
+        (now (inverse .entry)) (now (sequence .entry)) (now (kept .entry)) in
         ⌜ HostShowsRow first-edition before a (now (row .entry)) r before (now (row .exit)) ⌝ }
 {
     let mut values = [0u16; 4560];
@@ -58,11 +63,12 @@ fn row_words(
         &values[..count],
         &table[..cells],
         sequence,
+        kept,
         row,
     )
 }
 
-// Writes the row of a through the host. Unpacks words only if n and the lengths are in order.
+// Writes the row of a through the host. Unpacks words only if n and the lengths of buffers 1 to 4 are in order.
 pub fn row(
     n: usize,
     made: usize,
@@ -71,10 +77,12 @@ pub fn row(
     weights: &[u8],
     inverse: &[u8],
     sequence: &[u8],
+    kept: &[u8],
     row: &mut [u8],
 ) -> u64
     ensures { λ r.
-        let before = state n made (now (adjacency .entry)) (now (weights .entry)) (now (inverse .entry)) (now (sequence .entry)) in
+        let before = state n made (now (adjacency .entry)) (now (weights .entry))
+        (now (inverse .entry)) (now (sequence .entry)) (now (kept .entry)) in
         ⌜ HostShowsRow first-edition before a (now (row .entry)) r before (now (row .exit)) ⌝ }
 {
     let lengths = checks::judge_lengths(
@@ -87,5 +95,5 @@ pub fn row(
     if let Ruling::Refused(refusal) = lengths {
         return numbers::refused(refusal);
     }
-    row_words(n, made, a, adjacency, weights, inverse, sequence, row)
+    row_words(n, made, a, adjacency, weights, inverse, sequence, kept, row)
 }

@@ -1,11 +1,12 @@
-// The entries that a host calls with numbers and byte slices. Words cross as two bytes, low first (docs/HOST.md).
+// The entries that a host calls with numbers and byte slices. Words cross as two bytes, low first (docs/HOST.md). The session calls lend a
+// kept row in which every vertex is kept.
 ghost use mathlib.Core.Path.{_≡_};
 ghost use Rattle.matching.specs.Edition.{first-edition};
 ghost use Rattle.matching.specs.Host.{HostOpens, HostOpenedExactly, HostHandles, HostPickedExactly, HostShowsRow};
 ghost use Rattle.matching.specs.Host.{HostReads, HostReadsText, HostDraws, handed-back};
 ghost use Rattle.matching.specs.Model.{pick, automatic, undo};
 ghost use Rattle.matching.specs.Replay.{HostReplays, HostDemandThree};
-ghost use Rattle.matching.specs.Session.{state};
+ghost use Rattle.matching.specs.Session.{state, all-kept};
 ghost use Rattle.opening.specs.Meaning.{buffers};
 ghost use Rattle.saszvigom.specs.Version.{version};
 
@@ -60,12 +61,15 @@ pub extern "C" fn saszvigom_pick(
     sequence: &mut [u8],
 ) -> u64
     ensures handled { λ r.
-        let before = state n made (now (adjacency .entry)) (now (weights .entry)) (now (inverse .entry)) (now (sequence .entry)) in
+        let before = state n made (now (adjacency .entry)) (now (weights .entry))
+        (now (inverse .entry)) (now (sequence .entry)) all-kept in
         ⌜ HostHandles first-edition before (pick a b) r (handed-back before r (now (inverse .exit)) (now (sequence .exit))) ⌝ }
     ensures exactly { λ r.
-        let before = state n made (now (adjacency .entry)) (now (weights .entry)) (now (inverse .entry)) (now (sequence .entry)) in
+        let before = state n made (now (adjacency .entry)) (now (weights .entry))
+        (now (inverse .entry)) (now (sequence .entry)) all-kept in
         ⌜ HostPickedExactly first-edition before a b r ⌝ }
 {
+    let kept = [1u8; 96];
     crossing::pick(
         n as usize,
         made as usize,
@@ -75,6 +79,7 @@ pub extern "C" fn saszvigom_pick(
         weights,
         inverse,
         sequence,
+        &kept,
     )
 }
 
@@ -89,9 +94,11 @@ pub extern "C" fn saszvigom_automatic(
     sequence: &mut [u8],
 ) -> u64
     ensures { λ r.
-        let before = state n made (now (adjacency .entry)) (now (weights .entry)) (now (inverse .entry)) (now (sequence .entry)) in
+        let before = state n made (now (adjacency .entry)) (now (weights .entry))
+        (now (inverse .entry)) (now (sequence .entry)) all-kept in
         ⌜ HostHandles first-edition before automatic r (handed-back before r (now (inverse .exit)) (now (sequence .exit))) ⌝ }
 {
+    let kept = [1u8; 96];
     crossing::automatic(
         n as usize,
         made as usize,
@@ -99,6 +106,7 @@ pub extern "C" fn saszvigom_automatic(
         weights,
         inverse,
         sequence,
+        &kept,
     )
 }
 
@@ -113,9 +121,11 @@ pub extern "C" fn saszvigom_undo(
     sequence: &mut [u8],
 ) -> u64
     ensures { λ r.
-        let before = state n made (now (adjacency .entry)) (now (weights .entry)) (now (inverse .entry)) (now (sequence .entry)) in
+        let before = state n made (now (adjacency .entry)) (now (weights .entry))
+        (now (inverse .entry)) (now (sequence .entry)) all-kept in
         ⌜ HostHandles first-edition before undo r (handed-back before r (now (inverse .exit)) (now (sequence .exit))) ⌝ }
 {
+    let kept = [1u8; 96];
     crossing::undo(
         n as usize,
         made as usize,
@@ -123,6 +133,7 @@ pub extern "C" fn saszvigom_undo(
         weights,
         inverse,
         sequence,
+        &kept,
     )
 }
 
@@ -139,9 +150,11 @@ pub extern "C" fn saszvigom_row(
     row: &mut [u8],
 ) -> u64
     ensures { λ r.
-        let before = state n made (now (adjacency .entry)) (now (weights .entry)) (now (inverse .entry)) (now (sequence .entry)) in
+        let before = state n made (now (adjacency .entry)) (now (weights .entry))
+        (now (inverse .entry)) (now (sequence .entry)) all-kept in
         ⌜ HostShowsRow first-edition before a (now (row .entry)) r before (now (row .exit)) ⌝ }
 {
+    let kept = [1u8; 96];
     row_bytes::row(
         n as usize,
         made as usize,
@@ -150,6 +163,7 @@ pub extern "C" fn saszvigom_row(
         weights,
         inverse,
         sequence,
+        &kept,
         row,
     )
 }
@@ -167,14 +181,17 @@ pub extern "C" fn saszvigom_replay(
     answers: &mut [u64],
 ) -> u64
     ensures run { λ r.
-        let before = state n made (now (adjacency .entry)) (now (weights .entry)) (now (inverse .entry)) (now (sequence .entry)) in
+        let before = state n made (now (adjacency .entry)) (now (weights .entry))
+        (now (inverse .entry)) (now (sequence .entry)) all-kept in
         ⌜ HostReplays first-edition before (now (calls .entry)) (now (answers .entry)) r
         (handed-back before r (now (inverse .exit)) (now (sequence .exit))) (now (answers .exit)) ⌝ }
     ensures demand { λ r.
-        let before = state n made (now (adjacency .entry)) (now (weights .entry)) (now (inverse .entry)) (now (sequence .entry)) in
+        let before = state n made (now (adjacency .entry)) (now (weights .entry))
+        (now (inverse .entry)) (now (sequence .entry)) all-kept in
         ⌜ HostDemandThree first-edition before (now (calls .entry)) (now (answers .entry))
         (handed-back before r (now (inverse .exit)) (now (sequence .exit))) (now (answers .exit)) ⌝ }
 {
+    let kept = [1u8; 96];
     replay_bytes::replay(
         n as usize,
         made as usize,
@@ -182,6 +199,7 @@ pub extern "C" fn saszvigom_replay(
         weights,
         inverse,
         sequence,
+        &kept,
         calls,
         answers,
     )

@@ -10,7 +10,7 @@ use Rattle.crossing.proofs.call_words.Statement.{statement}
 use Rattle.crossing.proofs.call_words.Tie as tie
 
 abbrev start : tie.After-weights-needed → tie.Start
-start at = at .before .before .before .before .before .before .before .before .before .before .before
+start at = at .before .before .before .before .before .before .before .before .before .before .before .before
 
 unpacked : (at : tie.After-weights-needed)
     → (let a = start at .args in
@@ -25,9 +25,9 @@ slice-aggregate-unpack-2 c = search needs
 
 unpack-requires : tie.Need-unpack-requires
 unpack-requires c κs =
-    let s = c .before .before .before .before .before .before .before in
+    let s = c .before .before .before .before .before .before .before .before in
     let a = s .args in
-    (needed-words (a .n) (a .made) (a .adjacency .now) (a .weights .now) (a .inverse .now) (a .sequence .now) (s .pre), length-replicate {A = ℕ} 4560 0, length-replicate {A = ℕ} 9216 0)
+    (needed-words (a .n) (a .made) (a .adjacency .now) (a .weights .now) (a .inverse .now) (a .sequence .now) (a .kept .now) (s .pre), length-replicate {A = ℕ} 4560 0, length-replicate {A = ℕ} 9216 0)
 
 weights-needed-requires : tie.Need-weights-needed-requires
 weights-needed-requires c κs = search needs
@@ -51,7 +51,7 @@ call-over-requires : tie.Need-call-over-requires
 call-over-requires c κs =
     let at = c .before .before .before .before in
     let a = start at .args in
-    omega (arith, table-stores (a .n) (a .made) (a .adjacency .now) (a .weights .now) (a .inverse .now) (a .sequence .now) (start at .pre), table-part (unpacked at))
+    omega (arith, table-stores (a .n) (a .made) (a .adjacency .now) (a .weights .now) (a .inverse .now) (a .sequence .now) (a .kept .now) (start at .pre), table-part (unpacked at))
 
 same-length : tie.Need-same-length
 same-length c = search needs
@@ -64,7 +64,7 @@ returns c =
     let called = c .before .before .before .before .before in
     let at = called .before .before .before .before .before in
     let a = start at .args in
-    host-handles (a .n) (a .made) (a .adjacency .now) (a .weights .now) (a .inverse .now) (a .sequence .now) (λ x. omega (arith, at .before .before .before .before .before .before .before .before .slice-known .given x)) (start at .pre)
+    host-handles (a .n) (a .made) (a .adjacency .now) (a .weights .now) (a .inverse .now) (a .sequence .now) (a .kept .now) (λ x. omega (arith, at .before .before .before .before .before .before .before .before .before .slice-known .given x)) (start at .pre)
     (rw (values-are (unpacked at) (at .weights-needed .ensures), unpacked at .inverse-are) at (called .call-over .ensures))
 
 pub call-words-spec : {M : Type 1} → statement M

@@ -19,16 +19,16 @@ use Rattle.crossing.proofs.handle.Statement.{statement}
 use Rattle.crossing.proofs.handle.Tie as tie
 
 abbrev start : tie.After-judge-lengths → tie.Start
-start at = at .before .before .before .before .before
+start at = at .before .before .before .before .before .before
 
 abbrev host : tie.After-judge-lengths → State
-host at = let a = start at .args in state (a .n) (a .made) (a .adjacency .now) (a .weights .now) (a .inverse .now) (a .sequence .now)
+host at = let a = start at .args in state (a .n) (a .made) (a .adjacency .now) (a .weights .now) (a .inverse .now) (a .sequence .now) (a .kept .now)
 
 refuses : (at : tie.After-judge-lengths) {why : Refusal} → at .judge-lengths .result ≡ Refused why
     → session-ruling modulus (unpacked-state first-edition (host at)) ≡ refused (refusal-of why)
 refuses at e =
     let a = start at .args in
-    room-refused (a .n) (a .made) (a .adjacency .now) (a .weights .now) (a .inverse .now) (a .sequence .now) modulus (rw e at (at .judge-lengths .ensures))
+    room-refused (a .n) (a .made) (a .adjacency .now) (a .weights .now) (a .inverse .now) (a .sequence .now) (a .kept .now) modulus (rw e at (at .judge-lengths .ensures))
 
 judge-lengths-requires : tie.Need-judge-lengths-requires
 judge-lengths-requires c κs = search needs
@@ -46,7 +46,7 @@ returns c =
     let at = c .before .before .before .before in
     let a = start at .args in
     rw (c .refused .ensures)
-    (host-refuses (a .n) (a .made) (a .adjacency .now) (a .weights .now) (a .inverse .now) (a .sequence .now) (call-is (a .call)) (refuses at (c .before .before .ruling .given .1)))
+    (host-refuses (a .n) (a .made) (a .adjacency .now) (a .weights .now) (a .inverse .now) (a .sequence .now) (a .kept .now) (call-is (a .call)) (refuses at (c .before .before .ruling .given .1)))
 
 enum-told : tie.Need-enum-told
 enum-told c = search needs
@@ -56,7 +56,7 @@ call-words-requires c κs =
     let told = c .before .before in
     let at = told .before .before in
     let a = start at .args in
-    room-accepted (a .n) (a .made) (a .adjacency .now) (a .weights .now) (a .inverse .now) (a .sequence .now) (rw (told .enum-told .given .1) at (at .judge-lengths .ensures))
+    room-accepted (a .n) (a .made) (a .adjacency .now) (a .weights .now) (a .inverse .now) (a .sequence .now) (a .kept .now) (rw (told .enum-told .given .1) at (at .judge-lengths .ensures))
 
 same-length : tie.Need-same-length
 same-length c = search needs

@@ -6,7 +6,7 @@ use Rattle.replay_bytes.proofs.replay.Statement.{statement}
 use Rattle.replay_bytes.proofs.replay.Tie as tie
 
 abbrev start : tie.After-judge-lengths → tie.Start
-start at = at .before .before .before .before .before .before .before
+start at = at .before .before .before .before .before .before .before .before
 
 judge-lengths-requires : tie.Need-judge-lengths-requires
 judge-lengths-requires c κs = search needs
@@ -18,13 +18,13 @@ refused-requires : tie.Need-refused-requires
 refused-requires c κs =
     let at = c .before .before .before in
     let a = start at .args in
-    refusal-fits (a .n) (a .made) (a .adjacency .now) (a .weights .now) (a .inverse .now) (a .sequence .now) (a .list .now) (a .answers .now) (rw (c .before .lengths .given .1) at (at .judge-lengths .ensures))
+    refusal-fits (a .n) (a .made) (a .adjacency .now) (a .weights .now) (a .inverse .now) (a .sequence .now) (a .kept .now) (a .list .now) (a .answers .now) (rw (c .before .lengths .given .1) at (at .judge-lengths .ensures))
 
 returns : tie.Need-returns
 returns c =
     let at = c .before .before .before .before in
     let a = start at .args in
-    let H = rw (← c .refused .ensures) at (host-refuses (a .n) (a .made) (a .adjacency .now) (a .weights .now) (a .inverse .now) (a .sequence .now) (a .list .now) (a .answers .now) (rw (c .before .before .lengths .given .1) at (at .judge-lengths .ensures))) in
+    let H = rw (← c .refused .ensures) at (host-refuses (a .n) (a .made) (a .adjacency .now) (a .weights .now) (a .inverse .now) (a .sequence .now) (a .kept .now) (a .list .now) (a .answers .now) (rw (c .before .before .lengths .given .1) at (at .judge-lengths .ensures))) in
     (H, host-demand H)
 
 enum-told : tie.Need-enum-told
@@ -34,7 +34,7 @@ replay-words-requires : tie.Need-replay-words-requires
 replay-words-requires c κs =
     let at = c .before .before .before .before .before in
     let a = start at .args in
-    room-accepted (a .n) (a .made) (a .adjacency .now) (a .weights .now) (a .inverse .now) (a .sequence .now) (rw (c .before .before .before .enum-told .given .1) at (at .judge-lengths .ensures))
+    room-accepted (a .n) (a .made) (a .adjacency .now) (a .weights .now) (a .inverse .now) (a .sequence .now) (a .kept .now) (rw (c .before .before .before .enum-told .given .1) at (at .judge-lengths .ensures))
 
 same-length : tie.Need-same-length
 same-length c = search needs

@@ -18,8 +18,8 @@ store-requires : tie.Need-store-requires
 store-requires c κs =
     let told = c .before .before .extent in
     let replayed = c .before .before .before .before .before .before .before .before .before .before .replay in
-    let small = extent-small (replayed .result .changed) (length (c .before .before .before .before .before .before .before .before .before .before .before .before .before .before .before .before .before .before .before .before .before .args .table .now)) in
-    (omega (arith, told .ensures, small, replayed .kept .1 .1 .1 .0), omega (arith, told .ensures, small, c .before .before .before .before .before .before .before .before .before .before .before .before .before .before .before .before .before .before .before .before .before .pre))
+    let small = extent-small (replayed .result .changed) (length (c .before .before .before .before .before .before .before .before .before .before .before .before .before .before .before .before .before .before .before .before .before .before .args .table .now)) in
+    (omega (arith, told .ensures, small, replayed .kept .1 .1 .1 .0), omega (arith, told .ensures, small, c .before .before .before .before .before .before .before .before .before .before .before .before .before .before .before .before .before .before .before .before .before .before .pre))
 
 ruled-requires : tie.Need-ruled-requires
 ruled-requires c κs =
@@ -49,7 +49,7 @@ returns c =
       numbered = c .ruled .ensures (replayed .result .session .size);
       stored = rw (c .before .before .before .before .before .before .extent .ensures) at (c .before .before .before .store .ensures);
       sequence = refl;
-      kept = unchanged _ _ _ (replayed .ensures .0) (replayed .ensures .1 .1);
+      unchanged = unchanged _ _ _ (replayed .ensures .0) (replayed .ensures .1 .1);
     }
 
 pub replay-over-spec : {M : Type 1} → statement M

@@ -13,10 +13,10 @@ use Rattle.row_bytes.proofs.row.Statement.{statement}
 use Rattle.row_bytes.proofs.row.Tie as tie
 
 abbrev start : tie.After-judge-lengths → tie.Start
-start at = at .before .before .before .before .before .before
+start at = at .before .before .before .before .before .before .before
 
 abbrev host : tie.After-judge-lengths → State
-host at = let a = start at .args in state (a .n) (a .made) (a .adjacency .now) (a .weights .now) (a .inverse .now) (a .sequence .now)
+host at = let a = start at .args in state (a .n) (a .made) (a .adjacency .now) (a .weights .now) (a .inverse .now) (a .sequence .now) (a .kept .now)
 
 judge-lengths-requires : tie.Need-judge-lengths-requires
 judge-lengths-requires c κs = search needs
@@ -30,14 +30,14 @@ refused-requires c κs =
     let a = start at .args in
     place-below
     (handles-small modulus-prime {s = unpacked-state first-edition (host at)} {c = automatic}
-    (unsound _ (room-refused (a .n) (a .made) (a .adjacency .now) (a .weights .now) (a .inverse .now) (a .sequence .now) modulus (rw (c .before .lengths .given .1) at (at .judge-lengths .ensures)))))
+    (unsound _ (room-refused (a .n) (a .made) (a .adjacency .now) (a .weights .now) (a .inverse .now) (a .sequence .now) (a .kept .now) modulus (rw (c .before .lengths .given .1) at (at .judge-lengths .ensures)))))
 
 returns : tie.Need-returns
 returns c =
     let at = c .before .before .before .before in
     let a = start at .args in
     rw (c .refused .ensures)
-    (host-refuses (a .n) (a .made) (a .adjacency .now) (a .weights .now) (a .inverse .now) (a .sequence .now) (a .a) (a .row .now)
+    (host-refuses (a .n) (a .made) (a .adjacency .now) (a .weights .now) (a .inverse .now) (a .sequence .now) (a .kept .now) (a .a) (a .row .now)
     (rw (c .before .before .lengths .given .1) at (at .judge-lengths .ensures)))
 
 enum-told : tie.Need-enum-told
@@ -48,7 +48,7 @@ row-words-requires c κs =
     let told = c .before in
     let at = told .before .before in
     let a = start at .args in
-    room-accepted (a .n) (a .made) (a .adjacency .now) (a .weights .now) (a .inverse .now) (a .sequence .now) (rw (told .enum-told .given .1) at (at .judge-lengths .ensures))
+    room-accepted (a .n) (a .made) (a .adjacency .now) (a .weights .now) (a .inverse .now) (a .sequence .now) (a .kept .now) (rw (told .enum-told .given .1) at (at .judge-lengths .ensures))
 
 same-length : tie.Need-same-length
 same-length c = search needs

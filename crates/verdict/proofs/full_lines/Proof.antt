@@ -9,14 +9,14 @@ use Rattle.verdict.proofs.full_lines.Tie as tie
 
 complete-requires : tie.Need-complete-requires
 complete-requires c κs =
-    let pre = c .before .before .before .before .before .before .before .before .pre in (pre .0 .0, pre .0 .1 .known)
+    let pre = c .before .before .before .before .before .before .before .before .pre in (pre .0 .0, _, pre .0 .1 .known)
 
 pair-lines-requires : tie.Need-pair-lines-requires
 pair-lines-requires c κs =
     let at = c .before .before .before .before .before .before .before .before in
     let pre = at .before .before .before .before .before .before .before .before .before .pre in
     let K = pre .0 .1 .known in
-    let C = at .complete .ensures _ K in
+    let C = at .complete .ensures _ _ K in
     (omega (arith, C .few, sequence-fits K, at .complete .kept .1 .1 .1 .0), omega (arith, C .few, tables K .size, pre .1))
 
 full-verdict-requires : tie.Need-full-verdict-requires
@@ -25,7 +25,7 @@ full-verdict-requires c κs =
     let at = written .before .before .before .before .before .before .before .before .before in
     let pre = at .before .before .before .before .before .before .before .before .before .pre in
     let K = pre .0 .1 .known in
-    omega (arith, at .complete .ensures _ K .few, tables K .size, pre .1, written .pair-lines .ensures .1, puts-length (written .pair-lines .ensures .0))
+    omega (arith, at .complete .ensures _ _ K .few, tables K .size, pre .1, written .pair-lines .ensures .1, puts-length (written .pair-lines .ensures .0))
 
 same-length : tie.Need-same-length
 same-length c = search needs
@@ -46,7 +46,7 @@ returns c = λ weights F.
     let at = written .before .before .before .before .before .before .before .before .before in
     record {
       text = _;
-      lines = full-lines (F .nonsingular) (at .complete .ensures weights (F .known));
+      lines = full-lines (tables (F .known) .size) (F .nonsingular) (at .complete .ensures weights _ (F .known));
       puts = puts-then (written .pair-lines .ensures .0) (last .full-verdict .ensures);
     }
 
