@@ -103,7 +103,7 @@ pub fn run(t: &mut [u64], n: usize, waiting: &mut [u8]) -> Outcome
 }
 
 // Goes on after a dependent column: exchanges the indices that wait, from index first on, and passes those that have no partner. Then exactly
-// the kept indices do not wait, and the table holds the inverse on them.
+// the indices of the set that still wait are those that are not kept, and the table holds the inverse on the kept ones.
 pub fn rest(t: &mut [u64], n: usize, first: usize, waiting: &mut [u8])
     requires { ⌜ Bounded n first (now t) (now waiting) ⌝ }
     ensures { λ _.

@@ -40,12 +40,12 @@ ready n adjacency weights inverse sequence witness work e =
     )
 
 -- what opening leaves of an accepted graph, except for the work buffer: the inverse is written, and the witness is as it was; or the witness
--- is written, and the inverse for the kept vertices
+-- is written, and words over the inverse, which the caller clears
 pub data Begun (g : Graph) (inverse sequence witness : List ℕ) : Outcome → (inverse′ sequence′ witness′ : List ℕ) → Type 0 where
   leaves-inverse : (new : List ℕ) → length new ≡ g .n * g .n → InverseTable modulus g everything new
       → Begun g inverse sequence witness Inverse (onto new inverse) (onto (replicate (g .n) unused) sequence) witness
-  leaves-witness : (f : ℕ) (kept new : List ℕ) → length kept ≡ g .n * g .n → length new ≡ g .n → Singular modulus g everything f new
-      → Begun g inverse sequence witness (Column f) (onto kept inverse) (onto (replicate (g .n) unused) sequence) (onto new witness)
+  leaves-witness : (f : ℕ) (words new : List ℕ) → length words ≡ g .n * g .n → length new ≡ g .n → Singular modulus g everything f new
+      → Begun g inverse sequence witness (Column f) (onto words inverse) (onto (replicate (g .n) unused) sequence) (onto new witness)
 
 -- a buffer whose first k words are filled
 filled : (k v : ℕ) (l : List ℕ) → replicate k v ++ drop k l ≡ onto (replicate k v) l

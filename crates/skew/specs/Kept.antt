@@ -15,7 +15,7 @@ use Rattle.skew.specs.Inverse.{Matrix, Vector, delta, delta-other, apply
 use Rattle.skew.specs.Column.{transpose, Dependent, DependentRow}
 use Rattle.skew.specs.Same.{dependent-same}
 use Rattle.skew.specs.Exchange.{source, target, Index, Exchange, exchange-inverse}
-use Rattle.skew.specs.Order.{Staircase, Passed, exchange-independent, exchange-dependent, exchange-kept}
+use Rattle.skew.specs.Order.{Staircase, Passed, exchange-dependent, exchange-kept}
 use Rattle.skew.specs.Pivot.{exchanged}
 use Rattle.skew.specs.Run.{State, state-start, state-skip, state-pair, state-pass}
 use Rattle.skew.specs.Decide.{Partner, alone, lowest, partner?, insert, inserted}
@@ -65,8 +65,7 @@ pub record Basis (p n : ℕ) (A : Matrix) (L K : Subset) : Type 0 where
 pub record KeptRows (p n : ℕ) (A : Matrix) (L : Subset) : Type 0 where
   pub kept : Subset
   pub table : Matrix
-  pub within : (i : ℕ) → i ∈ kept → i ∈ L
-  pub independent : (i : ℕ) → i < n → i ∈ kept → ¬ DependentRow p n A L i
+  pub keeps : Keeps p n A L kept
   pub dropped : (i : ℕ) → i < n → i ∈ L → i ∉ kept → DependentRow p n A L i
   pub inverse : Inverse p n A kept table
   pub basis : Basis p n A L kept
@@ -148,9 +147,7 @@ module _ {p : ℕ} (P : OddPrime p) (n : ℕ) (A : Matrix) (S : Skew p n A) (L :
   keep-from zero c e Q M H = record {
     kept = Q;
     table = λ i j. bit (Q i) * bit (Q j) * M i j;
-    within = H .exchange .within;
-    independent = λ i hi m D.
-        exchange-independent p n A L (H .exchange) (H .staircase) P S i (record { below = hi; inside = H .exchange .within i m }) m (row-dependent S D);
+    keeps = keeps-of (H .exchange) (H .staircase) Z;
     dropped = λ i hi l o.
         dependent-row S (exchange-dependent p n A L (H .exchange) (H .staircase) (P .odd) Z i (record { below = hi; inside = l }) o);
     inverse = kept-inverse (H .exchange);
@@ -185,7 +182,7 @@ module _ {p : ℕ} (P : OddPrime p) (n : ℕ) (A : Matrix) (S : Skew p n A) (L :
   dependent-row? i hi l = go (member? (keep .kept) i)
     where
       go : Member (keep .kept) i → Dec (DependentRow p n A L i)
-      go (inside m) = no (keep .independent i hi m)
+      go (inside m) = no (keep .keeps i hi .0 m .1)
       go (outside o) = yes (keep .dropped i hi l o)
 
 -- sets with the same elements below n

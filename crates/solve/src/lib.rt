@@ -201,7 +201,7 @@ fn solve_large(
 }
 
 // Writes the inverse for the kept vertices of set, with 0 in the other rows and columns, and makes their bytes 0; the bytes of the other
-// vertices of set stay as they were. If not all are kept, also writes the witness of the first dependent column, else leaves witness as it
+// vertices of set stay other than 0. If not all are kept, also writes the witness of the first dependent column, else leaves witness as it
 // was. The graph must already have been checked.
 pub fn solve(
     n: usize,
