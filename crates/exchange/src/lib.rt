@@ -102,8 +102,8 @@ pub fn run(t: &mut [u64], n: usize, waiting: &mut [u8]) -> Outcome
     Outcome::Column(f)
 }
 
-// Goes on after a dependent column: exchanges the indices that wait, from index first on, and passes those that have no partner. Then exactly
-// the indices of the set that still wait are those that are not kept, and the table holds the inverse on the kept ones.
+// Goes on after a dependent column: exchanges the indices that wait, from index first on, and passes those that have no partner. Then the
+// indices of the set that still wait are exactly those that are not kept, and the table holds the inverse on the kept ones.
 pub fn rest(t: &mut [u64], n: usize, first: usize, waiting: &mut [u8])
     requires { ⌜ Bounded n first (now t) (now waiting) ⌝ }
     ensures { λ _.

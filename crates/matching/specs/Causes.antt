@@ -1,6 +1,6 @@
--- Causes 1 to 6 of document 01's table, each with its place, that of 3 as document 02, request 2, has it, 5 and buffer 8 by request 4; and the
--- order in which opening and the session calls look at them. Causes 7 to 11 are in Model, 12 to 15 in Records, 16 and 17 in Dimacs; a replay has 12 and 13 of its own,
--- in Replay. Assumes nothing.
+-- Causes 1 to 6 of document 01's table, each with its place: that of 3 by document 02, request 2; 5 and buffer 8 by request 4. And the order in
+-- which opening and the session calls look at them. Causes 7 to 11 are in Model, 12 to 15 in Records, 16 and 17 in Dimacs; a replay has 12
+-- and 13 of its own, in Replay. Assumes nothing.
 use mathlib.Core.List.{List, [], _∷_, _++_}
 use Prim.Native.Nat.{ℕ, _*_, _/_, _%_, _≤_}
 use native.Mathlib.Decide.{ℕ-discrete, decLt}
