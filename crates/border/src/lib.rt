@@ -1,4 +1,6 @@
 // The column that borders the inverse of a skew matrix on a set of indices when one is added: the inverse applied to that index's column.
+#![tactic(auto)]
+
 ghost use Rattle.std.specs.Prelude.{◌≡◌, ◌*◌, ◌%◌, ◌≤◌, ◌<◌, length};
 ghost use Rattle.lists.specs.Values.{list_of};
 ghost use Rattle.lists.specs.Table.{vector, table, Square};

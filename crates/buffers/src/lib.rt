@@ -1,4 +1,6 @@
 // Fills the first words or bytes of a buffer with one value, and copies bytes.
+#![tactic(auto)]
+
 ghost use Rattle.std.specs.Prelude.{◌≡◌, ◌++◌, ◌≤◌, length, drop, replicate};
 
 // Sets the first count words to v.

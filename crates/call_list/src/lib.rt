@@ -1,4 +1,6 @@
 // Lists of calls as numbers, three for each call: whether a list is in order, and which call three numbers are.
+#![tactic(auto)]
+
 ghost use Rattle.std.specs.Prelude.{◌≡◌, ◌*◌, ◌≤◌, length};
 ghost use Rattle.matching.specs.Decision.{judge};
 ghost use Rattle.matching.specs.Replay.{call_of, short_index, list_causes};

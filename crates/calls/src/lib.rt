@@ -1,5 +1,7 @@
 // The session calls on a session that is known to be sound: what the plain model answers, and what it writes. Unmatched vertices are
 // marked.
+#![tactic(auto)]
+
 ghost use Rattle.std.specs.Prelude.{◌≡◌, ℕ};
 ghost use Rattle.matching.specs.Decision.{because};
 ghost use Rattle.matching.specs.Model.{pick, automatic, undo, denied};

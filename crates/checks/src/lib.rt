@@ -1,5 +1,7 @@
 // Checks a lent graph: causes 1 to 4 of document 01's table, in that order, each with its place; that of 3 is the cell that document 02,
 // request 2, asks for.
+#![tactic(auto)]
+
 ghost use Rattle.std.specs.Prelude.{◌≡◌, true, List, [], ◌∷◌, ◌++◌, ℕ, ◌+◌, ◌*◌, ◌≤◌, ◌<◌, length, get_or};
 ghost use Rattle.residue.specs.Modulus.{modulus};
 ghost use Rattle.matching.specs.Decision.{judge, Every};

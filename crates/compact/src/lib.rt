@@ -1,6 +1,8 @@
 // Tells whether a buffer has the inverse for a set of vertices: computes the inverse again for these vertices alone, numbered in ascending
 // order, and compares word by word. This is exact both ways, since there is only one inverse. The set is a mark for each vertex, not 0 if
 // it is in the set.
+#![tactic(auto)]
+
 ghost use Rattle.std.specs.Prelude.{◌≡◌, ℕ, ◌*◌, ◌-◌, ◌%◌, ◌≤◌, ◌<◌, length};
 ghost use Rattle.lists.specs.Table.{table};
 ghost use Rattle.residue.specs.Modulus.{modulus};

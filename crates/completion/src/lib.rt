@@ -1,4 +1,6 @@
 // Automatic picks to the end, on a session fresh from opening.
+#![tactic(auto)]
+
 ghost use Rattle.std.specs.Prelude.{List, ℕ};
 ghost use Rattle.matching.specs.Session.{state};
 ghost use Rattle.calls.specs.Known.{Known, KnownFor};

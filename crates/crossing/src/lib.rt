@@ -1,4 +1,6 @@
 // The session calls with numbers and byte slices: what the host's entries call. Words cross as two bytes, low first (docs/HOST.md).
+#![tactic(auto)]
+
 ghost use Rattle.std.specs.Prelude.{◌≡◌, ◌*◌, ◌≤◌, length};
 ghost use Rattle.matching.specs.Edition.{first_edition};
 ghost use Rattle.matching.specs.Model as model;

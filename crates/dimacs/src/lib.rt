@@ -1,5 +1,7 @@
 // Reading a graph in the DIMACS edge format: the graph that the lines of a text describe, with the draws of a seed as its weights, or a
 // refusal.
+#![tactic(auto)]
+
 ghost use Rattle.std.specs.Prelude.{◌≡◌, [], ◌+◌, ◌≤◌};
 ghost use Rattle.lists.specs.Table.{Square};
 ghost use Rattle.matching.specs.Edition.{first_edition};

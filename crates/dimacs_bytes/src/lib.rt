@@ -1,5 +1,7 @@
 // Texts in the DIMACS edge format with numbers and byte slices: what the host's entry calls. Words cross as two bytes, low first
 // (docs/HOST.md).
+#![tactic(auto)]
+
 ghost use Rattle.std.specs.Prelude.{◌≡◌};
 ghost use Rattle.matching.specs.Edition.{first_edition};
 ghost use Rattle.matching.specs.Host.{read_number, capped, HostReadsText};

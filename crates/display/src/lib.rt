@@ -1,4 +1,6 @@
 // The part of the inverse or the witness buffer that shows an opening's answer.
+#![tactic(auto)]
+
 ghost use Rattle.std.specs.Prelude.{◌≡◌};
 ghost use Rattle.matching.specs.Display.{display, words_of, start_of};
 ghost use Rattle.display.specs.Words.{Tells};

@@ -1,4 +1,6 @@
 // Runs the draw roll and writes its states and draws.
+#![tactic(auto)]
+
 use libc::STDOUT_FILENO;
 
 // Writes a state and its draw on a line.

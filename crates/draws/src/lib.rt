@@ -1,4 +1,6 @@
 // The draw roll of document 01: states of 32 bits, each computed from the one before, and the draw of each state, which serves as a weight.
+#![tactic(auto)]
+
 ghost use Rattle.std.specs.Prelude.{◌≡◌, ◌*◌, ◌%◌, ◌^◌, length};
 ghost use Rattle.draws.specs.Draws.{next, draw, draws};
 

@@ -1,4 +1,6 @@
 // The record that stands at an offset of a sheet where some record-kinds are due: causes 12 and 13.
+#![tactic(auto)]
+
 ghost use Rattle.due.specs.Found.{Admits, FoundAt};
 
 use records::{Next, Record};

@@ -1,5 +1,7 @@
 // The lines of a text in the DIMACS edge format, one after another: the `p` line, and the `e` lines after it, whose edges are marked in a
 // table. Causes 16, 1 and 14.
+#![tactic(auto)]
+
 ghost use Rattle.std.specs.Prelude.{◌≡◌, [], ◌+◌, ◌≤◌};
 ghost use Rattle.lists.specs.Table.{Square};
 ghost use Rattle.matching.specs.Filling.{cells};

@@ -1,4 +1,6 @@
 // The edges of a sheet: its share records up to the end record, marked in a table. Causes 12 to 15.
+#![tactic(auto)]
+
 ghost use Rattle.std.specs.Prelude.{◌≡◌, List, [], ℕ};
 ghost use Rattle.lists.specs.Table.{Square};
 ghost use Rattle.matching.specs.Edition.{Edition};

@@ -1,5 +1,7 @@
 // Symmetric exchange of the indices of a skew matrix of residues, two at a time, to the end. Only the words above the diagonal of the
 // square table count.
+#![tactic(auto)]
+
 ghost use Rattle.std.specs.Prelude.{◌≡◌, length};
 ghost use Rattle.lists.specs.Table.{Square};
 ghost use Rattle.skew.specs.Subset.{Subset, marked};

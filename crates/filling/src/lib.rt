@@ -1,4 +1,6 @@
 // What both readers do: mark an edge in a table of their own, and write a graph that has been read: cause 2, and the two tables.
+#![tactic(auto)]
+
 ghost use Rattle.lists.specs.Table.{Square};
 ghost use Rattle.matching.specs.Edition.{first_edition};
 ghost use Rattle.filling.specs.Marked.{Marked};

@@ -1,4 +1,6 @@
 // The lines of a text in the DIMACS edge format: which line begins at an offset of its bytes.
+#![tactic(auto)]
+
 ghost use Rattle.std.specs.Prelude.{◌≡◌, ℕ, ◌+◌, ◌≤◌, ◌<◌, length};
 ghost use Rattle.matching.specs.Dimacs.{Digit, append};
 ghost use Rattle.matching.specs.DimacsComputed.{problem_start, edge_start};

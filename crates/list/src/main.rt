@@ -1,4 +1,6 @@
 // Lists the sheet on standard input. `io` reads at most 16,384 bytes of it and writes the text, which `listing` makes.
+#![tactic(auto)]
+
 use libc::{STDIN_FILENO, STDOUT_FILENO};
 use listing::Listed;
 

@@ -1,4 +1,6 @@
 // The listing of a sheet as text in a lent buffer.
+#![tactic(auto)]
+
 ghost use Rattle.std.specs.Prelude.{◌≤◌, length};
 ghost use Rattle.matching.specs.Edition.{first_edition};
 ghost use Rattle.matching.specs.Listing.{input_limit, text_room, ListsInto};

@@ -1,1 +1,3 @@
 // What document 01 means: the definitions are in specs/, nearly in the paper's order. This crate has no functions.
+#![tactic(auto)]
+

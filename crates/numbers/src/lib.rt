@@ -1,4 +1,6 @@
 // The number that answers the host, by its bits (docs/HOST.md).
+#![tactic(auto)]
+
 ghost use Rattle.std.specs.Prelude.{◌≡◌, ℕ, ◌<◌, ◌^◌};
 ghost use Rattle.matching.specs.Decision.{place_number};
 ghost use Rattle.matching.specs.Filling.{not_read};

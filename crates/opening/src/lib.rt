@@ -1,4 +1,6 @@
 // Opening: the inverse of the Tutte matrix of a lent graph, or the witness of its first dependent column, or a refusal.
+#![tactic(auto)]
+
 ghost use Rattle.residue.specs.Modulus.{modulus};
 ghost use Rattle.matching.specs.Graph.{over};
 ghost use Rattle.matching.specs.Opening.{players, Opens, OpenedExactly};

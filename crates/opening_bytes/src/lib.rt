@@ -1,4 +1,6 @@
 // Opening with numbers and byte slices: what the host's entry calls. Words cross as two bytes, low first (docs/HOST.md).
+#![tactic(auto)]
+
 ghost use Rattle.matching.specs.Edition.{first_edition};
 ghost use Rattle.matching.specs.Host.{HostOpens, HostOpenedExactly};
 ghost use Rattle.opening.specs.Meaning.{buffers};

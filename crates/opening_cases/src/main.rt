@@ -1,5 +1,7 @@
 // Opens the graphs of document 01's last sheet to try, and some more, and writes each answer with a digest of every buffer, its excess
 // included. A digest starts at 0, and each element x turns digest d into 3 d + x, modulo 2^64.
+#![tactic(auto)]
+
 ghost use Rattle.std.specs.Prelude.{◌<◌};
 
 use libc::STDOUT_FILENO;

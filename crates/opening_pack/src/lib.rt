@@ -1,4 +1,6 @@
 // What an opening leaves, as the number and the bytes that the host gets. Words cross as two bytes, low first (docs/HOST.md).
+#![tactic(auto)]
+
 ghost use Rattle.std.specs.Prelude.{◌≡◌, List, ℕ, ◌*◌, ◌≤◌, length};
 ghost use Rattle.matching.specs.Host.{opening_number};
 ghost use Rattle.opening.specs.Meaning.{opening_of, buffers};

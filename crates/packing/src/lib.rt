@@ -1,4 +1,6 @@
 // Words as two bytes, low first.
+#![tactic(auto)]
+
 ghost use Rattle.std.specs.Prelude.{◌≡◌, ◌+◌, ◌*◌, ◌≤◌, length, take};
 ghost use Rattle.lists.specs.Onto.{onto};
 ghost use Rattle.matching.specs.Host.{words, bytes_of};

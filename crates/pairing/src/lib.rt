@@ -1,5 +1,7 @@
 // Appends a pair to the pairs made, or removes the newest: in the inverse, by the update of rank two, in the sequence of pairs, and in the
 // marks of the unmatched vertices.
+#![tactic(auto)]
+
 ghost use Rattle.std.specs.Prelude.{◌≡◌, ◌<◌, length};
 ghost use Rattle.lists.specs.Values.{list_of};
 ghost use Rattle.lists.specs.Table.{table, Square};

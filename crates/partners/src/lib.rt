@@ -1,5 +1,7 @@
 // Which vertices may be matched, by the inverse for the unmatched vertices: causes 7 to 10 of document 01's table, the lowest partner of a
 // vertex, and the row of all its partners. The unmatched vertices are marked: a byte for each vertex, not 0 if it is unmatched.
+#![tactic(auto)]
+
 ghost use Rattle.std.specs.Prelude.{◌≡◌, ◌<◌, length};
 ghost use Rattle.matching.specs.Calls.{bit_of};
 ghost use Rattle.refusals.specs.Meaning.{ruling_of, Finds};

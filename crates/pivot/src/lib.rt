@@ -1,5 +1,7 @@
 // One exchange of two indices of a skew matrix of residues, in a square table of which only the words above the diagonal count. Words are
 // exact up to multiples of the modulus: a word is reduced when it is read, and sums are not reduced.
+#![tactic(auto)]
+
 ghost use Rattle.std.specs.Prelude.{◌≡◌, ◌+◌, ◌*◌, ◌-◌, ◌%◌, ◌≤◌, ◌<◌, length, get_or, set};
 ghost use Rattle.lists.specs.Table.{vector, Square};
 ghost use Rattle.modular.specs.Reciprocal.{Reciprocal};

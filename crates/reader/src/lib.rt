@@ -1,4 +1,6 @@
 // The reader of a sheet: the bytes that it is lent, together with its place in them.
+#![tactic(auto)]
+
 ghost use Rattle.std.specs.Prelude.{◌≡◌};
 ghost use Rattle.matching.specs.Edition.{first_edition};
 ghost use Rattle.matching.specs.Records.{FillsFrom, Fills};

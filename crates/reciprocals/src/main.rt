@@ -1,4 +1,6 @@
 // Runs the residues modulo 65521: the reciprocal of each but 0, and each operation at its limits.
+#![tactic(auto)]
+
 use libc::STDOUT_FILENO;
 use residue::Residue;
 

@@ -1,4 +1,6 @@
 // The records of a sheet: what stands at an offset of its bytes.
+#![tactic(auto)]
+
 ghost use Rattle.std.specs.Prelude.{◌≡◌};
 ghost use Rattle.matching.specs.Records.{four};
 ghost use Rattle.records.specs.Stands.{Stands};

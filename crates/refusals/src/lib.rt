@@ -1,5 +1,7 @@
 // Why a call is refused: a cause and a place; and what the checks answer: a ruling, or the first of what they look for. The functions make
 // refusals, and turn a place into a number.
+#![tactic(auto)]
+
 ghost use Rattle.std.specs.Prelude.{◌≡◌};
 ghost use Rattle.matching.specs.Decision.{place_number, because, because_cell, refused};
 ghost use Rattle.refusals.specs.Meaning.{place_of, refusal_of, ruling_of};

@@ -1,5 +1,7 @@
 // Makes a list of calls, three numbers for each, one after another. The session is confirmed once, since every call keeps it sound. The
 // answers are written as the host's numbers.
+#![tactic(auto)]
+
 ghost use Rattle.std.specs.Prelude.{◌≡◌, List, ℕ, ◌*◌, ◌≤◌, length};
 ghost use Rattle.residue.specs.Modulus.{modulus_prime};
 ghost use Rattle.matching.specs.Calls.{Returned, Runs};

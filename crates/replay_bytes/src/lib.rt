@@ -1,4 +1,6 @@
 // Replay with numbers and byte slices: what the host's entry calls. Words cross as two bytes, low first (docs/HOST.md).
+#![tactic(auto)]
+
 ghost use Rattle.std.specs.Prelude.{◌≡◌, ◌*◌, ◌≤◌, length};
 ghost use Rattle.matching.specs.Edition.{first_edition};
 ghost use Rattle.matching.specs.Host.{unpacked_state, handed_back};

@@ -1,5 +1,7 @@
 // The row of a vertex's partners with numbers and byte slices: what the host's entry calls. Words cross as two bytes, low first
 // (docs/HOST.md).
+#![tactic(auto)]
+
 ghost use Rattle.matching.specs.Edition.{first_edition};
 ghost use Rattle.matching.specs.Host.{unpacked_state, HostShowsRow};
 ghost use Rattle.matching.specs.Session.{state};

@@ -1,5 +1,7 @@
 // Checks a session's sequence of pairs and its kept row, cause 5 of document 01's table, and marks the kept vertices that its pairs leave
 // unmatched: a byte for each vertex, not 0 if it is unmatched.
+#![tactic(auto)]
+
 ghost use Rattle.std.specs.Prelude.{◌≡◌, ◌+◌, ◌≤◌, ◌<◌, length, set};
 ghost use Rattle.skew.specs.Subset.{marked};
 ghost use Rattle.sequence.specs.Formed.{AdjacencyFits, Tells, PairFits, Taken, UnusedFrom, Bits, Formed};

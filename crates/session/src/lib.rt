@@ -1,6 +1,8 @@
 // The session: the number of vertices and the number of pairs made, passed in and handed back by every call. Each call first confirms that
 // the session is sound. It reads the graph's tables, the inverse, the sequence of pairs and the kept row; all but row also write the inverse
 // and the sequence.
+#![tactic(auto)]
+
 ghost use Rattle.residue.specs.Modulus.{modulus_prime};
 ghost use Rattle.matching.specs.Model.{pick, automatic, undo};
 ghost use Rattle.matching.specs.Calls.{Handles, PickedExactly, ShowsRow};

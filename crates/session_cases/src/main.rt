@@ -1,6 +1,8 @@
 // Runs a session on four vertices that are all adjacent, with every weight 1: a pick of 0 and 0, which document 01's last sheet to try
 // names, other refused calls, two pairs made and undone; then one in which only 0 and 1 are kept. After each list of calls it writes the
 // answers as the host's numbers, and then the session, the inverse and the sequence of pairs.
+#![tactic(auto)]
+
 use libc::STDOUT_FILENO;
 use session::Session;
 

@@ -1,4 +1,6 @@
 // Reading a sheet: the graph that the records of its bytes describe, or a refusal.
+#![tactic(auto)]
+
 ghost use Rattle.std.specs.Prelude.{◌≡◌, [], ◌≤◌};
 ghost use Rattle.lists.specs.Table.{Square};
 ghost use Rattle.matching.specs.Edition.{first_edition};

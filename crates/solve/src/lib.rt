@@ -1,6 +1,8 @@
 // The inverse of the Tutte matrix of a graph in order, on the kept vertices of a set: those whose rows are not combinations of the rows of the
 // set before them. Beside it the witness of the first dependent column, if there is one. The set is a byte for each vertex, not 0 if it is in
 // the set; solving makes the bytes of the kept vertices 0.
+#![tactic(auto)]
+
 ghost use Rattle.std.specs.Prelude.{◌≡◌, ℕ, ◌+◌, ◌*◌, ◌≤◌, ◌<◌, length};
 ghost use Rattle.lists.specs.Values.{list_of};
 ghost use Rattle.lists.specs.Table.{Square};

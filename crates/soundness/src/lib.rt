@@ -1,5 +1,7 @@
 // Tells whether a session is sound: causes 1 to 6 of document 01's table. For cause 6 the inverse for the unmatched vertices is computed
 // again and compared.
+#![tactic(auto)]
+
 ghost use Rattle.std.specs.Prelude.{◌≡◌, [], ◌∷◌, ◌≤◌, length, take};
 ghost use Rattle.matching.specs.Causes.{lent_row};
 ghost use Rattle.matching.specs.Replay.{lent_answers};

@@ -1,5 +1,7 @@
 // The Tutte matrix of a graph in order: one of its columns, or its entries above the diagonal as a table of words. The table is for a set
 // of vertices, given by a byte for each vertex that is not 0 for those in it, or for listed vertices alone.
+#![tactic(auto)]
+
 ghost use Rattle.std.specs.Prelude.{◌≡◌, ◌+◌, ◌*◌, ◌<◌, length};
 ghost use Rattle.lists.specs.Values.{list_of};
 ghost use Rattle.lists.specs.Table.{Square};

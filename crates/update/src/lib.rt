@@ -1,4 +1,6 @@
 // The skew update of rank two of a square table of residues, T + g (y xᵀ - x yᵀ), row by row.
+#![tactic(auto)]
+
 ghost use Rattle.std.specs.Prelude.{◌≡◌, ◌<◌, length};
 ghost use Rattle.lists.specs.Values.{list_of};
 ghost use Rattle.lists.specs.Table.{vector, Square};

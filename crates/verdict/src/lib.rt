@@ -1,4 +1,6 @@
 // The lines of a graph in the listing: the numbers of its vertices and edges, its pairs or its witness, and the verdict.
+#![tactic(auto)]
+
 ghost use Rattle.std.specs.Prelude.{◌≡◌, List, ℕ, ◌+◌, ◌≤◌, ◌<◌, length, replicate};
 ghost use Rattle.residue.specs.Modulus.{modulus, modulus_prime};
 ghost use Rattle.matching.specs.Decision.{accepted};
