@@ -13,7 +13,7 @@ use pairing::Pair;
 use refusals::{Finding, Refusal, Ruling};
 
 // A session call that changes the pairs: a pick of two vertices, an automatic pick, or an undo.
-#[derive(Drop)]
+#[derive(Clone, Copy)]
 pub enum Call {
     Pick(usize, usize),
     Automatic,
@@ -21,14 +21,14 @@ pub enum Call {
 }
 
 // What a call answers: the pair appended or removed, or a refusal.
-#[derive(Drop)]
+#[derive(Clone, Copy)]
 pub enum Answer {
     Done(Pair),
     Denied(Refusal),
 }
 
 // An answer, and the pairs made after it.
-#[derive(Drop)]
+#[derive(Clone, Copy)]
 pub struct Reply {
     pub made: usize,
     pub answer: Answer,

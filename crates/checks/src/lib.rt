@@ -20,7 +20,7 @@ use residue::Residue;
 pub const LARGEST: usize = 96;
 
 // The first faulty cell, or none.
-#[derive(Drop)]
+#[derive(Clone, Copy)]
 pub enum Cells {
     Faultless,
     Faulty(FaultyCell),

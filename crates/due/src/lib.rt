@@ -7,7 +7,7 @@ use records::{Next, Record};
 use refusals::Refusal;
 
 // What is due: the size; the seed; a share record or the end.
-#[derive(Drop)]
+#[derive(Clone, Copy)]
 pub enum Due {
     Size,
     Seed,
@@ -15,7 +15,7 @@ pub enum Due {
 }
 
 // A whole record, of any kind, or the refusal for what is not a whole record.
-#[derive(Drop)]
+#[derive(Clone, Copy)]
 pub enum Found {
     Whole(Record),
     Refused(Refusal),

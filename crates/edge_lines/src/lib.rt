@@ -13,7 +13,7 @@ use lines::{Fields, Next, Two};
 use refusals::Refusal;
 
 // What the `p` line says, the offset after it, and the number of the line there.
-#[derive(Drop)]
+#[derive(Clone, Copy)]
 pub struct Head {
     pub size: usize,
     pub announced: usize,
@@ -22,14 +22,14 @@ pub struct Head {
 }
 
 // The `p` line, or a refusal.
-#[derive(Drop)]
+#[derive(Clone, Copy)]
 pub enum Start {
     Headed(Head),
     Refused(Refusal),
 }
 
 // What the line at an offset is: a comment, a new edge or an old one, with the offset after it; the end of the text; or a cause.
-#[derive(Drop)]
+#[derive(Clone, Copy)]
 pub enum Step {
     Comment(usize),
     New(usize),
@@ -39,14 +39,14 @@ pub enum Step {
 }
 
 // The number of `e` lines, and of edges.
-#[derive(Drop)]
+#[derive(Clone, Copy)]
 pub struct Count {
     pub lines: usize,
     pub edges: usize,
 }
 
 // The count of a text, or a refusal.
-#[derive(Drop)]
+#[derive(Clone, Copy)]
 pub enum Edges {
     Counted(Count),
     Refused(Refusal),

@@ -13,7 +13,7 @@ use records::Record;
 use refusals::Refusal;
 
 // What the record at an offset is: an edge, with the offset after it; the end of the sheet; or a refusal.
-#[derive(Drop)]
+#[derive(Clone, Copy)]
 pub enum Step {
     On(usize),
     Done,
@@ -21,7 +21,7 @@ pub enum Step {
 }
 
 // The number of edges, or a refusal.
-#[derive(Drop)]
+#[derive(Clone, Copy)]
 pub enum Edges {
     Counted(usize),
     Refused(Refusal),

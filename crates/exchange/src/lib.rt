@@ -12,7 +12,7 @@ ghost use Rattle.exchange.specs.Run.{Weight, TurnReady, Found, Turned, Holds, Bo
 use residue::Residue;
 
 // How the exchanges end: with the inverse, or at the first dependent column.
-#[derive(Drop)]
+#[derive(Clone, Copy)]
 pub enum Outcome {
     Inverse,
     Column(usize),

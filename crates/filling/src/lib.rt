@@ -10,21 +10,21 @@ ghost use Rattle.filling.specs.Written.{Writes};
 use refusals::Refusal;
 
 // The number of vertices of a graph, and of its edges.
-#[derive(Drop)]
+#[derive(Clone, Copy)]
 pub struct Extent {
     pub size: usize,
     pub edges: usize,
 }
 
 // What a reader answers.
-#[derive(Drop)]
+#[derive(Clone, Copy)]
 pub enum Read {
     Graph(Extent),
     Refused(Refusal),
 }
 
 // An edge is marked, was marked before, or is not one of two vertices.
-#[derive(Drop)]
+#[derive(Clone, Copy)]
 pub enum Mark {
     New,
     Old,

@@ -9,41 +9,41 @@ ghost use Rattle.lines.specs.Fields.{DigitsAt, FieldAt, ShortAt, TwoAt, ShortTwo
 ghost use Rattle.lines.specs.Lines.{ShortEdgeAt, LineAt};
 
 // The number of a field, and the offset after the byte that ends it. A number of 2^64 - 6 or more stands for any other such number.
-#[derive(Drop)]
+#[derive(Clone, Copy)]
 pub struct Number {
     pub value: usize,
     pub next: usize,
 }
 
-#[derive(Drop)]
+#[derive(Clone, Copy)]
 pub enum Field {
     Number(Number),
     Nothing,
 }
 
 // Two fields up to the end of a line, and the offset after it.
-#[derive(Drop)]
+#[derive(Clone, Copy)]
 pub struct Two {
     pub first: usize,
     pub second: usize,
     pub next: usize,
 }
 
-#[derive(Drop)]
+#[derive(Clone, Copy)]
 pub enum Fields {
     Both(Two),
     Nothing,
 }
 
 // The offset after a line feed.
-#[derive(Drop)]
+#[derive(Clone, Copy)]
 pub enum Skip {
     After(usize),
     Nothing,
 }
 
 // What stands at an offset: a line, with its fields and the offset after it; a line of no form; no byte.
-#[derive(Drop)]
+#[derive(Clone, Copy)]
 pub enum Next {
     Comment(usize),
     Problem(Two),

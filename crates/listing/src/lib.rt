@@ -11,7 +11,7 @@ ghost use Rattle.listing.specs.Sheets.{ListsBytes, Tables};
 use filling::Read;
 
 // What list answers: the length of the text, or that the buffer is shorter than 2,048 bytes.
-#[derive(Drop)]
+#[derive(Clone, Copy)]
 pub enum Listed {
     Text(usize),
     NoRoom,

@@ -21,12 +21,12 @@ pub data FieldIn (z x : ℕ) (bytes : List ℕ) : Type 0 where
 pub nothing_left : {z x y : ℕ} {rest : List ℕ} → ¬ Field z x [] y rest
 nothing_left = elim [ ]
 
-pub first_digit : {z x y c : ℕ} {bytes rest : List ℕ} → Field z x (c ∷ bytes) y rest → Digit c
+pub first_digit : {z x c y : ℕ} {rest bytes : List ℕ} → Field z x (c ∷ bytes) y rest → Digit c
 first_digit (last d) = d
 first_digit (more d _) = d
 
 -- after a digit the byte z, or a further field
-pub not_further : {z x y c e : ℕ} {bytes rest : List ℕ} → e ≢ z → ((y : ℕ) (rest : List ℕ) → ¬ Field z (append x c) (e ∷ bytes) y rest)
+pub not_further : {z x c e y : ℕ} {rest bytes : List ℕ} → e ≢ z → ((y : ℕ) (rest : List ℕ) → ¬ Field z (append x c) (e ∷ bytes) y rest)
     → ¬ Field z x (c ∷ e ∷ bytes) y rest
 not_further d none (last _) = d refl
 not_further d none (more {y = y} {rest = rest} _ f) = none y rest f
@@ -84,10 +84,18 @@ pub data LineIn (bytes : List ℕ) : Type 0 where
 
 -- a field is one number, and one rest, where it ends in no digit
 pub field_unique : {z x y y' : ℕ} {bytes rest rest' : List ℕ} → ¬ Digit z → Field z x bytes y rest → Field z x bytes y' rest' → (y ≡ y') × (rest ≡ rest')
-field_unique h (last _) (last _) = (refl, refl)
-field_unique h (last _) (more _ f) = absurd (h (first_digit f))
-field_unique h (more _ f) (last _) = absurd (h (first_digit f))
-field_unique h (more _ f) (more _ g) = field_unique h f g
+field_unique h (last {rest = rest} _) g = ended h g refl
+  where
+    ended : {z x c y' : ℕ} {rest' bytes rest : List ℕ} → ¬ Digit z → Field z x (c ∷ bytes) y' rest' → bytes ≡ z ∷ rest
+        → (append x c ≡ y') × (rest ≡ rest')
+    ended h (last _) e = (refl, cc)
+    ended h (more _ f) e = absurd (h (first_digit (rw e at f)))
+field_unique h (more _ f) g = further h f g (λ g'. field_unique h f g')
+  where
+    further : {z x c y y' : ℕ} {rest rest' bytes : List ℕ} → ¬ Digit z → Field z (append x c) bytes y rest → Field z x (c ∷ bytes) y' rest'
+        → (Field z (append x c) bytes y' rest' → (y ≡ y') × (rest ≡ rest')) → (y ≡ y') × (rest ≡ rest')
+    further h f (last _) _ = absurd (h (first_digit f))
+    further h f (more _ g) same = same g
 
 pub space_no_digit : ¬ Digit space
 space_no_digit h = omega (arith, h.0)

@@ -12,7 +12,7 @@ use refusals::{Refusal, Ruling};
 use session::Session;
 
 // What opening answers: a session with no pairs, the first dependent column, or a refusal.
-#[derive(Drop)]
+#[derive(Clone, Copy)]
 pub enum Opening {
     Opened(Session),
     Singular(usize),

@@ -16,7 +16,7 @@ use residue::Residue;
 use sequence::UNUSED;
 
 // Two different vertices, the smaller first.
-#[derive(Drop)]
+#[derive(Clone, Copy)]
 pub struct Pair {
     pub smaller: usize,
     pub larger: usize,

@@ -11,7 +11,7 @@ use filling::Read;
 use records::Next;
 
 // The bytes of a sheet, and an offset in them.
-#[derive(Drop)]
+#[derive(Clone, Copy)]
 pub struct Reader<'a> {
     pub bytes: &'a [u8],
     pub at: usize,

@@ -6,14 +6,14 @@ ghost use Rattle.matching.specs.Records.{four};
 ghost use Rattle.records.specs.Stands.{Stands};
 
 // Two vertices as a record has them, in either order.
-#[derive(Drop)]
+#[derive(Clone, Copy)]
 pub struct Ends {
     pub a: usize,
     pub b: usize,
 }
 
 // A record with its body: the size; two vertices that are adjacent; the seed; the end.
-#[derive(Drop)]
+#[derive(Clone, Copy)]
 pub enum Record {
     Size(usize),
     Share(Ends),
@@ -22,7 +22,7 @@ pub enum Record {
 }
 
 // What stands at an offset.
-#[derive(Drop)]
+#[derive(Clone, Copy)]
 pub enum Next {
     // A whole record.
     Whole(Record),

@@ -8,7 +8,7 @@ ghost use Rattle.refusals.specs.Meaning.{place_of, refusal_of, ruling_of};
 
 // A faulty cell of the adjacency table. Its fault is the first of these that it has: 1 it is not 0 or 1, 2 it is not 0 on the diagonal, 3 it
 // differs from its mirror.
-#[derive(Drop)]
+#[derive(Clone, Copy)]
 pub struct FaultyCell {
     pub row: u8,
     pub column: u8,
@@ -16,28 +16,28 @@ pub struct FaultyCell {
 }
 
 // The place returned with a cause: a number, such as an index, an offset, a line or the number of a buffer; or a faulty cell.
-#[derive(Drop)]
+#[derive(Clone, Copy)]
 pub enum Place {
     Index(usize),
     Cell(FaultyCell),
 }
 
 // Why a call is refused: the number of the cause, and the place returned with it.
-#[derive(Drop)]
+#[derive(Clone, Copy)]
 pub struct Refusal {
     pub cause: u8,
     pub place: Place,
 }
 
 // A ruling on a call: no cause applies, or the call is refused.
-#[derive(Drop)]
+#[derive(Clone, Copy)]
 pub enum Ruling {
     Accepted,
     Refused(Refusal),
 }
 
 // The lowest number with a property, or none.
-#[derive(Drop)]
+#[derive(Clone, Copy)]
 pub enum Finding {
     Absent,
     At(usize),

@@ -17,7 +17,7 @@ use refusals::Ruling;
 use session::Session;
 
 // The session handed back, whether the calls were made, and whether one of them was accepted: if not, no buffer has changed.
-#[derive(Drop)]
+#[derive(Clone, Copy)]
 pub struct Replayed {
     pub session: Session,
     pub ruling: Ruling,
@@ -25,7 +25,7 @@ pub struct Replayed {
 }
 
 // How far a run has come: the pairs made, and whether a call was accepted.
-#[derive(Drop)]
+#[derive(Clone, Copy)]
 struct Reached {
     made: usize,
     changed: bool,

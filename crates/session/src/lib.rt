@@ -14,21 +14,21 @@ use calls::{Answer, Call};
 use refusals::Ruling;
 
 // The number of vertices, and the number of pairs made.
-#[derive(Drop)]
+#[derive(Clone, Copy)]
 pub struct Session {
     pub size: usize,
     pub made: usize,
 }
 
 // The session handed back, and the answer: the pair appended or removed, or a refusal.
-#[derive(Drop)]
+#[derive(Clone, Copy)]
 pub struct Returned {
     pub session: Session,
     pub answer: Answer,
 }
 
 // The session handed back, which is the one passed in, and whether the row was written.
-#[derive(Drop)]
+#[derive(Clone, Copy)]
 pub struct Shown {
     pub session: Session,
     pub ruling: Ruling,

@@ -18,7 +18,7 @@ use records::Record;
 use refusals::Refusal;
 
 // What the first two records say, and the offset after them.
-#[derive(Drop)]
+#[derive(Clone, Copy)]
 pub struct Head {
     pub size: usize,
     pub seed: u32,
@@ -26,7 +26,7 @@ pub struct Head {
 }
 
 // The first two records, or a refusal.
-#[derive(Drop)]
+#[derive(Clone, Copy)]
 pub enum Start {
     Headed(Head),
     Refused(Refusal),
