@@ -151,6 +151,8 @@ module _ {p : ℕ} (P : OddPrime p) (g : Graph) (first : State) where
     unfolding pairs_after state_after
     stands_after pairs s calls returned M R zero = M
     stands_after pairs s [] [] M none (suc k) = M
+    stands_after pairs s [] (r ∷ later) M R (suc k) = elim R [ ]
+    stands_after pairs s (c ∷ calls) [] M R (suc k) = elim R [ ]
     stands_after pairs s (c ∷ calls) (r ∷ later) M (more h rest) (suc k) =
         stands_after (step P g S pairs c).pairs r.state calls later (stands_step pairs s r.state c r.answer M h).1 rest k
 
@@ -158,6 +160,8 @@ module _ {p : ℕ} (P : OddPrime p) (g : Graph) (first : State) where
         → map (λ (r : Returned). r.answer) returned ≡ answered P g S pairs calls
     unfolding answered
     stands_answered pairs s [] [] M none = refl
+    stands_answered pairs s [] (r ∷ later) M R = elim R [ ]
+    stands_answered pairs s (c ∷ calls) [] M R = elim R [ ]
     stands_answered pairs s (c ∷ calls) (r ∷ later) M (more h rest) =
         let k = stands_step pairs s r.state c r.answer M h in
         ap₂ (λ x xs. x ∷ xs) k.0 (stands_answered (step P g S pairs c).pairs r.state calls later k.1 rest)
@@ -166,6 +170,8 @@ refused_stays : {p : ℕ} (P : OddPrime p) (s : State) (calls : List Call) (retu
     → (k : ℕ) (r : Refusal) → At (map (λ (r : Returned). r.answer) returned) k (denied r) → state_after s returned (suc k) ≡ state_after s returned k
 unfolding At state_after
 refused_stays P s [] [] none k r a = absurd a
+refused_stays P s [] (x ∷ later) R k r a = elim R [ ]
+refused_stays P s (c ∷ calls) [] R k r a = elim R [ ]
 refused_stays P s (c ∷ calls) (x ∷ later) (more h rest) zero r a = refused_keeps P h {r = r} a
 refused_stays P s (c ∷ calls) (x ∷ later) (more h rest) (suc k) r a = refused_stays P x.state calls later rest k r a
 

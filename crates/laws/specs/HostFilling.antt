@@ -62,10 +62,10 @@ pub record ReadIn (E : Edition) (k : ℕ) (adjacency weights a w : List ℕ) : T
   filled : Filled (size_in k) drawn edges adjacency (words E.width weights) (graph_read (size_in k) count) a (words E.width w)
 
 -- the weights that were stored are read back
-stored_back : {E : Edition} {adjacency a left drawn : List ℕ} {edges : List Pair} {n k m : ℕ} (weights : List ℕ) → Bytes weights → Fit E n drawn edges
+stored_back : {E : Edition} {n k m : ℕ} {adjacency drawn : List ℕ} {edges : List Pair} (weights : List ℕ) {a left : List ℕ} → Bytes weights → Fit E n drawn edges
     → Filled n drawn edges adjacency (words E.width weights) (graph_read k m) a left
     → words E.width (onto (bytes_of E.width left) weights) ≡ left
-stored_back {E} {adjacency = adjacency} {drawn = drawn} {n = n} weights B F (fills e) =
+stored_back {E} {n = n} {adjacency = adjacency} {drawn = drawn} weights B F (fills e) =
     let l = F.weights_fit.counted in
     let g = over n adjacency (words E.width weights) in
     let long = (graph_fits g).0 ((short_absent (lent_graph g)).0 ((judge_accepted (too_short (lent_graph g) ∷ [])).0 e).0) in

@@ -47,9 +47,11 @@ rejects_unique (stood_already h _) (not_two d) = absurd (d h)
 rejects_unique (stood_already _ _) (stood_already _ _) = refl
 
 takes_or_rejects : {E : Edition} {q a : Progress} {r : Record} {cause : ℕ} → Takes E q r a → Rejects q r cause → ⊥
+takes_or_rejects takes_seed j = elim j [ ]
 takes_or_rejects (takes_size l) (too_large_size h) = omega arith
 takes_or_rejects (takes_share h z) (not_two d) = d h
 takes_or_rejects (takes_share h z) (stood_already _ e) = omega arith
+takes_or_rejects takes_end j = elim j [ ]
 
 first_due : {q : Progress} {k : ℕ} {body rest : List ℕ} {r : Record} → Begins r (k ∷ body) rest → Due q (kind r) → Due q k
 first_due b d = rw (begins_kind b) d

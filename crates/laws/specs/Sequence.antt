@@ -39,7 +39,8 @@ pub pairs_on_bytes : (pairs : Pairs) (rest : List ℕ) → pairs_on (bytes pairs
 unfolding pairs_on
 pairs_on_bytes [] rest = refl
 pairs_on_bytes (e ∷ earlier) rest =
-    rw (newest e earlier rest, at_smaller earlier e.smaller e.larger rest, at_larger earlier e.smaller e.larger rest, pairs_on_bytes earlier (e.smaller ∷ e.larger ∷ rest))
+    ap (λ l. pairs_on l (suc (length earlier))) (newest e earlier rest)
+    ∙ rw (at_smaller earlier e.smaller e.larger rest, at_larger earlier e.smaller e.larger rest, pairs_on_bytes earlier (e.smaller ∷ e.larger ∷ rest))
 
 pub pairs_on_sequence : (n : ℕ) (pairs : Pairs) (rest : List ℕ) → pairs_on (sequence n pairs ++ rest) (length pairs) ≡ pairs
 unfolding sequence

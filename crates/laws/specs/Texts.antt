@@ -34,7 +34,7 @@ begins_unique (begins_edge f g) (begins_edge f' g') =
     let w = field_unique line_feed_no_digit g (rw (← u.1) at g') in
     (rw (u.0, w.0) refl, w.1)
 
-takes_unique : {q a b : Progress} {l : Line} → Takes q l a → Takes q l b → a ≡ b
+takes_unique : {q a : Progress} {l : Line} → Takes q l a → {b : Progress} → Takes q l b → a ≡ b
 takes_unique takes_comment takes_comment = refl
 takes_unique (takes_problem _) (takes_problem _) = refl
 takes_unique (takes_edge _ _) (takes_edge _ _) = refl
@@ -49,6 +49,7 @@ rejects_unique (too_large_size _) (too_large_size _) = refl
 rejects_unique (not_two _) (not_two _) = refl
 
 takes_or_rejects : {q a : Progress} {l : Line} {cause : ℕ} → Takes q l a → Rejects q l cause → ⊥
+takes_or_rejects takes_comment j = elim j [ ]
 takes_or_rejects (takes_problem l) (too_large_size h) = omega arith
 takes_or_rejects (takes_edge h _) (not_two d) = d h
 takes_or_rejects (takes_repeated h _) (not_two d) = d h

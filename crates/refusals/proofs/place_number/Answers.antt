@@ -4,4 +4,4 @@ use borrow.Author.Rules.{rules}
 use Rattle.refusals.proofs.place_number.Goals as goal
 
 pub returns-in-Cell : goal.returns-in-Cell
-returns-in-Cell c = rw c.place-in-Cell-1.given.1 (omega arith)
+returns-in-Cell c = rw c.in-Cell.is (omega arith)
