@@ -55,7 +55,7 @@ module _ {bytes : List ℕ} where
     before_edge S = record { reads = B.follows _ (rejected S.begins edge_too_early) }
 
     pub before_large : {t : Two} → Stands problem bytes at t → largest < t.first → Refuses bytes (because 1 line)
-    before_large S l = record { reads = B.follows _ (rejected S.begins (too_large_size (near_above S.IsNear-first largest (omega arith) l))) }
+    before_large S l = record { reads = B.follows _ (rejected S.begins (too_large_size (near_above S.near_first largest (omega arith) l))) }
 
     pub before_problem : {t : Two} → Stands problem bytes at t → t.first ≤ largest
         → Past bytes (record { size = t.first; announced = t.second; next = t.next; line = line + 1 })
@@ -68,7 +68,7 @@ module _ {bytes : List ℕ} where
     }
       where
         same : t.first ≡ S.exact_first
-        same = near_below S.IsNear-first largest (omega arith) l
+        same = near_below S.near_first largest (omega arith) l
 
         begun : (r : Reading) → ReadsOn bytes (past t.first S.exact_second 0 []) (line + 1) t.next r
             → ReadsOn bytes before line at r

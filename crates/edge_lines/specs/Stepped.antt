@@ -83,7 +83,7 @@ module _ {bytes : List ℕ} {at n : ℕ} where
   pub step_new : {t : Two} {table table' : List ℕ} → n ≤ largest → Stands edge bytes at t → 0 < t.first → 0 < t.second
       → MarksNew n (t.first - 1) (t.second - 1) table table' → OneMore bytes at n table t.next table'
   step_new {t} l S f g M =
-      let e = exact t l S.IsNear-first S.near_second (f, g, M.named) in
+      let e = exact t l S.near_first S.near_second (f, g, M.named) in
       let h : Joins n t.first t.second = (f, g, M.named) in
       let k : Joins n S.exact_first S.exact_second = rw (e.0, e.1) at h in
       record {
@@ -96,7 +96,7 @@ module _ {bytes : List ℕ} {at n : ℕ} where
   pub step_old : {t : Two} {table table' : List ℕ} → n ≤ largest → Stands edge bytes at t → 0 < t.first → 0 < t.second
       → MarksOld n (t.first - 1) (t.second - 1) table table' → OneAgain bytes at n table t.next table'
   step_old {t} l S f g M =
-      let e = exact t l S.IsNear-first S.near_second (f, g, M.named) in
+      let e = exact t l S.near_first S.near_second (f, g, M.named) in
       let h : Joins n t.first t.second = (f, g, M.named) in
       let k : Joins n S.exact_first S.exact_second = rw (e.0, e.1) at h in
       record {
@@ -110,7 +110,7 @@ module _ {bytes : List ℕ} {at n : ℕ} where
     where
       back : Joins n S.exact_first S.exact_second → Joins n t.first t.second
       back h =
-          let a = near_back S.IsNear-first S.exact_first (omega (arith, h.2.0)) refl in
+          let a = near_back S.near_first S.exact_first (omega (arith, h.2.0)) refl in
           let b = near_back S.near_second S.exact_second (omega (arith, h.2.1)) refl in
           rw (a, b) at h
 
