@@ -1,4 +1,5 @@
 -- `exchange::advance` meets its contract: before the turn of c every index from first on that waited has been exchanged.
+-- Assumes nothing.
 use Prim.Native.Nat.{◌-◌, ◌≤◌}
 use lib.ListN.{length}
 use Rattle.skew.specs.Subset.{Subset}

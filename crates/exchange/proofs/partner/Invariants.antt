@@ -1,4 +1,5 @@
 -- `exchange::partner` meets its contract: no index between c and r is a partner.
+-- Assumes nothing.
 use Prim.Native.Nat.{◌-◌, ◌≤◌, ◌<◌}
 use Rattle.exchange.specs.Run.{Between}
 use Rattle.exchange.proofs.partner.Given as goal

@@ -1,4 +1,5 @@
 -- `exchange::rest` meets its contract: before each step the indices before i are exchanged or passed.
+-- Assumes nothing.
 use Prim.Native.Nat.{◌-◌}
 use Rattle.skew.specs.Subset.{Subset}
 use Rattle.skew.specs.Inverse.{Matrix}

@@ -1,4 +1,5 @@
 -- `pivot::add` meets its contract: the words before j are added to. A product is below 65521 * 65521, and the word that it is added to below 2^40.
+-- Assumes nothing.
 use Prim.Native.Nat.{◌-◌}
 use lib.ListN.{length}
 use Rattle.lists.specs.Written.{Written}

@@ -1,4 +1,5 @@
 -- `pivot::scale` meets its contract: the words before k are multiplied and reduced.
+-- Assumes nothing.
 use Prim.Native.Nat.{◌-◌}
 use lib.ListN.{length}
 use Rattle.lists.specs.Written.{Written}

@@ -1,4 +1,5 @@
 -- `pivot::take_column` meets its contract: the entries with the indices before k are taken.
+-- Assumes nothing.
 use Prim.Native.Nat.{◌-◌, ◌≤◌}
 use lib.ListN.{get_or}
 use Rattle.lists.specs.Written.{Written}

@@ -1,4 +1,5 @@
 -- `pivot::update` meets its contract: the rows before i are done, and the others are as they were.
+-- Assumes nothing.
 use Prim.Native.Nat.{◌-◌, ◌≤◌}
 use Rattle.pivot.specs.Step.{UpdatedTo}
 use Rattle.pivot.proofs.update.Given as goal
