@@ -24,9 +24,12 @@ pub data Digits (z : ℕ) : (x : ℕ) (bytes : List ℕ) (y : ℕ) (rest : List 
   stop : {x : ℕ} {rest : List ℕ} → Digits z x (z ∷ rest) x rest
   step : {x c y : ℕ} {bytes rest : List ℕ} → Digit c → Digits z (append x c) bytes y rest → Digits z x (c ∷ bytes) y rest
 
+to_field_from : {z v x c y : ℕ} {bytes rest : List ℕ} → Digit c → v ≡ append x c → Digits z v bytes y rest → paper.Field z x (c ∷ bytes) y rest
+to_field_from d e stop = rw e (last d)
+to_field_from {x = x} {c = c} d e (step {c = c'} d' r) = more d (to_field_from {x = append x c} d' (ap (λ w. append w c') e) r)
+
 pub to_field : {z x c y : ℕ} {bytes rest : List ℕ} → Digit c → Digits z (append x c) bytes y rest → paper.Field z x (c ∷ bytes) y rest
-to_field d stop = last d
-to_field d (step e r) = more d (to_field e r)
+to_field d r = to_field_from d refl r
 
 pub from_field : {z x y : ℕ} {bytes rest : List ℕ} → paper.Field z x bytes y rest → Digits z x bytes y rest
 from_field (last d) = step d stop
