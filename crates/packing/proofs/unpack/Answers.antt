@@ -1,0 +1,27 @@
+-- `packing::unpack` meets its contract. Its loop writes one word after another. Assumes nothing.
+use mathlib.Core.Path.{sym, ◌∙◌}
+use native.Mathlib.Omega.{arith}
+use lib.ListN.{length}
+use Rattle.lists.specs.Values.{list_of_front}
+use Rattle.lists.specs.Written.{written_start, written_more, written_all}
+use Rattle.matching.specs.Host.{words}
+use Rattle.laws.specs.Words.{words_length, words_at_two}
+use Rattle.packing.proofs.unpack.Goals as goal
+
+pub loop-i-init : goal.loop-i-init
+loop-i-init c = written_start _ _
+
+pub loop-i-preserved : goal.loop-i-preserved
+loop-i-preserved c =
+    let l = c in
+    let s = l in
+    written_more _ l.loop-i.invariant (omega arith) (c.word.ensures ∙ sym (words_at_two s.args.bytes.now l.loop-i.i (omega (arith, s.requires))))
+
+pub shape_of-target : goal.shape_of-target
+shape_of-target c = c.loop-i.invariant.size
+
+pub returns : goal.returns
+returns c =
+    let s = c in
+    written_all c.loop-i.invariant (omega arith)
+    ∙ list_of_front (length s.args.target.now) (words 2 s.args.bytes.now) (omega (arith, s.requires, words_length 2 s.args.bytes.now))
