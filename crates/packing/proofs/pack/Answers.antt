@@ -14,30 +14,29 @@ pub loop-i-init : goal.loop-i-init
 loop-i-init c = (search rules, written_start _ _)
 
 pub overflow_cast-bytes : goal.overflow_cast-bytes
-overflow_cast-bytes c = omega (arith, c.shared_slice_known-1.given c.loop-i.i)
+overflow_cast-bytes c = omega (arith, c.type_inv.words c.loop-i.i)
 
 pub bounds-bytes-i : goal.bounds-bytes-i
 bounds-bytes-i c = omega (arith, c.loop-i.invariant.1.size)
 
 pub overflow_cast-bytes-in-loop-i : goal.overflow_cast-bytes-in-loop-i
-overflow_cast-bytes-in-loop-i c = omega (arith, c.shared_slice_known-in-loop-i-1.given c.loop-i.i)
+overflow_cast-bytes-in-loop-i c = omega (arith, c.type_inv.words c.loop-i.i)
 
 pub bounds-bytes-i-in-loop-i : goal.bounds-bytes-i-in-loop-i
 bounds-bytes-i-in-loop-i c = simp length-set (omega arith)
 
 pub loop-i-preserved : goal.loop-i-preserved
 loop-i-preserved c =
-    let l = c in
-    let v = l.loop-i.invariant in
-    let words = l.args.words.now in
-    let i = l.loop-i.i in
+    let v = c.loop-i.invariant in
+    let words = c.args.words.now in
+    let i = c.loop-i.i in
     let n = bytes_length 2 words in
     let e : 2 * (i + 1) ≡ 2 * i + 1 + 1 = omega arith in
-    let small = c.shared_slice_known-in-loop-i-1.given i in
+    let small = c.type_inv.words i in
     let high : get_or words i 0 / 256 % 256 ≡ get_or words i 0 / 256 = omega arith in (
       omega arith,
       rw e
-          (written_more _ (written_more _ v.1 (omega (arith, l.requires)) (sym (bytes_low words i (omega arith)))) (omega (arith, l.requires)) (sym (bytes_high words i (omega arith) ∙ high))),
+          (written_more _ (written_more _ v.1 (omega (arith, c.requires)) (sym (bytes_low words i (omega arith)))) (omega (arith, c.requires)) (sym (bytes_high words i (omega arith) ∙ high))),
     )
 
 pub shape_of-bytes : goal.shape_of-bytes

@@ -5,7 +5,7 @@ use lib.Seq.{length-take-le}
 use Rattle.packing.proofs.store.Goals as goal
 
 pub slice_bounds-pack-end : goal.slice_bounds-pack-end
-slice_bounds-pack-end c = let s = c in sym (length-take-le _ s.args.words.now s.requires.0)
+slice_bounds-pack-end c = sym (length-take-le _ c.args.words.now c.requires.0)
 
 pub pack-requires : goal.pack-requires
-pack-requires c = let s = c in omega (arith, s.requires.1, length-take-le _ s.args.words.now s.requires.0)
+pack-requires c = omega (arith, c.requires.1, length-take-le _ c.args.words.now c.requires.0)

@@ -13,15 +13,12 @@ loop-i-init c = written_start _ _
 
 pub loop-i-preserved : goal.loop-i-preserved
 loop-i-preserved c =
-    let l = c in
-    let s = l in
-    written_more _ l.loop-i.invariant (omega arith) (c.word.ensures ∙ sym (words_at_two s.args.bytes.now l.loop-i.i (omega (arith, s.requires))))
+    written_more _ c.loop-i.invariant (omega arith) (c.word.ensures ∙ sym (words_at_two c.args.bytes.now c.loop-i.i (omega (arith, c.requires))))
 
 pub shape_of-target : goal.shape_of-target
 shape_of-target c = c.loop-i.invariant.size
 
 pub returns : goal.returns
 returns c =
-    let s = c in
     written_all c.loop-i.invariant (omega arith)
-    ∙ list_of_front (length s.args.target.now) (words 2 s.args.bytes.now) (omega (arith, s.requires, words_length 2 s.args.bytes.now))
+    ∙ list_of_front (length c.args.target.now) (words 2 c.args.bytes.now) (omega (arith, c.requires, words_length 2 c.args.bytes.now))

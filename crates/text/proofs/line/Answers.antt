@@ -35,9 +35,4 @@ put-requires c =
 
 pub returns : goal.returns
 returns c =
-    let feed = c in
-    let y = feed in
-    let second = y in
-    let x = second in
-    let first = x in
-    puts_then (puts_then (puts_then (puts_then first.put-a.ensures x.put_decimal-b.ensures) second.put-c.ensures) y.put_decimal-d.ensures) feed.put.ensures
+    puts_then (puts_then (puts_then (puts_then c.put-a.ensures c.put_decimal-b.ensures) c.put-c.ensures) c.put_decimal-d.ensures) c.put.ensures

@@ -25,8 +25,7 @@ loop-i-smaller c = omega arith
 
 pub loop-i-preserved : goal.loop-i-preserved
 loop-i-preserved c =
-    let at_loop = c in
-    (omega arith, puts_more at_loop.loop-i.i at_loop.args.bytes.now at_loop.loop-i.invariant.1 (omega arith) (omega arith))
+    (omega arith, puts_more c.loop-i.i c.args.bytes.now c.loop-i.invariant.1 (omega arith) (omega arith))
 
 pub overflow_add-result : goal.overflow_add-result
 overflow_add-result c = omega arith
@@ -35,4 +34,4 @@ pub shape_of-text : goal.shape_of-text
 shape_of-text c = puts_length c.loop-i.invariant.1
 
 pub returns : goal.returns
-returns c = let at_loop = c in rw (take_all at_loop.loop-i.i at_loop.args.bytes.now (omega arith)) at at_loop.loop-i.invariant.1
+returns c = rw (take_all c.loop-i.i c.args.bytes.now (omega arith)) at c.loop-i.invariant.1

@@ -11,21 +11,19 @@ use Rattle.text.specs.Lines.{witness_length, witness_start, witness_more}
 use Rattle.text.proofs.witness_lines.Goals as goal
 
 pub loop-i-init : goal.loop-i-init
-loop-i-init c = let s = c in (omega arith, omega arith, rw (witness_start 0) (puts_nothing _ _ (omega (arith, s.requires.1))))
+loop-i-init c = (omega arith, omega arith, rw (witness_start 0) (puts_nothing _ _ (omega (arith, c.requires.1))))
 
 pub bounds-words-i : goal.bounds-words-i
 bounds-words-i c = omega arith
 
 pub overflow_cast-w : goal.overflow_cast-w
-overflow_cast-w c = omega (arith, c.shared_slice_known-in-loop-i-1.given c.loop-i.i)
+overflow_cast-w c = omega (arith, c.type_inv.words c.loop-i.i)
 
 pub witness_line-next-requires : goal.witness_line-next-requires
 witness_line-next-requires c =
-    let short : c.loop-i.i < length c.args.words.now → length (witness_lines c.loop-i.i (get_or c.args.words.now c.loop-i.i 0 ∷ [])) ≤ 17 = λ h. let s = c in
-    let i = c.loop-i.i in
-    witness_length i (get_or s.args.words.now i 0) (omega (arith, s.requires.0)) (omega (arith, c.shared_slice_known-1.given i)) in
-    let l = c in
-    omega (arith, l.requires.1, puts_length l.loop-i.invariant.2, short (omega arith))
+    let short : c.loop-i.i < length c.args.words.now → length (witness_lines c.loop-i.i (get_or c.args.words.now c.loop-i.i 0 ∷ [])) ≤ 17 = λ h. let i = c.loop-i.i in
+    witness_length i (get_or c.args.words.now i 0) (omega (arith, c.requires.0)) (omega (arith, c.type_inv.words i)) in
+    omega (arith, c.requires.1, puts_length c.loop-i.invariant.2, short (omega arith))
 
 pub overflow_add-i : goal.overflow_add-i
 overflow_add-i c = omega arith
@@ -35,15 +33,12 @@ loop-i-smaller c = omega arith
 
 pub loop-i-preserved : goal.loop-i-preserved
 loop-i-preserved c =
-    let short : c.loop-i.i < length c.args.words.now → length (witness_lines c.loop-i.i (get_or c.args.words.now c.loop-i.i 0 ∷ [])) ≤ 17 = λ h. let s = c in
-    let i = c.loop-i.i in
-    witness_length i (get_or s.args.words.now i 0) (omega (arith, s.requires.0)) (omega (arith, c.shared_slice_known-1.given i)) in
-    let p = c in
-    let l = p in
-    let words = l.args.words.now in (
+    let short : c.loop-i.i < length c.args.words.now → length (witness_lines c.loop-i.i (get_or c.args.words.now c.loop-i.i 0 ∷ [])) ≤ 17 = λ h. let i = c.loop-i.i in
+    witness_length i (get_or c.args.words.now i 0) (omega (arith, c.requires.0)) (omega (arith, c.type_inv.words i)) in
+    let words = c.args.words.now in (
       omega arith,
-      omega (arith, p.witness_line-next.ensures.behind, short (omega arith)),
-      rw (witness_more words l.loop-i.i (omega arith)) (puts_then l.loop-i.invariant.2 p.witness_line-next.ensures),
+      omega (arith, c.witness_line-next.ensures.behind, short (omega arith)),
+      rw (witness_more words c.loop-i.i (omega arith)) (puts_then c.loop-i.invariant.2 c.witness_line-next.ensures),
     )
 
 pub shape_of-text : goal.shape_of-text
@@ -51,6 +46,5 @@ shape_of-text c = puts_length c.loop-i.invariant.2
 
 pub returns : goal.returns
 returns c =
-    let l = c in
-    let words = l.args.words.now in
-    record { lines = rw (take_all l.loop-i.i words (omega arith)) at l.loop-i.invariant.2; bound = omega (arith, l.loop-i.invariant.1) }
+    let words = c.args.words.now in
+    record { lines = rw (take_all c.loop-i.i words (omega arith)) at c.loop-i.invariant.2; bound = omega (arith, c.loop-i.invariant.1) }

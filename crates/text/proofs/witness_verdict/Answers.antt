@@ -4,12 +4,8 @@ use Rattle.text.proofs.witness_verdict.Goals as goal
 
 pub returns-then-count-eq1 : goal.returns-then-count-eq1
 returns-then-count-eq1 c =
-    let written = c in
-    let branch = written in
-    rw (letter_if_odd branch.args.count branch.if-count-eq1.true) written.put.ensures
+    rw (letter_if_odd c.args.count c.if-count-eq1.true) c.put.ensures
 
 pub returns : goal.returns
 returns c =
-    let written = c in
-    let branch = written in
-    rw (letter_if_even branch.args.count branch.if-count-eq1.false) written.put-2.ensures
+    rw (letter_if_even c.args.count c.if-count-eq1.false) c.put-2.ensures
