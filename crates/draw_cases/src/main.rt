@@ -1,56 +1,54 @@
 // Runs the draw roll and writes its states and draws.
 #![tactic(auto)]
 
-use libc::STDOUT_FILENO;
+use std::io;
 
 // Writes a state and its draw on a line.
-fn show(state: u32) {
-    io::write_all(STDOUT_FILENO, b"state ");
-    io::print_decimal(STDOUT_FILENO, state as u64);
-    io::write_all(STDOUT_FILENO, b" draw ");
-    io::print_decimal(STDOUT_FILENO, draws::draw(state) as u64);
-    io::write_all(STDOUT_FILENO, b"\n");
+fn show(rt: &impl Print, state: u32) -> io::Result<()> {
+    let draw = draws::draw(state);
+    println!(rt; "state {state} draw {draw}")
 }
 
 // Steps to the next state, shows it and returns it.
-fn step(state: u32) -> u32 {
+fn step(rt: &impl Print, state: u32) -> io::Result<u32> {
     let next = draws::next(state);
-    show(next);
-    next
+    show(rt, next)?;
+    Ok(next)
 }
 
 // Shows the first four states from seed.
-fn steps(seed: u32) {
-    step(step(step(step(seed))));
+fn steps(rt: &impl Print, seed: u32) -> io::Result<()> {
+    step(rt, step(rt, step(rt, step(rt, seed)?)?)?)?;
+    Ok(())
 }
 
 // Shows the first and the last state whose high half is high.
-fn halves(high: u16) {
+fn halves(rt: &impl Print, high: u16) -> io::Result<()> {
     let first = high as u32 * 65536;
-    show(first);
-    show(first + 65535);
+    show(rt, first)?;
+    show(rt, first + 65535)
 }
 
 // Writes a space and the word.
-fn item(word: u16) {
-    io::write_all(STDOUT_FILENO, b" ");
-    io::print_decimal(STDOUT_FILENO, word as u64);
+fn item(rt: &impl Print, word: u16) -> io::Result<()> {
+    print!(rt; " {word}")
 }
 
 // Writes each word after a space.
-fn items(words: &[u16]) {
+fn items(rt: &impl Print, words: &[u16]) -> io::Result<()> {
     let mut i = 0;
     while i < words.len() {
-        item(words[i]);
+        item(rt, words[i])?;
         i += 1;
     }
+    Ok(())
 }
 
 // Writes the words on a line.
-fn list(words: &[u16]) {
-    io::write_all(STDOUT_FILENO, b"words");
-    items(words);
-    io::write_all(STDOUT_FILENO, b"\n");
+fn list(rt: &impl Print, words: &[u16]) -> io::Result<()> {
+    print!(rt; "words")?;
+    items(rt, words)?;
+    println!(rt)
 }
 
 // Fills words[from..to], if there is such a part.
@@ -62,22 +60,22 @@ fn fill_part(words: &mut [u16], from: usize, to: usize, seed: u32) {
     }
 }
 
-fn main() {
-    steps(0);
-    steps(4294967295);
-    halves(0);
-    halves(65519);
-    halves(65520);
-    halves(65521);
-    halves(65534);
-    halves(65535);
+fn main(rt: HostRuntime) -> io::Result<()> {
+    steps(&rt, 0)?;
+    steps(&rt, 4294967295)?;
+    halves(&rt, 0)?;
+    halves(&rt, 65519)?;
+    halves(&rt, 65520)?;
+    halves(&rt, 65521)?;
+    halves(&rt, 65534)?;
+    halves(&rt, 65535)?;
 
     // Fills all the words, then the three in the middle, then none.
     let mut words = [0u16; 5];
     draws::fill(&mut words, 0);
-    list(&words);
+    list(&rt, &words)?;
     fill_part(&mut words, 1, 4, 4294967295);
-    list(&words);
+    list(&rt, &words)?;
     fill_part(&mut words, 2, 2, 7);
-    list(&words);
+    list(&rt, &words)
 }
