@@ -1,0 +1,32 @@
+-- `tutte::listed_row` meets its contract. The invariant of its loop: the first k words are those of the row, the others as they came.
+-- Assumes nothing.
+use Prim.Native.Nat.{◌+◌}
+use native.Mathlib.Omega.{arith}
+use Rattle.lists.specs.Written.{written_start, written_more, written_all}
+use Rattle.tutte.proofs.listed_row.Goals as goal
+
+pub overflow_cast-a : goal.overflow_cast-a
+overflow_cast-a c = omega (arith, c.type_inv.vertices c.args.i)
+
+pub loop-k-init : goal.loop-k-init
+loop-k-init c = written_start _ _
+
+pub overflow_cast-b : goal.overflow_cast-b
+overflow_cast-b c = omega (arith, c.type_inv.vertices (c.args.i + 1 + c.loop-k.k))
+
+pub upper-requires : goal.upper-requires
+upper-requires c =
+    let s = c in
+    let i = s.args.i in
+    let k = c.loop-k.k in
+    let w = c.loop-k.invariant in
+    record { complete = s.requires.complete.0; i_lt_j = (s.requires.complete.1.ordered i (i + 1 + k) (omega arith) (omega arith), s.requires.complete.1.below (i + 1 + k) (omega arith)) }
+
+pub loop-k-preserved : goal.loop-k-preserved
+loop-k-preserved c = written_more _ c.loop-k.invariant (omega arith) c.upper.ensures
+
+pub shape_of-row : goal.shape_of-row
+shape_of-row c = c.loop-k.invariant.size
+
+pub returns : goal.returns
+returns c = written_all c.loop-k.invariant (omega arith)
