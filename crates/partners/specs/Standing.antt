@@ -1,7 +1,7 @@
 -- The vertices that pairs leave unmatched, marked, with the inverse for them, and what these say of a pick. Assumes nothing.
 use Rattle.std.specs.Prelude.{◌≡◌, refl, ◌≢◌, ◌↔◌, List, [], ◌∷◌, ℕ, ◌+◌, ◌*◌, ◌≤◌, ◌<◌, length, get_or}
-use Rattle.std.proofs.Common.{sym, ap₂, ◌∙◌, arith}
-use Rattle.std.proofs.Math.Decide.{ℕ_discrete, dec_lt}
+use Rattle.std.proofs.Common.{sym, ◌∙◌, arith}
+use Rattle.std.proofs.Math.Decide.{dec_lt}
 use Rattle.lists.specs.Values.{list_of}
 use Rattle.lists.specs.Table.{table, index_below}
 use Rattle.modular.specs.Congruence.{Congruent, equals}
