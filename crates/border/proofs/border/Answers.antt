@@ -5,5 +5,4 @@ use Rattle.border.proofs.border.Goals as goal
 
 pub returns : goal.returns
 returns c =
-    let s = c in
-    bordered (lit< tt) s.requires.2 (rw s.requires.3 at c.image.ensures)
+    bordered (lit< tt) c.requires.2 (rw c.requires.3 at c.image.ensures)

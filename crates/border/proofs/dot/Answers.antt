@@ -23,19 +23,18 @@ pub overflow_mul-total : goal.overflow_mul-total
 overflow_mul-total c =
     let product : get_or c.args.u.now c.loop-k.k 0 * get_or c.args.v.now c.loop-k.k 0 < 4294967296 = let k = c.loop-k.k in
     product_below 65536 (omega (arith, c.type_inv.u k)) (omega (arith, c.type_inv.v k)) in
-    let h = product in omega arith
+    omega arith
 
 pub overflow_add-total : goal.overflow_add-total
 overflow_add-total c =
     let product : get_or c.args.u.now c.loop-k.k 0 * get_or c.args.v.now c.loop-k.k 0 < 4294967296 = let k = c.loop-k.k in
     product_below 65536 (omega (arith, c.type_inv.u k)) (omega (arith, c.type_inv.v k)) in
-    let h = product in omega arith
+    omega arith
 
 pub loop-k-preserved : goal.loop-k-preserved
 loop-k-preserved c =
     let product : get_or c.args.u.now c.loop-k.k 0 * get_or c.args.v.now c.loop-k.k 0 < 4294967296 = let k = c.loop-k.k in
     product_below 65536 (omega (arith, c.type_inv.u k)) (omega (arith, c.type_inv.v k)) in
-    let h = product in
     (omega arith, rw (add-one, sum_suc) (omega arith), omega arith)
 
 pub returns : goal.returns

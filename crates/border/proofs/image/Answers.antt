@@ -17,44 +17,40 @@ loop-i-init c = written_start _ _
 pub overflow_mul-at : goal.overflow_mul-at
 overflow_mul-at c =
     let room : RowRoom c.args.n c.loop-i.i c.args.t.now = row_room c.requires.0 (omega arith) in
-    let h = room in omega arith
+    omega arith
 
 pub overflow_add-end : goal.overflow_add-end
 overflow_add-end c =
     let room : RowRoom c.args.n c.loop-i.i c.args.t.now = row_room c.requires.0 (omega arith) in
-    let h = room in omega arith
+    omega arith
 
 pub offset_bounds-t-at : goal.offset_bounds-t-at
 offset_bounds-t-at c =
     let room : RowRoom c.args.n c.loop-i.i c.args.t.now = row_room c.requires.0 (omega arith) in
-    let h = room in omega arith
+    omega arith
 
 pub slice_bounds-dot-count : goal.slice_bounds-dot-count
 slice_bounds-dot-count c =
     let room : RowRoom c.args.n c.loop-i.i c.args.t.now = row_room c.requires.0 (omega arith) in
-    let h = room in omega arith
+    omega arith
 
 pub dot-requires : goal.dot-requires
 dot-requires c =
     let room : RowRoom c.args.n c.loop-i.i c.args.t.now = row_room c.requires.0 (omega arith) in
     let row_length : length (take c.args.n (drop (c.loop-i.i * c.args.n) c.args.t.now)) ≡ c.args.n = part_length _ _ _ (room).ends in
-    let w = c in
-    let s = c in
-    let n = s.args.n in
-    let e : w.loop-i.i * n + n - w.loop-i.i * n ≡ n = omega arith in
-    rw e (row_length ∙ sym s.requires.1, rw (row_length) s.requires.0.small)
+    let n = c.args.n in
+    let e : c.loop-i.i * n + n - c.loop-i.i * n ≡ n = omega arith in
+    rw e (row_length ∙ sym c.requires.1, rw row_length c.requires.0.small)
 
 pub loop-i-preserved : goal.loop-i-preserved
 loop-i-preserved c =
     let room : RowRoom c.args.n c.loop-i.i c.args.t.now = row_room c.requires.0 (omega arith) in
     let row_length : length (take c.args.n (drop (c.loop-i.i * c.args.n) c.args.t.now)) ≡ c.args.n = part_length _ _ _ (room).ends in
-    let w = c in
-    let at = w.loop-i in
-    let s = c in
-    let n = s.args.n in
+    let at = c.loop-i in
+    let n = c.args.n in
     let e : at.i * n + n - at.i * n ≡ n = omega arith in
     written_more _ at.invariant (omega arith)
-    ((rw (e, row_length) at c.dot.ensures) ∙ ap (λ z. z % modulus) (row_against n at.i s.args.t.now s.args.v.now))
+    ((rw (e, row_length) at c.dot.ensures) ∙ ap (λ z. z % modulus) (row_against n at.i c.args.t.now c.args.v.now))
 
 pub shape_of-x : goal.shape_of-x
 shape_of-x c = c.loop-i.invariant.size

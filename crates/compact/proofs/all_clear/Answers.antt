@@ -16,22 +16,22 @@ loop-a-init c = (omega arith, record { at = λ a b l. absurd (omega arith) })
 pub overflow_mul-at : goal.overflow_mul-at
 overflow_mul-at c =
     let room : (c.loop-a.a * c.args.n + c.args.n ≤ c.args.n * c.args.n) × (c.args.n * c.args.n ≤ 9216) = (row_fits c.args.n c.loop-a.a c.loop-a-test.true, square_small c.args.n c.requires.0) in
-    let h = room in omega arith
+    omega arith
 
 pub overflow_add-end : goal.overflow_add-end
 overflow_add-end c =
     let room : (c.loop-a.a * c.args.n + c.args.n ≤ c.args.n * c.args.n) × (c.args.n * c.args.n ≤ 9216) = (row_fits c.args.n c.loop-a.a c.loop-a-test.true, square_small c.args.n c.requires.0) in
-    let h = room in omega arith
+    omega arith
 
 pub offset_bounds-inverse-at : goal.offset_bounds-inverse-at
 offset_bounds-inverse-at c =
     let room : (c.loop-a.a * c.args.n + c.args.n ≤ c.args.n * c.args.n) × (c.args.n * c.args.n ≤ 9216) = (row_fits c.args.n c.loop-a.a c.loop-a-test.true, square_small c.args.n c.requires.0) in
-    let h = room in omega arith
+    omega arith
 
 pub slice_bounds-row_clear-count : goal.slice_bounds-row_clear-count
 slice_bounds-row_clear-count c =
     let room : (c.loop-a.a * c.args.n + c.args.n ≤ c.args.n * c.args.n) × (c.args.n * c.args.n ≤ 9216) = (row_fits c.args.n c.loop-a.a c.loop-a-test.true, square_small c.args.n c.requires.0) in
-    let h = room in omega arith
+    omega arith
 
 pub bounds-marks-a : goal.bounds-marks-a
 bounds-marks-a c = omega arith
@@ -39,23 +39,18 @@ bounds-marks-a c = omega arith
 pub row_clear-clear-requires : goal.row_clear-clear-requires
 row_clear-clear-requires c =
     let room : (c.loop-a.a * c.args.n + c.args.n ≤ c.args.n * c.args.n) × (c.args.n * c.args.n ≤ 9216) = (row_fits c.args.n c.loop-a.a c.loop-a-test.true, square_small c.args.n c.requires.0) in
-    let w = c in
-    let s = c in
-    let a = w.loop-a.a in
-    let n = s.args.n in
-    let h = room in
-    let l = part_length s.args.inverse.now (a * n) (a * n + n - a * n) (omega arith) in
+    let a = c.loop-a.a in
+    let n = c.args.n in
+    let l = part_length c.args.inverse.now (a * n) (a * n + n - a * n) (omega arith) in
     (omega arith, omega arith)
 
 pub returns-then-not-clear : goal.returns-then-not-clear
 returns-then-not-clear c =
-    let w = c in
-    let s = c in
-    let a = w.loop-a.a in
-    let n = s.args.n in
+    let a = c.loop-a.a in
+    let n = c.args.n in
     let e : a * n + n - a * n ≡ n = omega arith in
-    let f : length s.args.marks.now ≡ n = omega arith in
-    tells_false (clear_none n s.args.inverse.now s.args.marks.now a w.loop-a-test.true (rw (e, f) at (c.row_clear-clear.ensures.when_false c.if-not-clear.true)))
+    let f : length c.args.marks.now ≡ n = omega arith in
+    tells_false (clear_none n c.args.inverse.now c.args.marks.now a c.loop-a-test.true (rw (e, f) at (c.row_clear-clear.ensures.when_false c.if-not-clear.true)))
 
 pub overflow_add-a : goal.overflow_add-a
 overflow_add-a c = omega arith
@@ -65,13 +60,11 @@ loop-a-smaller c = omega arith
 
 pub loop-a-preserved : goal.loop-a-preserved
 loop-a-preserved c =
-    let w = c in
-    let s = c in
-    let a = w.loop-a.a in
-    let n = s.args.n in
+    let a = c.loop-a.a in
+    let n = c.args.n in
     let e : a * n + n - a * n ≡ n = omega arith in
-    let f : length s.args.marks.now ≡ n = omega arith in
-    (omega arith, clear_next n s.args.inverse.now s.args.marks.now a w.loop-a.invariant.1 (rw (e, f) at (c.row_clear-clear.ensures.when_true c.if-not-clear.false)))
+    let f : length c.args.marks.now ≡ n = omega arith in
+    (omega arith, clear_next n c.args.inverse.now c.args.marks.now a c.loop-a.invariant.1 (rw (e, f) at (c.row_clear-clear.ensures.when_true c.if-not-clear.false)))
 
 pub returns : goal.returns
 returns c =

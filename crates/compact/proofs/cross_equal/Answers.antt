@@ -17,47 +17,44 @@ pub overflow_mul-a : goal.overflow_mul-a
 overflow_mul-a c =
     let diagonal : let a = vector c.args.vertices.now c.args.i in (a * c.args.n + a < c.args.n * c.args.n) × (a * c.args.n + a < 9216) = let h = c.requires.0.below c.args.i c.requires.1 in
     index_small c.args.n (vector c.args.vertices.now c.args.i) (vector c.args.vertices.now c.args.i) c.requires.0.small h h in
-    let k = diagonal in omega arith
+    omega arith
 
 pub overflow_add-a : goal.overflow_add-a
 overflow_add-a c =
     let diagonal : let a = vector c.args.vertices.now c.args.i in (a * c.args.n + a < c.args.n * c.args.n) × (a * c.args.n + a < 9216) = let h = c.requires.0.below c.args.i c.requires.1 in
     index_small c.args.n (vector c.args.vertices.now c.args.i) (vector c.args.vertices.now c.args.i) c.requires.0.small h h in
-    let k = diagonal in omega arith
+    omega arith
 
 pub offset_bounds-inverse-a : goal.offset_bounds-inverse-a
 offset_bounds-inverse-a c =
     let diagonal : let a = vector c.args.vertices.now c.args.i in (a * c.args.n + a < c.args.n * c.args.n) × (a * c.args.n + a < 9216) = let h = c.requires.0.below c.args.i c.requires.1 in
     index_small c.args.n (vector c.args.vertices.now c.args.i) (vector c.args.vertices.now c.args.i) c.requires.0.small h h in
-    let k = diagonal in omega arith
+    omega arith
 
 pub bounds-inverse-a : goal.bounds-inverse-a
 bounds-inverse-a c =
     let diagonal : let a = vector c.args.vertices.now c.args.i in (a * c.args.n + a < c.args.n * c.args.n) × (a * c.args.n + a < 9216) = let h = c.requires.0.below c.args.i c.requires.1 in
     index_small c.args.n (vector c.args.vertices.now c.args.i) (vector c.args.vertices.now c.args.i) c.requires.0.small h h in
-    let s = c in let k = diagonal in let f = s.requires.0.fits in omega arith
+    let f = c.requires.0.fits in omega arith
 
 pub returns-then-inverse-a-ne0 : goal.returns-then-inverse-a-ne0
 returns-then-inverse-a-ne0 c =
-    let s = c in
-    tells_false (cross_first _ _ _ _ _ s.requires.1 c.if-inverse-a-ne0.true)
+    tells_false (cross_first _ _ _ _ _ c.requires.1 c.if-inverse-a-ne0.true)
 
 pub loop-j-init : goal.loop-j-init
 loop-j-init c = (omega arith, omega arith, cross_start _ _ _ _ _ c.if-inverse-a-ne0.false)
 
 pub above-right-requires : goal.above-right-requires
 above-right-requires c =
-    let s = c in
-    (s.requires.0.table_square, c.loop-j.invariant.0, c.loop-j-test.true)
+    (c.requires.0.table_square, c.loop-j.invariant.0, c.loop-j-test.true)
 
 pub overflow_cast-vertices : goal.overflow_cast-vertices
 overflow_cast-vertices c = omega (arith, c.type_inv.vertices c.loop-j.j)
 
 pub pair_equal-equal-requires : goal.pair_equal-equal-requires
 pair_equal-equal-requires c =
-    let s = c in
     let e = c.above-right.ensures in
-    (s.requires.0.small, s.requires.0.fits, s.requires.0.below s.args.i s.requires.1, s.requires.0.below c.loop-j.j c.loop-j-test.true, rw e (word_small _ _ _ _))
+    (c.requires.0.small, c.requires.0.fits, c.requires.0.below c.args.i c.requires.1, c.requires.0.below c.loop-j.j c.loop-j-test.true, rw e (word_small _ _ _ _))
 
 pub returns-then-not-equal : goal.returns-then-not-equal
 returns-then-not-equal c =

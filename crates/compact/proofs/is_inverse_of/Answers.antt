@@ -13,7 +13,7 @@ use Rattle.compact.proofs.is_inverse_of.Goals as goal
 pub overflow_mul-cells : goal.overflow_mul-cells
 overflow_mul-cells c =
     let most : length c.args.vertices.now ≤ 96 = let h = numbered_most c.requires.numbered in let l = c.requires.complete.0.size in omega arith in
-    let h = square_small _ (most) in omega arith
+    let h = square_small _ most in omega arith
 
 pub slice_bounds-is_inverse_over-end : goal.slice_bounds-is_inverse_over-end
 slice_bounds-is_inverse_over-end c = sym (length_part _ 1024 0 c.if-cells-le1024.true)
@@ -21,8 +21,7 @@ slice_bounds-is_inverse_over-end c = sym (length_part _ 1024 0 c.if-cells-le1024
 pub is_inverse_over-requires : goal.is_inverse_over-requires
 is_inverse_over-requires c =
     let most : length c.args.vertices.now ≤ 96 = let h = numbered_most c.requires.numbered in let l = c.requires.complete.0.size in omega arith in
-    let s = c in
-    record { complete = s.requires.complete; numbered = (s.requires.numbered, blank_part (length s.args.vertices.now) 1024 (most) c.if-cells-le1024.true) }
+    record { complete = c.requires.complete; numbered = (c.requires.numbered, blank_part (length c.args.vertices.now) 1024 most c.if-cells-le1024.true) }
 
 pub slice_bounds-is_inverse_over-end-then-cells-le4096 : goal.slice_bounds-is_inverse_over-end-then-cells-le4096
 slice_bounds-is_inverse_over-end-then-cells-le4096 c = sym (length_part _ 4096 0 c.if-cells-le4096.true)
@@ -30,21 +29,19 @@ slice_bounds-is_inverse_over-end-then-cells-le4096 c = sym (length_part _ 4096 0
 pub is_inverse_over-requires-then-cells-le4096 : goal.is_inverse_over-requires-then-cells-le4096
 is_inverse_over-requires-then-cells-le4096 c =
     let most : length c.args.vertices.now ≤ 96 = let h = numbered_most c.requires.numbered in let l = c.requires.complete.0.size in omega arith in
-    let s = c in
-    record { complete = s.requires.complete; numbered = (s.requires.numbered, blank_part (length s.args.vertices.now) 4096 (most) c.if-cells-le4096.true) }
+    record { complete = c.requires.complete; numbered = (c.requires.numbered, blank_part (length c.args.vertices.now) 4096 most c.if-cells-le4096.true) }
 
 pub slice_bounds-t-end-2 : goal.slice_bounds-t-end-2
 slice_bounds-t-end-2 c =
     let most : length c.args.vertices.now ≤ 96 = let h = numbered_most c.requires.numbered in let l = c.requires.complete.0.size in omega arith in
-    square_small _ (most)
+    square_small _ most
 
 pub slice_bounds-is_inverse_over-end-2 : goal.slice_bounds-is_inverse_over-end-2
 slice_bounds-is_inverse_over-end-2 c =
     let most : length c.args.vertices.now ≤ 96 = let h = numbered_most c.requires.numbered in let l = c.requires.complete.0.size in omega arith in
-    sym (length_part _ 9216 0 (square_small _ (most)))
+    sym (length_part _ 9216 0 (square_small _ most))
 
 pub is_inverse_over-requires-2 : goal.is_inverse_over-requires-2
 is_inverse_over-requires-2 c =
     let most : length c.args.vertices.now ≤ 96 = let h = numbered_most c.requires.numbered in let l = c.requires.complete.0.size in omega arith in
-    let s = c in
-    record { complete = s.requires.complete; numbered = (s.requires.numbered, blank_part (length s.args.vertices.now) 9216 (most) (square_small _ (most))) }
+    record { complete = c.requires.complete; numbered = (c.requires.numbered, blank_part (length c.args.vertices.now) 9216 most (square_small _ most)) }

@@ -9,8 +9,7 @@ use Rattle.exchange.proofs.advance.Goals as goal
 
 pub loop-c-init : goal.loop-c-init
 loop-c-init c =
-    let s = c in
-    (s.requires, omega arith, λ A S H. H, λ A S H. H, s.requires.table_square.small, s.requires.table_square.small)
+    (c.requires, omega arith, λ A S H. H, λ A S H. H, c.requires.table_square.small, c.requires.table_square.small)
 
 pub slice_bounds-x-end : goal.slice_bounds-x-end
 slice_bounds-x-end c = c.loop-c.invariant.4
@@ -18,7 +17,7 @@ slice_bounds-x-end c = c.loop-c.invariant.4
 pub slice_bounds-turn-end : goal.slice_bounds-turn-end
 slice_bounds-turn-end c =
     let x_size : length (take c.args.n c.loop-c.x) ≡ c.args.n = length-take-le _ c.loop-c.x c.loop-c.invariant.4 in
-    sym (x_size)
+    sym x_size
 
 pub slice_bounds-y-end : goal.slice_bounds-y-end
 slice_bounds-y-end c = c.loop-c.invariant.5
@@ -26,13 +25,13 @@ slice_bounds-y-end c = c.loop-c.invariant.5
 pub slice_bounds-turn-end-in-loop-c : goal.slice_bounds-turn-end-in-loop-c
 slice_bounds-turn-end-in-loop-c c =
     let y_size : length (take c.args.n c.loop-c.y) ≡ c.args.n = length-take-le _ c.loop-c.y c.loop-c.invariant.5 in
-    sym (y_size)
+    sym y_size
 
 pub turn-r-requires : goal.turn-r-requires
 turn-r-requires c =
     let x_size : length (take c.args.n c.loop-c.x) ≡ c.args.n = length-take-le _ c.loop-c.x c.loop-c.invariant.4 in
     let y_size : length (take c.args.n c.loop-c.y) ≡ c.args.n = length-take-le _ c.loop-c.y c.loop-c.invariant.5 in
-    let at = c in (bounded_ready at.loop-c.invariant.0 c.loop-c-test.true, x_size, y_size)
+    (bounded_ready c.loop-c.invariant.0 c.loop-c-test.true, x_size, y_size)
 
 pub shape_of-t-then-r-n : goal.shape_of-t-then-r-n
 shape_of-t-then-r-n c =
@@ -46,17 +45,16 @@ shape_of-waiting-then-r-n c =
 
 pub returns-then-r-n : goal.returns-then-r-n
 returns-then-r-n c =
-    let at = c in
     let h = c.loop-c-test.true in
     let k = c.turn-r in
-    let b = bounded_next at.loop-c.invariant.0 h k.ensures k.auto.t k.auto.waiting in
+    let b = bounded_next c.loop-c.invariant.0 h k.ensures k.auto.t k.auto.waiting in
     record {
-      after = at.loop-c.invariant.1;
+      after = c.loop-c.invariant.1;
       to = omega arith;
       bounded = λ _. b;
-      passed = λ _ A S H. passing_next (at.loop-c.invariant.2 A S H) h at.loop-c.invariant.0.size k.ensures;
+      passed = λ _ A S H. passing_next (c.loop-c.invariant.2 A S H) h c.loop-c.invariant.0.size k.ensures;
       passed_all = λ e. absurd (omega arith);
-      column = λ _ A S H. running_stuck (at.loop-c.invariant.3 A S H) h at.loop-c.invariant.0.size k.ensures c.if-r-n.true b;
+      column = λ _ A S H. running_stuck (c.loop-c.invariant.3 A S H) h c.loop-c.invariant.0.size k.ensures c.if-r-n.true b;
       inverse = λ e. absurd (omega arith);
     }
 
@@ -64,27 +62,24 @@ pub loop-c-preserved : goal.loop-c-preserved
 loop-c-preserved c =
     let x_size : length (take c.args.n c.loop-c.x) ≡ c.args.n = length-take-le _ c.loop-c.x c.loop-c.invariant.4 in
     let y_size : length (take c.args.n c.loop-c.y) ≡ c.args.n = length-take-le _ c.loop-c.y c.loop-c.invariant.5 in
-    let at = c in
     let h = c.loop-c-test.true in
     let k = c.turn-r in
-    let size = at.loop-c.invariant.0.size in (
-      bounded_next at.loop-c.invariant.0 h k.ensures k.auto.t k.auto.waiting,
-      omega (arith, at.loop-c.invariant.1),
-      λ A S H. passing_next (at.loop-c.invariant.2 A S H) h size k.ensures,
-      λ A S H. running_next (at.loop-c.invariant.3 A S H) h size k.ensures c.if-r-n.false,
+    let size = c.loop-c.invariant.0.size in (
+      bounded_next c.loop-c.invariant.0 h k.ensures k.auto.t k.auto.waiting,
+      omega (arith, c.loop-c.invariant.1),
+      λ A S H. passing_next (c.loop-c.invariant.2 A S H) h size k.ensures,
+      λ A S H. running_next (c.loop-c.invariant.3 A S H) h size k.ensures c.if-r-n.false,
       simp length-append (omega (arith, k.auto.x, x_size)),
       simp length-append (omega (arith, k.auto.y, y_size)),
     )
 
 pub shape_of-t : goal.shape_of-t
 shape_of-t c =
-    let table_size : length c.loop-c.t ≡ length c.args.t.now = c.loop-c.invariant.0.table_square.size ∙ sym c.requires.table_square.size in
-    table_size
+    c.loop-c.invariant.0.table_square.size ∙ sym c.requires.table_square.size
 
 pub shape_of-waiting : goal.shape_of-waiting
 shape_of-waiting c =
-    let waiting_size : length c.loop-c.waiting ≡ length c.args.waiting.now = c.loop-c.invariant.0.size ∙ sym c.requires.size in
-    waiting_size
+    c.loop-c.invariant.0.size ∙ sym c.requires.size
 
 pub returns : goal.returns
 returns c =

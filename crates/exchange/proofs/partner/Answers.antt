@@ -10,28 +10,28 @@ loop-r-init c = (omega arith, omega arith, λ k l l'. absurd (omega arith))
 
 pub overflow_mul-at : goal.overflow_mul-at
 overflow_mul-at c =
-    let room : RowRoom c.args.n c.args.c c.args.t.now = let s = c in row_room s.requires.table_square s.requires.below in
-    let h = room in omega arith
+    let room : RowRoom c.args.n c.args.c c.args.t.now = row_room c.requires.table_square c.requires.below in
+    omega arith
 
 pub overflow_add-at : goal.overflow_add-at
 overflow_add-at c =
-    let room : RowRoom c.args.n c.args.c c.args.t.now = let s = c in row_room s.requires.table_square s.requires.below in
-    let h = room in omega arith
+    let room : RowRoom c.args.n c.args.c c.args.t.now = row_room c.requires.table_square c.requires.below in
+    omega arith
 
 pub bounds-waiting-r : goal.bounds-waiting-r
 bounds-waiting-r c =
-    let room : RowRoom c.args.n c.args.c c.args.t.now = let s = c in row_room s.requires.table_square s.requires.below in
-    let h = room in omega arith
+    let room : RowRoom c.args.n c.args.c c.args.t.now = row_room c.requires.table_square c.requires.below in
+    omega arith
 
 pub offset_bounds-t-at : goal.offset_bounds-t-at
 offset_bounds-t-at c =
-    let room : RowRoom c.args.n c.args.c c.args.t.now = let s = c in row_room s.requires.table_square s.requires.below in
-    let h = room in omega arith
+    let room : RowRoom c.args.n c.args.c c.args.t.now = row_room c.requires.table_square c.requires.below in
+    omega arith
 
 pub bounds-t-at : goal.bounds-t-at
 bounds-t-at c =
-    let room : RowRoom c.args.n c.args.c c.args.t.now = let s = c in row_room s.requires.table_square s.requires.below in
-    let h = room in omega arith
+    let room : RowRoom c.args.n c.args.c c.args.t.now = row_room c.requires.table_square c.requires.below in
+    omega arith
 
 pub returns-then-weight-ne0 : goal.returns-then-weight-ne0
 returns-then-weight-ne0 c =
@@ -41,8 +41,7 @@ returns-then-weight-ne0 c =
 pub loop-r-preserved : goal.loop-r-preserved
 loop-r-preserved c =
     let at = c.loop-r in
-    let s = c in
-    (omega arith, omega arith, between_next s.args.n s.args.c s.args.t.now s.args.waiting.now at.invariant.2 c.weight.ensures c.if-weight-ne0.false)
+    (omega arith, omega arith, between_next c.args.n c.args.c c.args.t.now c.args.waiting.now at.invariant.2 c.weight.ensures c.if-weight-ne0.false)
 
 pub returns : goal.returns
 returns c =

@@ -15,42 +15,36 @@ advance-f-requires c = c.loop-i.invariant.0
 pub shape_of-t-then-f-n : goal.shape_of-t-then-f-n
 shape_of-t-then-f-n c =
     let table_size : length c.loop-i.t ≡ length c.args.t.now = c.loop-i.invariant.0.table_square.size ∙ sym c.requires.table_square.size in
-    let at = c in at.advance-f.auto.t ∙ table_size
+    c.advance-f.auto.t ∙ table_size
 
 pub shape_of-waiting-then-f-n : goal.shape_of-waiting-then-f-n
 shape_of-waiting-then-f-n c =
     let waiting_size : length c.loop-i.waiting ≡ length c.args.waiting.now = c.loop-i.invariant.0.size ∙ sym c.requires.size in
-    let at = c in at.advance-f.auto.waiting ∙ waiting_size
+    c.advance-f.auto.waiting ∙ waiting_size
 
 pub returns-then-f-n : goal.returns-then-f-n
 returns-then-f-n c =
-    let at = c in
-    λ A S H. at.advance-f.ensures.passed_all c.if-f-n.true A S (c.loop-i.invariant.1 A S H)
+    λ A S H. c.advance-f.ensures.passed_all c.if-f-n.true A S (c.loop-i.invariant.1 A S H)
 
 pub loop-i-smaller : goal.loop-i-smaller
 loop-i-smaller c =
-    let before_end : (let at = c in at.advance-f.result < c.args.n) = omega (arith, c.advance-f.ensures.to, c.if-f-n.false) in
+    let before_end : (c.advance-f.result < c.args.n) = omega (arith, c.advance-f.ensures.to, c.if-f-n.false) in
     omega (arith, before_end, c.advance-f.ensures.after)
 
 pub loop-i-preserved : goal.loop-i-preserved
 loop-i-preserved c =
-    let before_end : (let at = c in at.advance-f.result < c.args.n) = omega (arith, c.advance-f.ensures.to, c.if-f-n.false) in
-    let at = c in
-    let h = before_end in
-    (at.advance-f.ensures.bounded h, λ A S H. at.advance-f.ensures.passed h A S (c.loop-i.invariant.1 A S H))
+    let before_end : (c.advance-f.result < c.args.n) = omega (arith, c.advance-f.ensures.to, c.if-f-n.false) in
+    (c.advance-f.ensures.bounded before_end, λ A S H. c.advance-f.ensures.passed before_end A S (c.loop-i.invariant.1 A S H))
 
 pub shape_of-t : goal.shape_of-t
 shape_of-t c =
-    let table_size : length c.loop-i.t ≡ length c.args.t.now = c.loop-i.invariant.0.table_square.size ∙ sym c.requires.table_square.size in
-    table_size
+    c.loop-i.invariant.0.table_square.size ∙ sym c.requires.table_square.size
 
 pub shape_of-waiting : goal.shape_of-waiting
 shape_of-waiting c =
-    let waiting_size : length c.loop-i.waiting ≡ length c.args.waiting.now = c.loop-i.invariant.0.size ∙ sym c.requires.size in
-    waiting_size
+    c.loop-i.invariant.0.size ∙ sym c.requires.size
 
 pub returns : goal.returns
 returns c =
-    let at = c in
-    let e : at.loop-i.i ≡ c.args.n = omega (arith, at.loop-i.invariant.0.reached, c.loop-i-test.false) in
-    λ A S H. rw e at (at.loop-i.invariant.1 A S H)
+    let e : c.loop-i.i ≡ c.args.n = omega (arith, c.loop-i.invariant.0.reached, c.loop-i-test.false) in
+    λ A S H. rw e at (c.loop-i.invariant.1 A S H)

@@ -7,22 +7,19 @@ use Rattle.exchange.proofs.run.Goals as goal
 
 pub advance-f-requires : goal.advance-f-requires
 advance-f-requires c =
-    let s = c in
     record {
-      table_square = s.requires.0;
-      small = record { at = λ i j hi hj. omega (arith, s.requires.1.at i j hi hj) };
-      size = s.requires.2;
+      table_square = c.requires.0;
+      small = record { at = λ i j hi hj. omega (arith, c.requires.1.at i j hi hj) };
+      size = c.requires.2;
       reached = omega arith;
     }
 
 pub returns-then-f-n : goal.returns-then-f-n
 returns-then-f-n c =
-    let at = c in
     let waiting = c.args.waiting.now in
-    λ A H. at.advance-f.ensures.inverse c.if-f-n.true A (marked waiting) (running_start waiting H)
+    λ A H. c.advance-f.ensures.inverse c.if-f-n.true A (marked waiting) (running_start waiting H)
 
 pub returns : goal.returns
 returns c =
-    let at = c in
     let waiting = c.args.waiting.now in
-    λ A H. at.advance-f.ensures.column (omega (arith, at.advance-f.ensures.to, c.if-f-n.false)) A (marked waiting) (running_start waiting H)
+    λ A H. c.advance-f.ensures.column (omega (arith, c.advance-f.ensures.to, c.if-f-n.false)) A (marked waiting) (running_start waiting H)

@@ -19,26 +19,25 @@ returns-then-r-n c = stuck c.if-waiting-c-eq0.false c.if-r-n.true c.partner-r.en
 pub exchange-requires : goal.exchange-requires
 exchange-requires c =
     let below : c.partner-r.result < c.args.n = let l = c.partner-r.ensures.to in let d = c.if-r-n.false in omega arith in
-    let s = c in
     let f = c.partner-r.ensures in
-    let h : c.partner-r.result < s.args.n = below in (
+    let h : c.partner-r.result < c.args.n = below in (
       record {
-        table_square = s.requires.0.table_square;
-        small = s.requires.0.small;
+        table_square = c.requires.0.table_square;
+        small = c.requires.0.small;
         order = f.after;
         below = h;
         nonzero = λ z. (f.found h).1 (remainders_equal z ∙ zero-mod modulus);
       },
-      s.requires.1,
-      s.requires.2,
+      c.requires.1,
+      c.requires.2,
     )
 
 pub bounds-waiting-r : goal.bounds-waiting-r
 bounds-waiting-r c =
     let below : c.partner-r.result < c.args.n = let l = c.partner-r.ensures.to in let d = c.if-r-n.false in omega arith in
-    let h = below in let e = c.requires.0.size in simp length-set (omega arith)
+    let e = c.requires.0.size in simp length-set (omega arith)
 
 pub returns : goal.returns
 returns c =
     let below : c.partner-r.result < c.args.n = let l = c.partner-r.ensures.to in let d = c.if-r-n.false in omega arith in
-    paired c.if-waiting-c-eq0.false c.partner-r.ensures (below) c.exchange.ensures refl
+    paired c.if-waiting-c-eq0.false c.partner-r.ensures below c.exchange.ensures refl

@@ -33,40 +33,34 @@ loop-j-init c = written_start _ _
 
 pub overflow_mul-row : goal.overflow_mul-row
 overflow_mul-row c =
-    let x_product : Product c.args.a (get_or c.args.x.now (c.args.lo + c.loop-j.j) 0) = let s = c in product s.requires.5 (s.requires.3.at (s.args.lo + c.loop-j.j) (omega arith)) in
-    let h = x_product in omega arith
+    let x_product : Product c.args.a (get_or c.args.x.now (c.args.lo + c.loop-j.j) 0) = product c.requires.5 (c.requires.3.at (c.args.lo + c.loop-j.j) (omega arith)) in
+    omega arith
 
 pub overflow_mul-row-in-loop-j : goal.overflow_mul-row-in-loop-j
 overflow_mul-row-in-loop-j c =
-    let y_product : Product c.args.b (get_or c.args.y.now (c.args.lo + c.loop-j.j) 0) = let s = c in product s.requires.6 (s.requires.4.at (s.args.lo + c.loop-j.j) (omega arith)) in
-    let h = y_product in omega arith
+    let y_product : Product c.args.b (get_or c.args.y.now (c.args.lo + c.loop-j.j) 0) = product c.requires.6 (c.requires.4.at (c.args.lo + c.loop-j.j) (omega arith)) in
+    omega arith
 
 pub overflow_add-row : goal.overflow_add-row
 overflow_add-row c =
-    let x_product : Product c.args.a (get_or c.args.x.now (c.args.lo + c.loop-j.j) 0) = let s = c in product s.requires.5 (s.requires.3.at (s.args.lo + c.loop-j.j) (omega arith)) in
-    let y_product : Product c.args.b (get_or c.args.y.now (c.args.lo + c.loop-j.j) 0) = let s = c in product s.requires.6 (s.requires.4.at (s.args.lo + c.loop-j.j) (omega arith)) in
-    let h = x_product in let l = y_product in omega arith
+    let x_product : Product c.args.a (get_or c.args.x.now (c.args.lo + c.loop-j.j) 0) = product c.requires.5 (c.requires.3.at (c.args.lo + c.loop-j.j) (omega arith)) in
+    let y_product : Product c.args.b (get_or c.args.y.now (c.args.lo + c.loop-j.j) 0) = product c.requires.6 (c.requires.4.at (c.args.lo + c.loop-j.j) (omega arith)) in
+    omega arith
 
 pub overflow_add-row-in-loop-j : goal.overflow_add-row-in-loop-j
 overflow_add-row-in-loop-j c =
-    let x_product : Product c.args.a (get_or c.args.x.now (c.args.lo + c.loop-j.j) 0) = let s = c in product s.requires.5 (s.requires.3.at (s.args.lo + c.loop-j.j) (omega arith)) in
-    let y_product : Product c.args.b (get_or c.args.y.now (c.args.lo + c.loop-j.j) 0) = let s = c in product s.requires.6 (s.requires.4.at (s.args.lo + c.loop-j.j) (omega arith)) in
+    let x_product : Product c.args.a (get_or c.args.x.now (c.args.lo + c.loop-j.j) 0) = product c.requires.5 (c.requires.3.at (c.args.lo + c.loop-j.j) (omega arith)) in
+    let y_product : Product c.args.b (get_or c.args.y.now (c.args.lo + c.loop-j.j) 0) = product c.requires.6 (c.requires.4.at (c.args.lo + c.loop-j.j) (omega arith)) in
     let row_below : get_or c.loop-j.row c.loop-j.j 0 < limit = let at = c.loop-j in
     let h : get_or c.args.row.now at.j 0 < limit = c.requires.2.at at.j (omega arith) in
     omega (arith, written_rest at.invariant at.j (le_refl _)) in
-    let w = c in
-    let h = x_product in
-    let l = y_product in
     omega (arith, row_below)
 
 pub loop-j-preserved : goal.loop-j-preserved
 loop-j-preserved c =
-    let x_product : Product c.args.a (get_or c.args.x.now (c.args.lo + c.loop-j.j) 0) = let s = c in product s.requires.5 (s.requires.3.at (s.args.lo + c.loop-j.j) (omega arith)) in
-    let y_product : Product c.args.b (get_or c.args.y.now (c.args.lo + c.loop-j.j) 0) = let s = c in product s.requires.6 (s.requires.4.at (s.args.lo + c.loop-j.j) (omega arith)) in
-    let w = c in
-    let at = w.loop-j in
-    let h = x_product in
-    let l = y_product in
+    let x_product : Product c.args.a (get_or c.args.x.now (c.args.lo + c.loop-j.j) 0) = product c.requires.5 (c.requires.3.at (c.args.lo + c.loop-j.j) (omega arith)) in
+    let y_product : Product c.args.b (get_or c.args.y.now (c.args.lo + c.loop-j.j) 0) = product c.requires.6 (c.requires.4.at (c.args.lo + c.loop-j.j) (omega arith)) in
+    let at = c.loop-j in
     written_more _ at.invariant (omega arith) (omega (arith, written_rest at.invariant at.j (le_refl _)))
 
 pub shape_of-row : goal.shape_of-row

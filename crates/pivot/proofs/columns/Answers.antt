@@ -10,30 +10,27 @@ use Rattle.pivot.proofs.columns.Goals as goal
 
 pub reciprocal-h-requires : goal.reciprocal-h-requires
 reciprocal-h-requires c =
-    let s = c in
     let k = c.take_column in
     let l = k.auto.x in
-    rw (k.ensures.1.at s.args.r (omega arith)) (residue_small _ _ _)
+    rw (k.ensures.1.at c.args.r (omega arith)) (residue_small _ _ _)
 
 pub bounds-x-r-2 : goal.bounds-x-r-2
 bounds-x-r-2 c =
-    let s = c in
     let l = c.take_column.auto.x in
     simp length-set (omega arith)
 
 pub returns : goal.returns
 returns c =
-    let s = c in
     let k = c.take_column in
     let m = c.take_column-2 in
-    let order : s.args.c < s.args.r = s.requires.0.order in
-    let hr : s.args.r < s.args.n = s.requires.0.below in
+    let order : c.args.c < c.args.r = c.requires.0.order in
+    let hr : c.args.r < c.args.n = c.requires.0.below in
     let T = k.ensures.0 in
     let U = m.ensures.0 in
     let D = k.ensures.1 in
     let D' = m.ensures.1 in
-    let lx = k.auto.x ∙ s.requires.1 in
-    let ly = m.auto.x ∙ s.requires.2 in
+    let lx = k.auto.x ∙ c.requires.1 in
+    let ly = m.auto.x ∙ c.requires.2 in
     let h = c.reciprocal-h.ensures in
     record {
       size = U.size ∙ T.size;
@@ -45,6 +42,6 @@ returns c =
       y_below = second_below order hr T U lx ly D D' refl refl;
       h_below = h.0;
       unit =
-          column_unit s.args.t.now order hr s.requires.0.nonzero h.0
-          (rw (D.at s.args.r (omega arith)) at h.1);
+          column_unit c.args.t.now order hr c.requires.0.nonzero h.0
+          (rw (D.at c.args.r (omega arith)) at h.1);
     }

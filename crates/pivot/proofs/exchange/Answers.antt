@@ -9,22 +9,16 @@ use Rattle.pivot.proofs.exchange.Goals as goal
 
 pub update-requires : goal.update-requires
 update-requires c =
-    let after = c in
-    let called = after in
-    let s = called in
-    let k = called.columns-h in
+    let k = c.columns-h in
     record {
-      table_square = record { small = s.requires.0.table_square.small; size = k.ensures.size ∙ s.requires.0.table_square.size };
-      small = record { at = λ i j hi hj. omega (arith, k.ensures.less i j hi hj, s.requires.0.small.at i j hi hj) };
-      x_size = after.scale.auto.x ∙ k.auto.x ∙ s.requires.1;
-      y_size = k.auto.y ∙ s.requires.2;
-      x_below = record { at = λ m l. rw (after.scale.ensures.at m l) (mod-lt _ (lit< tt)) };
+      table_square = record { small = c.requires.0.table_square.small; size = k.ensures.size ∙ c.requires.0.table_square.size };
+      small = record { at = λ i j hi hj. omega (arith, k.ensures.less i j hi hj, c.requires.0.small.at i j hi hj) };
+      x_size = c.scale.auto.x ∙ k.auto.x ∙ c.requires.1;
+      y_size = k.auto.y ∙ c.requires.2;
+      x_below = record { at = λ m l. rw (c.scale.ensures.at m l) (mod-lt _ (lit< tt)) };
       y_below = k.ensures.y_below;
     }
 
 pub returns : goal.returns
 returns c =
-    let after = c in
-    let called = after in
-    let s = called in
-    stepped s.requires.0 called.columns-h.ensures (after.scale.auto.x ∙ called.columns-h.auto.x ∙ s.requires.1) after.scale.ensures c.update.ensures
+    stepped c.requires.0 c.columns-h.ensures (c.scale.auto.x ∙ c.columns-h.auto.x ∙ c.requires.1) c.scale.ensures c.update.ensures

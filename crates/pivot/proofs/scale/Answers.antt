@@ -26,9 +26,8 @@ loop-k-preserved c =
     let word : (get_or c.loop-k.x c.loop-k.k 0 % 65536 ≡ get_or c.args.x.now c.loop-k.k 0) × (get_or c.args.x.now c.loop-k.k 0 < modulus) = let at = c.loop-k in
     let b : get_or c.args.x.now at.k 0 < modulus = c.requires.0.at at.k (omega arith) in
     (omega (arith, written_rest at.invariant at.k (le_refl _)), b) in
-    let w = c in
-    written_more _ w.loop-k.invariant (omega arith)
-    (c.make.ensures ∙ ap (λ z. (z * w.args.h) % modulus) (word).0)
+    written_more _ c.loop-k.invariant (omega arith)
+    (c.make.ensures ∙ ap (λ z. (z * c.args.h) % modulus) (word).0)
 
 pub shape_of-x : goal.shape_of-x
 shape_of-x c = c.loop-k.invariant.size

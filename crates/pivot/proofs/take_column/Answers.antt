@@ -15,9 +15,8 @@ loop-k-init c = (search rules, taken_start _ _ _, written_start _ _)
 pub loop-k-preserved : goal.loop-k-preserved
 loop-k-preserved c =
     let at = c.loop-k in
-    let s = c in
     let k = c.take.ensures in
-    (omega arith, taken_next at.invariant.1 s.requires.1 s.requires.0.size (omega arith) k.1, written_more _ at.invariant.2 (omega arith) (k.0 ∙ ap (residue _ _) (taken_ahead at.invariant.1 s.requires.1 at.k (le_refl _) (omega arith))))
+    (omega arith, taken_next at.invariant.1 c.requires.1 c.requires.0.size (omega arith) k.1, written_more _ at.invariant.2 (omega arith) (k.0 ∙ ap (residue _ _) (taken_ahead at.invariant.1 c.requires.1 at.k (le_refl _) (omega arith))))
 
 pub shape_of-t : goal.shape_of-t
 shape_of-t c = c.loop-k.invariant.1.size

@@ -18,27 +18,27 @@ loop-i-init c = (search rules, updated_start _ _ _ _)
 
 pub overflow_mul-at : goal.overflow_mul-at
 overflow_mul-at c =
-    let room : RowRoom c.args.n c.loop-i.i c.loop-i.t = let s = c in
-    row_room (record { small = s.requires.table_square.small; size = c.loop-i.invariant.1.size ∙ s.requires.table_square.size }) c.loop-i-test.true in
-    let h = room in omega arith
+    let room : RowRoom c.args.n c.loop-i.i c.loop-i.t =
+    row_room (record { small = c.requires.table_square.small; size = c.loop-i.invariant.1.size ∙ c.requires.table_square.size }) c.loop-i-test.true in
+    omega arith
 
 pub overflow_add-at : goal.overflow_add-at
 overflow_add-at c =
-    let room : RowRoom c.args.n c.loop-i.i c.loop-i.t = let s = c in
-    row_room (record { small = s.requires.table_square.small; size = c.loop-i.invariant.1.size ∙ s.requires.table_square.size }) c.loop-i-test.true in
-    let h = room in omega arith
+    let room : RowRoom c.args.n c.loop-i.i c.loop-i.t =
+    row_room (record { small = c.requires.table_square.small; size = c.loop-i.invariant.1.size ∙ c.requires.table_square.size }) c.loop-i-test.true in
+    omega arith
 
 pub overflow_mul-end : goal.overflow_mul-end
 overflow_mul-end c =
-    let room : RowRoom c.args.n c.loop-i.i c.loop-i.t = let s = c in
-    row_room (record { small = s.requires.table_square.small; size = c.loop-i.invariant.1.size ∙ s.requires.table_square.size }) c.loop-i-test.true in
-    let h = room in omega arith
+    let room : RowRoom c.args.n c.loop-i.i c.loop-i.t =
+    row_room (record { small = c.requires.table_square.small; size = c.loop-i.invariant.1.size ∙ c.requires.table_square.size }) c.loop-i-test.true in
+    omega arith
 
 pub overflow_add-end : goal.overflow_add-end
 overflow_add-end c =
-    let room : RowRoom c.args.n c.loop-i.i c.loop-i.t = let s = c in
-    row_room (record { small = s.requires.table_square.small; size = c.loop-i.invariant.1.size ∙ s.requires.table_square.size }) c.loop-i-test.true in
-    let h = room in omega arith
+    let room : RowRoom c.args.n c.loop-i.i c.loop-i.t =
+    row_room (record { small = c.requires.table_square.small; size = c.loop-i.invariant.1.size ∙ c.requires.table_square.size }) c.loop-i-test.true in
+    omega arith
 
 pub overflow_cast-y : goal.overflow_cast-y
 overflow_cast-y c =
@@ -47,8 +47,7 @@ overflow_cast-y c =
 
 pub negative-a-requires : goal.negative-a-requires
 negative-a-requires c =
-    let y_below : get_or c.args.y.now c.loop-i.i 0 < modulus = c.requires.y_below.at c.loop-i.i (omega (arith, c.requires.y_size)) in
-    y_below
+    c.requires.y_below.at c.loop-i.i (omega (arith, c.requires.y_size))
 
 pub overflow_cast-b : goal.overflow_cast-b
 overflow_cast-b c =
@@ -57,45 +56,41 @@ overflow_cast-b c =
 
 pub offset_bounds-t-at : goal.offset_bounds-t-at
 offset_bounds-t-at c =
-    let room : RowRoom c.args.n c.loop-i.i c.loop-i.t = let s = c in
-    row_room (record { small = s.requires.table_square.small; size = c.loop-i.invariant.1.size ∙ s.requires.table_square.size }) c.loop-i-test.true in
-    let h = room in omega arith
+    let room : RowRoom c.args.n c.loop-i.i c.loop-i.t =
+    row_room (record { small = c.requires.table_square.small; size = c.loop-i.invariant.1.size ∙ c.requires.table_square.size }) c.loop-i-test.true in
+    omega arith
 
 pub slice_bounds-add-count : goal.slice_bounds-add-count
 slice_bounds-add-count c =
-    let room : RowRoom c.args.n c.loop-i.i c.loop-i.t = let s = c in
-    row_room (record { small = s.requires.table_square.small; size = c.loop-i.invariant.1.size ∙ s.requires.table_square.size }) c.loop-i-test.true in
-    let h = room in omega arith
+    let room : RowRoom c.args.n c.loop-i.i c.loop-i.t =
+    row_room (record { small = c.requires.table_square.small; size = c.loop-i.invariant.1.size ∙ c.requires.table_square.size }) c.loop-i-test.true in
+    omega arith
 
 pub add-requires : goal.add-requires
 add-requires c =
     let x_below : get_or c.args.x.now c.loop-i.i 0 < modulus = c.requires.x_below.at c.loop-i.i (omega (arith, c.requires.x_size)) in
-    let w = c in
-    let at = w.loop-i in
-    let s = c in
-    let n = s.args.n in
+    let at = c.loop-i in
+    let n = c.args.n in
     let lo = (at.i + 1) / 2 * 2 in
     let size = at.i * n + n - (at.i * n + lo) in
     let e : lo + size ≡ n = omega arith in
-    let len = row_length n at.i lo size at.invariant.1 (omega arith) s.requires.table_square.size e in
-    (omega (arith, len, s.requires.x_size), omega (arith, len, s.requires.y_size), row_small n at.i lo size at.invariant.1 (omega arith) s.requires.table_square.size e s.requires.small, s.requires.x_below, s.requires.y_below, rw c.negative-a.ensures (mod-lt _ (lit< tt)), x_below)
+    let len = row_length n at.i lo size at.invariant.1 (omega arith) c.requires.table_square.size e in
+    (omega (arith, len, c.requires.x_size), omega (arith, len, c.requires.y_size), row_small n at.i lo size at.invariant.1 (omega arith) c.requires.table_square.size e c.requires.small, c.requires.x_below, c.requires.y_below, rw c.negative-a.ensures (mod-lt _ (lit< tt)), x_below)
 
 pub loop-i-preserved : goal.loop-i-preserved
 loop-i-preserved c =
     let y_below : get_or c.args.y.now c.loop-i.i 0 < modulus = c.requires.y_below.at c.loop-i.i (omega (arith, c.requires.y_size)) in
-    let w = c in
-    let at = w.loop-i in
-    let s = c in
-    let n = s.args.n in
+    let at = c.loop-i in
+    let n = c.args.n in
     let lo = (at.i + 1) / 2 * 2 in
     let size = at.i * n + n - (at.i * n + lo) in
     let e : lo + size ≡ n = omega arith in
     let k = c.add in
     let m = c.negative-a in
-    let full = s.requires.table_square.size in
-    let factor : m.result ≡ negative modulus (get_or s.args.y.now at.i 0) =
-    m.ensures ∙ ap (λ z. (modulus - z) % modulus) (sym (mod-eq_of_lt (y_below))) in
-    (omega arith, updated_next n at.i lo size at.invariant.1 (omega arith) full e (omega arith) (k.auto.row ∙ row_length n at.i lo size at.invariant.1 (omega arith) full e) s.requires (rw factor at k.ensures))
+    let full = c.requires.table_square.size in
+    let factor : m.result ≡ negative modulus (get_or c.args.y.now at.i 0) =
+    m.ensures ∙ ap (λ z. (modulus - z) % modulus) (sym (mod-eq_of_lt y_below)) in
+    (omega arith, updated_next n at.i lo size at.invariant.1 (omega arith) full e (omega arith) (k.auto.row ∙ row_length n at.i lo size at.invariant.1 (omega arith) full e) c.requires (rw factor at k.ensures))
 
 pub shape_of-t : goal.shape_of-t
 shape_of-t c = c.loop-i.invariant.1.size

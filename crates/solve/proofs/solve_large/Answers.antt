@@ -11,11 +11,9 @@ slice_bounds-t-end c = square_small _ c.requires.complete.0.size
 
 pub slice_bounds-solve_over-end : goal.slice_bounds-solve_over-end
 slice_bounds-solve_over-end c =
-    let s = c in
-    sym (length_part _ 9216 0 (square_small s.args.n s.requires.complete.0.size))
+    sym (length_part _ 9216 0 (square_small c.args.n c.requires.complete.0.size))
 
 pub solve_over-requires : goal.solve_over-requires
 solve_over-requires c =
-    let s = c in
-    let h = s.requires.complete.0.size in
-    record { complete = (s.requires.complete.0, s.requires.complete.1, blank_part s.args.n 9216 h (square_small s.args.n h)); inverse_len = s.requires.inverse_len }
+    let h = c.requires.complete.0.size in
+    record { complete = (c.requires.complete.0, c.requires.complete.1, blank_part c.args.n 9216 h (square_small c.args.n h)); inverse_len = c.requires.inverse_len }

@@ -11,11 +11,9 @@ slice_bounds-t-end c = let l = c.requires.complete.2 in mul-le-mul l l
 
 pub slice_bounds-solve_over-end : goal.slice_bounds-solve_over-end
 slice_bounds-solve_over-end c =
-    let s = c in
-    sym (length_part _ 1024 0 (mul-le-mul s.requires.complete.2 s.requires.complete.2))
+    sym (length_part _ 1024 0 (mul-le-mul c.requires.complete.2 c.requires.complete.2))
 
 pub solve_over-requires : goal.solve_over-requires
 solve_over-requires c =
-    let s = c in
-    let h = s.requires.complete.0.size in
-    record { complete = (s.requires.complete.0, s.requires.complete.1, blank_part s.args.n 1024 h (mul-le-mul s.requires.complete.2 s.requires.complete.2)); inverse_len = s.requires.inverse_len }
+    let h = c.requires.complete.0.size in
+    record { complete = (c.requires.complete.0, c.requires.complete.1, blank_part c.args.n 1024 h (mul-le-mul c.requires.complete.2 c.requires.complete.2)); inverse_len = c.requires.inverse_len }

@@ -10,8 +10,7 @@ returns-then-waiting-k-eq0 c = c.entry.ensures ∙ sym (witness_row _ _ _ _ _ c.
 
 pub returns-then-f-k : goal.returns-then-f-k
 returns-then-f-k c =
-    let s = c in
-    sym (witness_unit _ _ _ _ _ c.if-waiting-k-eq0.false ∙ ap (delta s.args.f) (sym c.if-f-k.true) ∙ delta_same s.args.f)
+    sym (witness_unit _ _ _ _ _ c.if-waiting-k-eq0.false ∙ ap (delta c.args.f) (sym c.if-f-k.true) ∙ delta_same c.args.f)
 
 pub returns : goal.returns
 returns c = sym (witness_unit _ _ _ _ _ c.if-waiting-k-eq0.false ∙ delta_other _ _ c.if-f-k.false)

@@ -10,7 +10,7 @@ pub loop-m-init : goal.loop-m-init
 loop-m-init c = (search rules, copied_start _ _ _ c.requires.2)
 
 pub write_cross-requires : goal.write_cross-requires
-write_cross-requires c = let w = c in record { square = (w.requires.0, w.loop-m-test.true, w.requires.1); copied = w.loop-m.invariant.1 }
+write_cross-requires c = record { square = (c.requires.0, c.loop-m-test.true, c.requires.1); copied = c.loop-m.invariant.1 }
 
 pub loop-m-preserved : goal.loop-m-preserved
 loop-m-preserved c = (search rules, c.write_cross.ensures)

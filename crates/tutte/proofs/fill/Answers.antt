@@ -17,65 +17,59 @@ loop-i-init c = (search rules, filled_start _ _ _)
 
 pub overflow_mul-at : goal.overflow_mul-at
 overflow_mul-at c =
-    let room : RowRoom c.args.n c.loop-i.i c.loop-i.table = let s = c in
-    row_room (record { small = s.requires.complete.0.size; size = c.loop-i.invariant.1.size ∙ s.requires.table_len }) c.loop-i-test.true in
-    let h = room in omega arith
+    let room : RowRoom c.args.n c.loop-i.i c.loop-i.table =
+    row_room (record { small = c.requires.complete.0.size; size = c.loop-i.invariant.1.size ∙ c.requires.table_len }) c.loop-i-test.true in
+    omega arith
 
 pub overflow_add-at : goal.overflow_add-at
 overflow_add-at c =
-    let room : RowRoom c.args.n c.loop-i.i c.loop-i.table = let s = c in
-    row_room (record { small = s.requires.complete.0.size; size = c.loop-i.invariant.1.size ∙ s.requires.table_len }) c.loop-i-test.true in
-    let h = room in omega arith
+    let room : RowRoom c.args.n c.loop-i.i c.loop-i.table =
+    row_room (record { small = c.requires.complete.0.size; size = c.loop-i.invariant.1.size ∙ c.requires.table_len }) c.loop-i-test.true in
+    omega arith
 
 pub overflow_mul-end : goal.overflow_mul-end
 overflow_mul-end c =
-    let room : RowRoom c.args.n c.loop-i.i c.loop-i.table = let s = c in
-    row_room (record { small = s.requires.complete.0.size; size = c.loop-i.invariant.1.size ∙ s.requires.table_len }) c.loop-i-test.true in
-    let h = room in omega arith
+    let room : RowRoom c.args.n c.loop-i.i c.loop-i.table =
+    row_room (record { small = c.requires.complete.0.size; size = c.loop-i.invariant.1.size ∙ c.requires.table_len }) c.loop-i-test.true in
+    omega arith
 
 pub overflow_add-end : goal.overflow_add-end
 overflow_add-end c =
-    let room : RowRoom c.args.n c.loop-i.i c.loop-i.table = let s = c in
-    row_room (record { small = s.requires.complete.0.size; size = c.loop-i.invariant.1.size ∙ s.requires.table_len }) c.loop-i-test.true in
-    let h = room in omega arith
+    let room : RowRoom c.args.n c.loop-i.i c.loop-i.table =
+    row_room (record { small = c.requires.complete.0.size; size = c.loop-i.invariant.1.size ∙ c.requires.table_len }) c.loop-i-test.true in
+    omega arith
 
 pub offset_bounds-table-at : goal.offset_bounds-table-at
 offset_bounds-table-at c =
-    let room : RowRoom c.args.n c.loop-i.i c.loop-i.table = let s = c in
-    row_room (record { small = s.requires.complete.0.size; size = c.loop-i.invariant.1.size ∙ s.requires.table_len }) c.loop-i-test.true in
-    let h = room in omega arith
+    let room : RowRoom c.args.n c.loop-i.i c.loop-i.table =
+    row_room (record { small = c.requires.complete.0.size; size = c.loop-i.invariant.1.size ∙ c.requires.table_len }) c.loop-i-test.true in
+    omega arith
 
 pub slice_bounds-fill_row-count : goal.slice_bounds-fill_row-count
 slice_bounds-fill_row-count c =
-    let room : RowRoom c.args.n c.loop-i.i c.loop-i.table = let s = c in
-    row_room (record { small = s.requires.complete.0.size; size = c.loop-i.invariant.1.size ∙ s.requires.table_len }) c.loop-i-test.true in
-    let h = room in omega arith
+    let room : RowRoom c.args.n c.loop-i.i c.loop-i.table =
+    row_room (record { small = c.requires.complete.0.size; size = c.loop-i.invariant.1.size ∙ c.requires.table_len }) c.loop-i-test.true in
+    omega arith
 
 pub fill_row-requires : goal.fill_row-requires
 fill_row-requires c =
-    let room : RowRoom c.args.n c.loop-i.i c.loop-i.table = let s = c in
-    row_room (record { small = s.requires.complete.0.size; size = c.loop-i.invariant.1.size ∙ s.requires.table_len }) c.loop-i-test.true in
-    let w = c in
-    let at = w.loop-i in
-    let s = c in
-    let h = room in
-    let n = s.args.n in
+    let room : RowRoom c.args.n c.loop-i.i c.loop-i.table = let c = c in
+    row_room (record { small = c.requires.complete.0.size; size = c.loop-i.invariant.1.size ∙ c.requires.table_len }) c.loop-i-test.true in
+    let at = c.loop-i in
+    let n = c.args.n in
     let size = at.i * n + n - (at.i * n + (at.i + 1)) in
     let l = part_length at.table (at.i * n + (at.i + 1)) size (omega arith) in
-    record { complete = s.requires.complete; i_lt_n = (omega arith, omega arith) }
+    record { complete = c.requires.complete; i_lt_n = (omega arith, omega arith) }
 
 pub loop-i-preserved : goal.loop-i-preserved
 loop-i-preserved c =
-    let room : RowRoom c.args.n c.loop-i.i c.loop-i.table = let s = c in
-    row_room (record { small = s.requires.complete.0.size; size = c.loop-i.invariant.1.size ∙ s.requires.table_len }) c.loop-i-test.true in
-    let w = c in
-    let at = w.loop-i in
-    let s = c in
-    let n = s.args.n in
+    let room : RowRoom c.args.n c.loop-i.i c.loop-i.table = let c = c in
+    row_room (record { small = c.requires.complete.0.size; size = c.loop-i.invariant.1.size ∙ c.requires.table_len }) c.loop-i-test.true in
+    let at = c.loop-i in
+    let n = c.args.n in
     let size = at.i * n + n - (at.i * n + (at.i + 1)) in
-    let h = room in
     let l : length (take size (drop (at.i * n + (at.i + 1)) at.table)) ≡ size = part_length at.table (at.i * n + (at.i + 1)) size (omega arith) in
-    (omega arith, filled_next n (restricted (over n s.args.adjacency.now s.args.weights.now) (marked s.args.set.now)) at.invariant.1 (omega arith) s.requires.table_len size (omega arith) (rw l at c.fill_row.ensures))
+    (omega arith, filled_next n (restricted (over n c.args.adjacency.now c.args.weights.now) (marked c.args.set.now)) at.invariant.1 (omega arith) c.requires.table_len size (omega arith) (rw l at c.fill_row.ensures))
 
 pub shape_of-table : goal.shape_of-table
 shape_of-table c = c.loop-i.invariant.1.size

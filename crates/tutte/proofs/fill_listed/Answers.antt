@@ -16,65 +16,59 @@ loop-i-init c = (search rules, filled_start _ _ _)
 
 pub overflow_mul-at : goal.overflow_mul-at
 overflow_mul-at c =
-    let room : RowRoom (length c.args.vertices.now) c.loop-i.i c.loop-i.table = let s = c in
-    row_room (record { small = s.requires.square.small; size = c.loop-i.invariant.1.size ∙ s.requires.square.size }) c.loop-i-test.true in
-    let h = room in omega arith
+    let room : RowRoom (length c.args.vertices.now) c.loop-i.i c.loop-i.table =
+    row_room (record { small = c.requires.square.small; size = c.loop-i.invariant.1.size ∙ c.requires.square.size }) c.loop-i-test.true in
+    omega arith
 
 pub overflow_add-at : goal.overflow_add-at
 overflow_add-at c =
-    let room : RowRoom (length c.args.vertices.now) c.loop-i.i c.loop-i.table = let s = c in
-    row_room (record { small = s.requires.square.small; size = c.loop-i.invariant.1.size ∙ s.requires.square.size }) c.loop-i-test.true in
-    let h = room in omega arith
+    let room : RowRoom (length c.args.vertices.now) c.loop-i.i c.loop-i.table =
+    row_room (record { small = c.requires.square.small; size = c.loop-i.invariant.1.size ∙ c.requires.square.size }) c.loop-i-test.true in
+    omega arith
 
 pub overflow_mul-end : goal.overflow_mul-end
 overflow_mul-end c =
-    let room : RowRoom (length c.args.vertices.now) c.loop-i.i c.loop-i.table = let s = c in
-    row_room (record { small = s.requires.square.small; size = c.loop-i.invariant.1.size ∙ s.requires.square.size }) c.loop-i-test.true in
-    let h = room in omega arith
+    let room : RowRoom (length c.args.vertices.now) c.loop-i.i c.loop-i.table =
+    row_room (record { small = c.requires.square.small; size = c.loop-i.invariant.1.size ∙ c.requires.square.size }) c.loop-i-test.true in
+    omega arith
 
 pub overflow_add-end : goal.overflow_add-end
 overflow_add-end c =
-    let room : RowRoom (length c.args.vertices.now) c.loop-i.i c.loop-i.table = let s = c in
-    row_room (record { small = s.requires.square.small; size = c.loop-i.invariant.1.size ∙ s.requires.square.size }) c.loop-i-test.true in
-    let h = room in omega arith
+    let room : RowRoom (length c.args.vertices.now) c.loop-i.i c.loop-i.table =
+    row_room (record { small = c.requires.square.small; size = c.loop-i.invariant.1.size ∙ c.requires.square.size }) c.loop-i-test.true in
+    omega arith
 
 pub offset_bounds-table-at : goal.offset_bounds-table-at
 offset_bounds-table-at c =
-    let room : RowRoom (length c.args.vertices.now) c.loop-i.i c.loop-i.table = let s = c in
-    row_room (record { small = s.requires.square.small; size = c.loop-i.invariant.1.size ∙ s.requires.square.size }) c.loop-i-test.true in
-    let h = room in omega arith
+    let room : RowRoom (length c.args.vertices.now) c.loop-i.i c.loop-i.table =
+    row_room (record { small = c.requires.square.small; size = c.loop-i.invariant.1.size ∙ c.requires.square.size }) c.loop-i-test.true in
+    omega arith
 
 pub slice_bounds-listed_row-count : goal.slice_bounds-listed_row-count
 slice_bounds-listed_row-count c =
-    let room : RowRoom (length c.args.vertices.now) c.loop-i.i c.loop-i.table = let s = c in
-    row_room (record { small = s.requires.square.small; size = c.loop-i.invariant.1.size ∙ s.requires.square.size }) c.loop-i-test.true in
-    let h = room in omega arith
+    let room : RowRoom (length c.args.vertices.now) c.loop-i.i c.loop-i.table =
+    row_room (record { small = c.requires.square.small; size = c.loop-i.invariant.1.size ∙ c.requires.square.size }) c.loop-i-test.true in
+    omega arith
 
 pub listed_row-requires : goal.listed_row-requires
 listed_row-requires c =
-    let room : RowRoom (length c.args.vertices.now) c.loop-i.i c.loop-i.table = let s = c in
-    row_room (record { small = s.requires.square.small; size = c.loop-i.invariant.1.size ∙ s.requires.square.size }) c.loop-i-test.true in
-    let w = c in
-    let at = w.loop-i in
-    let s = c in
-    let h = room in
-    let n = length s.args.vertices.now in
+    let room : RowRoom (length c.args.vertices.now) c.loop-i.i c.loop-i.table = let c = c in
+    row_room (record { small = c.requires.square.small; size = c.loop-i.invariant.1.size ∙ c.requires.square.size }) c.loop-i-test.true in
+    let at = c.loop-i in
+    let n = length c.args.vertices.now in
     let size = at.i * n + n - (at.i * n + (at.i + 1)) in
     let l = part_length at.table (at.i * n + (at.i + 1)) size (omega arith) in
-    record { complete = s.requires.complete; i_in_bounds = (omega arith, omega arith) }
+    record { complete = c.requires.complete; i_in_bounds = (omega arith, omega arith) }
 
 pub loop-i-preserved : goal.loop-i-preserved
 loop-i-preserved c =
-    let room : RowRoom (length c.args.vertices.now) c.loop-i.i c.loop-i.table = let s = c in
-    row_room (record { small = s.requires.square.small; size = c.loop-i.invariant.1.size ∙ s.requires.square.size }) c.loop-i-test.true in
-    let w = c in
-    let at = w.loop-i in
-    let s = c in
-    let n = length s.args.vertices.now in
+    let room : RowRoom (length c.args.vertices.now) c.loop-i.i c.loop-i.table = let c = c in
+    row_room (record { small = c.requires.square.small; size = c.loop-i.invariant.1.size ∙ c.requires.square.size }) c.loop-i-test.true in
+    let at = c.loop-i in
+    let n = length c.args.vertices.now in
     let size = at.i * n + n - (at.i * n + (at.i + 1)) in
-    let h = room in
     let l : length (take size (drop (at.i * n + (at.i + 1)) at.table)) ≡ size = part_length at.table (at.i * n + (at.i + 1)) size (omega arith) in
-    (omega arith, filled_next n (listed (over s.args.n s.args.adjacency.now s.args.weights.now) s.args.vertices.now) at.invariant.1 (omega arith) s.requires.square.size size (omega arith) (rw l at c.listed_row.ensures))
+    (omega arith, filled_next n (listed (over c.args.n c.args.adjacency.now c.args.weights.now) c.args.vertices.now) at.invariant.1 (omega arith) c.requires.square.size size (omega arith) (rw l at c.listed_row.ensures))
 
 pub shape_of-table : goal.shape_of-table
 shape_of-table c = c.loop-i.invariant.1.size

@@ -16,11 +16,10 @@ overflow_cast-b c = omega (arith, c.type_inv.vertices (c.args.i + 1 + c.loop-k.k
 
 pub upper-requires : goal.upper-requires
 upper-requires c =
-    let s = c in
-    let i = s.args.i in
+    let i = c.args.i in
     let k = c.loop-k.k in
     let w = c.loop-k.invariant in
-    record { complete = s.requires.complete.0; i_lt_j = (s.requires.complete.1.ordered i (i + 1 + k) (omega arith) (omega arith), s.requires.complete.1.below (i + 1 + k) (omega arith)) }
+    record { complete = c.requires.complete.0; i_lt_j = (c.requires.complete.1.ordered i (i + 1 + k) (omega arith) (omega arith), c.requires.complete.1.below (i + 1 + k) (omega arith)) }
 
 pub loop-k-preserved : goal.loop-k-preserved
 loop-k-preserved c = written_more _ c.loop-k.invariant (omega arith) c.upper.ensures

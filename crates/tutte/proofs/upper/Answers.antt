@@ -34,8 +34,7 @@ bounds-weights-i c = weight_within c.requires.complete _ _ (omega arith) (omega 
 pub returns-then-adjacency-i-eq1 : goal.returns-then-adjacency-i-eq1
 unfolding upper weight
 returns-then-adjacency-i-eq1 c =
-    let s = c in
-    ap (λ x. get_or s.args.weights.now x 0) (sym (index_closed (over s.args.n s.args.adjacency.now s.args.weights.now) _ _ (omega arith) (omega arith)))
+    ap (λ x. get_or c.args.weights.now x 0) (sym (index_closed (over c.args.n c.args.adjacency.now c.args.weights.now) _ _ (omega arith) (omega arith)))
     ∙ sym (choose_yes (ℕ_discrete _ 1) _ _ c.if-adjacency-i-eq1.true)
 
 pub returns-else-adjacency-i-eq1 : goal.returns-else-adjacency-i-eq1

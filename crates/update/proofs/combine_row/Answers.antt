@@ -42,10 +42,9 @@ loop-j-smaller c = omega arith
 
 pub loop-j-preserved : goal.loop-j-preserved
 loop-j-preserved c =
-    let at = c in
-    let a = at.args in
-    written_more _ at.loop-j.invariant (omega arith)
-    (c.combine.ensures ∙ ap (λ w. combined modulus a.f (vector a.u.now at.loop-j.j) a.h (vector a.v.now at.loop-j.j) w) (written_rest at.loop-j.invariant at.loop-j.j (omega arith)))
+    let a = c.args in
+    written_more _ c.loop-j.invariant (omega arith)
+    (c.combine.ensures ∙ ap (λ w. combined modulus a.f (vector a.u.now c.loop-j.j) a.h (vector a.v.now c.loop-j.j) w) (written_rest c.loop-j.invariant c.loop-j.j (omega arith)))
 
 pub shape_of-row : goal.shape_of-row
 shape_of-row c = c.loop-j.invariant.size

@@ -29,8 +29,7 @@ loop-j-smaller c = omega arith
 
 pub loop-j-preserved : goal.loop-j-preserved
 loop-j-preserved c =
-    let at = c in
-    written_more _ at.loop-j.invariant (omega arith) (c.combine.ensures ∙ ap (combined modulus 0 0 0 0) (written_rest at.loop-j.invariant at.loop-j.j (omega arith)))
+    written_more _ c.loop-j.invariant (omega arith) (c.combine.ensures ∙ ap (combined modulus 0 0 0 0) (written_rest c.loop-j.invariant c.loop-j.j (omega arith)))
 
 pub shape_of-row : goal.shape_of-row
 shape_of-row c = c.loop-j.invariant.size

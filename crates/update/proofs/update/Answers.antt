@@ -11,6 +11,5 @@ slice_bounds-update_over-end-2 c = sym (length_part _ 96 0 c.requires.0.small)
 
 pub update_over-requires : goal.update_over-requires
 update_over-requires c =
-    let start = c in
-    let room = length_part start.args.n 96 0 start.requires.0.small in
-    (record { table_square = start.requires.0; x_size = start.requires.1; y_size = start.requires.2; u_size = room; v_size = room }, start.requires.3)
+    let room = length_part c.args.n 96 0 c.requires.0.small in
+    (record { table_square = c.requires.0; x_size = c.requires.1; y_size = c.requires.2; u_size = room; v_size = room }, c.requires.3)

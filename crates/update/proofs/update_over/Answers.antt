@@ -4,8 +4,6 @@ use Rattle.update.proofs.update_over.Goals as goal
 
 pub returns : goal.returns
 returns c =
-    let called = c in
-    let start = called in
-    let lent = start.requires.0 in
-    updated start.args.g _ c.update_rows.ensures start.requires.1 called.negative-negative.ensures
+    let lent = c.requires.0 in
+    updated c.args.g _ c.update_rows.ensures c.requires.1 c.negative-negative.ensures
     (rw lent.u_size at c.multiples.ensures) (rw lent.v_size at c.multiples-2.ensures)

@@ -12,7 +12,6 @@ nothing f a h b w e q = ap (λ x. x % modulus) (rw (e, q) (omega arith))
 
 pub returns-then-f-h-eq0 : goal.returns-then-f-h-eq0
 returns-then-f-h-eq0 c =
-    let start = c in
-    let e : start.args.f ≡ 0 = omega arith in
-    let q : start.args.h ≡ 0 = omega arith in
+    let e : c.args.f ≡ 0 = omega arith in
+    let q : c.args.h ≡ 0 = omega arith in
     c.reduce_row.ensures ∙ list_of_same _ _ _ (λ j _. nothing _ _ _ _ _ e q)

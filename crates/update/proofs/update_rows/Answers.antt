@@ -11,44 +11,40 @@ loop-i-init c = (omega arith, updated_start _ _ _ _ _ _ _)
 
 pub overflow_mul-at : goal.overflow_mul-at
 overflow_mul-at c =
-    let room : RowRoom c.args.n c.loop-i.i c.loop-i.t = let s = c in
-    row_room (record { small = s.requires.table_square.small; size = c.loop-i.invariant.1.size ∙ s.requires.table_square.size }) c.loop-i-test.true in
-    let h = room in omega arith
+    let room : RowRoom c.args.n c.loop-i.i c.loop-i.t =
+    row_room (record { small = c.requires.table_square.small; size = c.loop-i.invariant.1.size ∙ c.requires.table_square.size }) c.loop-i-test.true in
+    omega arith
 
 pub overflow_add-end : goal.overflow_add-end
 overflow_add-end c =
-    let room : RowRoom c.args.n c.loop-i.i c.loop-i.t = let s = c in
-    row_room (record { small = s.requires.table_square.small; size = c.loop-i.invariant.1.size ∙ s.requires.table_square.size }) c.loop-i-test.true in
-    let h = room in omega arith
+    let room : RowRoom c.args.n c.loop-i.i c.loop-i.t =
+    row_room (record { small = c.requires.table_square.small; size = c.loop-i.invariant.1.size ∙ c.requires.table_square.size }) c.loop-i-test.true in
+    omega arith
 
 pub offset_bounds-t-at : goal.offset_bounds-t-at
 offset_bounds-t-at c =
-    let room : RowRoom c.args.n c.loop-i.i c.loop-i.t = let s = c in
-    row_room (record { small = s.requires.table_square.small; size = c.loop-i.invariant.1.size ∙ s.requires.table_square.size }) c.loop-i-test.true in
-    let h = room in omega arith
+    let room : RowRoom c.args.n c.loop-i.i c.loop-i.t =
+    row_room (record { small = c.requires.table_square.small; size = c.loop-i.invariant.1.size ∙ c.requires.table_square.size }) c.loop-i-test.true in
+    omega arith
 
 pub slice_bounds-update_row-count : goal.slice_bounds-update_row-count
 slice_bounds-update_row-count c =
-    let room : RowRoom c.args.n c.loop-i.i c.loop-i.t = let s = c in
-    row_room (record { small = s.requires.table_square.small; size = c.loop-i.invariant.1.size ∙ s.requires.table_square.size }) c.loop-i-test.true in
-    let h = room in omega arith
+    let room : RowRoom c.args.n c.loop-i.i c.loop-i.t =
+    row_room (record { small = c.requires.table_square.small; size = c.loop-i.invariant.1.size ∙ c.requires.table_square.size }) c.loop-i-test.true in
+    omega arith
 
 pub update_row-requires : goal.update_row-requires
 update_row-requires c =
-    let w = c in
-    let at = w.loop-i in
-    let s = c in
-    let e : at.i * s.args.n + s.args.n - at.i * s.args.n ≡ s.args.n = omega arith in
-    let len = row_length at.invariant.1 (omega arith) s.requires.table_square.size in
-    rw e (s.requires.u_size ∙ sym len, s.requires.v_size ∙ sym len)
+    let at = c.loop-i in
+    let e : at.i * c.args.n + c.args.n - at.i * c.args.n ≡ c.args.n = omega arith in
+    let len = row_length at.invariant.1 (omega arith) c.requires.table_square.size in
+    rw e (c.requires.u_size ∙ sym len, c.requires.v_size ∙ sym len)
 
 pub loop-i-preserved : goal.loop-i-preserved
 loop-i-preserved c =
-    let w = c in
-    let at = w.loop-i in
-    let s = c in
-    let e : at.i * s.args.n + s.args.n - at.i * s.args.n ≡ s.args.n = omega arith in
-    let full = s.requires.table_square.size in
+    let at = c.loop-i in
+    let e : at.i * c.args.n + c.args.n - at.i * c.args.n ≡ c.args.n = omega arith in
+    let full = c.requires.table_square.size in
     let len = row_length at.invariant.1 (omega arith) full in
     (omega arith, rw e (updated_next at.invariant.1 (omega arith) full (rw (e, len) at c.update_row.ensures)))
 
