@@ -92,8 +92,7 @@ bounds-inverse-k c =
 
 pub loop-k-preserved : goal.loop-k-preserved
 loop-k-preserved c =
-    let at = c.loop-k in
-    (
+    let at = c.loop-k in (
       omega arith,
       omega arith,
       crossed_next c.requires.square.1 at.invariant.2 at.invariant.0 c.loop-k-test.true c.kept_word-right.ensures
