@@ -14,6 +14,5 @@ slice_bounds-grow_over-end-3 c = sym (length_part _ 96 0 c.requires.1.small)
 
 pub grow_over-requires : goal.grow_over-requires
 grow_over-requires c =
-    let start = c in
-    let room = length_part start.args.n 96 0 start.requires.1.small in
-    record { complete = start.requires; column_len = (room, room, room) }
+    let room = length_part c.args.n 96 0 c.requires.1.small in
+    record { complete = c.requires; column_len = (room, room, room) }

@@ -11,6 +11,5 @@ slice_bounds-shrink_over-end-2 c = sym (length_part _ 96 0 c.requires.0.small)
 
 pub shrink_over-requires : goal.shrink_over-requires
 shrink_over-requires c =
-    let start = c in
-    let room = length_part start.args.n 96 0 start.requires.0.small in
-    (start.requires.0, start.requires.1, start.requires.2, room, room)
+    let room = length_part c.args.n 96 0 c.requires.0.small in
+    (c.requires.0, c.requires.1, c.requires.2, room, room)
