@@ -17,10 +17,10 @@ pub bounds-list-i : goal.bounds-list-i
 bounds-list-i c = omega arith
 
 pub returns-then-kind-eq0 : goal.returns-then-kind-eq0
-returns-then-kind-eq0 c = let at = c in record { below = omega arith; holds = λ h. omega (arith, h.0); none_before = at.loop-i.invariant.1 }
+returns-then-kind-eq0 c = record { below = omega arith; holds = λ h. omega (arith, h.0); none_before = c.loop-i.invariant.1 }
 
 pub returns-then-kind-gt3 : goal.returns-then-kind-gt3
-returns-then-kind-gt3 c = let at = c in record { below = omega arith; holds = λ h. omega (arith, h.1); none_before = at.loop-i.invariant.1 }
+returns-then-kind-gt3 c = record { below = omega arith; holds = λ h. omega (arith, h.1); none_before = c.loop-i.invariant.1 }
 
 pub overflow_add-i : goal.overflow_add-i
 overflow_add-i c = omega arith

@@ -1,5 +1,4 @@
 -- `calls::undo` meets its contract: no pair, no inverse for the vertices then unmatched, or the newest pair removed. Assumes nothing.
-use Prim.Native.Nat.{◌+◌, ◌-◌}
 use native.Mathlib.Omega.{arith}
 use Rattle.calls.specs.Known.{called_denied, few, tables, complete, sequence_fits}
 use Rattle.calls.specs.Undone.{undo_none, undo_room, denies_undo, does_undo}
@@ -8,8 +7,7 @@ use Rattle.calls.proofs.undo.Goals as goal
 pub returns-then-made-eq0 : goal.returns-then-made-eq0
 returns-then-made-eq0 c =
     λ kept K.
-    let if1 = c in
-    called_denied c.deny.ensures (undo_none K if1.if-made-eq0.true) K.left
+    called_denied c.deny.ensures (undo_none K c.if-made-eq0.true) K.left
 
 pub overflow_add-at : goal.overflow_add-at
 overflow_add-at c = let K = c.requires.1 in omega (arith, few K, (tables K).size)
@@ -17,17 +15,11 @@ overflow_add-at c = let K = c.requires.1 in omega (arith, few K, (tables K).size
 pub bounds-sequence-at : goal.bounds-sequence-at
 bounds-sequence-at c = let K = c.requires.1 in omega (arith, few K, sequence_fits K)
 
-pub overflow_cast-a : goal.overflow_cast-a
-overflow_cast-a c = let made = c.args.made in omega (arith, c.type_inv.sequence (made - 1 + (made - 1)))
-
 pub overflow_add-b : goal.overflow_add-b
 overflow_add-b c = let K = c.requires.1 in omega (arith, few K, (tables K).size)
 
 pub bounds-sequence-at-2 : goal.bounds-sequence-at-2
 bounds-sequence-at-2 c = let K = c.requires.1 in omega (arith, few K, sequence_fits K)
-
-pub overflow_cast-b : goal.overflow_cast-b
-overflow_cast-b c = let made = c.args.made in omega (arith, c.type_inv.sequence (made - 1 + (made - 1) + 1))
 
 pub remove-removed-requires : goal.remove-removed-requires
 remove-removed-requires c = let K = c.requires.1 in (complete K, undo_room K c.if-made-eq0.false)
@@ -35,14 +27,11 @@ remove-removed-requires c = let K = c.requires.1 in (complete K, undo_room K c.i
 pub returns-then-not-removed : goal.returns-then-not-removed
 returns-then-not-removed c =
     λ kept K.
-    let if2 = c in
-    let removed = if2 in
-    let h = denies_undo K if2.if-made-eq0.false removed.remove-removed.ensures if2.if-not-removed.true in
+    let h = denies_undo K c.if-made-eq0.false c.remove-removed.ensures c.if-not-removed.true in
     called_denied c.deny-then-not-removed.ensures h.0 h.1
 
 pub returns : goal.returns
 returns c =
     λ kept K.
-    let removed = c in
-    let h = does_undo K c.if-made-eq0.false removed.remove-removed.ensures c.if-not-removed.false in
+    let h = does_undo K c.if-made-eq0.false c.remove-removed.ensures c.if-not-removed.false in
     record { handled = h.0; left = h.1 }

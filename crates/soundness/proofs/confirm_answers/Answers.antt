@@ -5,21 +5,17 @@ use Rattle.soundness.specs.Besides.{answers_lengths, kept_short, answers_short, 
 use Rattle.soundness.proofs.confirm_answers.Goals as goal
 
 pub returns-in-Refused : goal.returns-in-Refused
-returns-in-Refused c = answers_lengths _ _ _ _ _ _ _ _ _ refl c.in-Refused.ensures
+returns-in-Refused c = answers_lengths _ _ _ _ _ _ _ _ _ refl (c.in-Refused.ensures)
 
 pub returns-then-kept-n : goal.returns-then-kept-n
-returns-then-kept-n c =
-    let told = c in
-    kept_short _ _ _ _ _ _ _ _ _ c.in_default.ensures c.refuse.ensures c.if-kept-n.true
+returns-then-kept-n c = kept_short _ _ _ _ _ _ _ _ _ (c.in_default.ensures) c.refuse.ensures c.if-kept-n.true
 
 pub returns-then-answers-count : goal.returns-then-answers-count
 returns-then-answers-count c =
-    let told = c in
-    answers_short _ _ _ _ _ _ _ _ _ c.in_default.ensures (omega arith) c.refuse-then-answers-count.ensures
+    answers_short _ _ _ _ _ _ _ _ _ (c.in_default.ensures) (omega arith) c.refuse-then-answers-count.ensures
     c.if-answers-count.true
 
 pub returns : goal.returns
 returns c =
-    let told = c in
-    answers_enough _ _ _ _ _ _ _ _ _ c.in_default.ensures (omega arith) (omega arith)
+    answers_enough _ _ _ _ _ _ _ _ _ (c.in_default.ensures) (omega arith) (omega arith)
     c.confirm.ensures

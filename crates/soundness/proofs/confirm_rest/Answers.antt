@@ -7,36 +7,31 @@ use Rattle.soundness.proofs.confirm_rest.Goals as goal
 
 pub formed-formed-requires : goal.formed-formed-requires
 formed-formed-requires c =
-    let start = c in
-    let R = ready start.requires.0 in
-    (R.lent, R.sequence_fits, R.kept_fits, start.requires.1)
+    let R = ready c.requires.0 in
+    (R.lent, R.sequence_fits, R.kept_fits, c.requires.1)
 
 pub returns-then-not-formed : goal.returns-then-not-formed
 returns-then-not-formed c =
     let formed = c.formed-formed.ensures in
-    let start = c in
-    not_formed _ _ _ _ _ _ _ _ start.requires.0 c.refuse.ensures ((formed.well start.args.weights.now).when_false c.if-not-formed.true)
+    not_formed _ _ _ _ _ _ _ _ c.requires.0 c.refuse.ensures ((formed.well c.args.weights.now).when_false c.if-not-formed.true)
 
 pub is_inverse-correct-requires : goal.is_inverse-correct-requires
 is_inverse-correct-requires c =
-    let start = c in
-    let R = ready start.requires.0 in
-    (R.complete, c.formed-formed.auto.marks ∙ start.requires.1, R.inverse_fits)
+    let R = ready c.requires.0 in
+    (R.complete, c.formed-formed.auto.marks ∙ c.requires.1, R.inverse_fits)
 
 pub returns-then-not-correct : goal.returns-then-not-correct
 returns-then-not-correct c =
     let formed = c.formed-formed.ensures in
-    let start = c in
     let well = c.if-not-formed.false in
     let L = formed.left well in
-    let told = c.is_inverse-correct.ensures (unmatched (kept_in start.args.n start.args.kept.now) (pairs_on start.args.sequence.now start.args.made)) (λ i h. sym (L.same i h)) in
-    not_confirmed _ _ _ _ _ _ _ _ start.requires.0 ((formed.well start.args.weights.now).when_true well) c.refuse-then-not-correct.ensures (told.when_false c.if-not-correct.true)
+    let told = c.is_inverse-correct.ensures (unmatched (kept_in c.args.n c.args.kept.now) (pairs_on c.args.sequence.now c.args.made)) (λ i h. sym (L.same i h)) in
+    not_confirmed _ _ _ _ _ _ _ _ c.requires.0 ((formed.well c.args.weights.now).when_true well) c.refuse-then-not-correct.ensures (told.when_false c.if-not-correct.true)
 
 pub returns : goal.returns
 returns c =
     let formed = c.formed-formed.ensures in
-    let start = c in
     let well = c.if-not-formed.false in
     let L = formed.left well in
-    let told = c.is_inverse-correct.ensures (unmatched (kept_in start.args.n start.args.kept.now) (pairs_on start.args.sequence.now start.args.made)) (λ i h. sym (L.same i h)) in
-    all_confirmed _ _ _ _ _ _ _ _ start.requires.0 ((formed.well start.args.weights.now).when_true well) refl (told.when_true c.if-not-correct.false) L
+    let told = c.is_inverse-correct.ensures (unmatched (kept_in c.args.n c.args.kept.now) (pairs_on c.args.sequence.now c.args.made)) (λ i h. sym (L.same i h)) in
+    all_confirmed _ _ _ _ _ _ _ _ c.requires.0 ((formed.well c.args.weights.now).when_true well) refl (told.when_true c.if-not-correct.false) L
