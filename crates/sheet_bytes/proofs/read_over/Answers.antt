@@ -1,5 +1,5 @@
 -- `sheet_bytes::read_over` meets its contract: what was read is stored as bytes, and answered by its number. Assumes nothing.
-use native.Mathlib.Omega.{arith}
+use borrow.Author.Rules.{rules}
 use Rattle.sheet_bytes.specs.Reads.{stores, answers, host_reads}
 use Rattle.sheet_bytes.proofs.read_over.Goals as goal
 
@@ -10,4 +10,4 @@ pub number-requires : goal.number-requires
 number-requires c = answers c.requires c.read-read.ensures
 
 pub returns : goal.returns
-returns c = host_reads c.requires (λ x. omega (arith, c.slice_known-3-1.given x)) c.read-read.ensures c.number.ensures (rw (← c.stored-count.ensures) c.store.ensures)
+returns c = host_reads c.requires (λ x. search rules) c.read-read.ensures c.number.ensures (rw (← c.stored-count.ensures) c.store.ensures)
