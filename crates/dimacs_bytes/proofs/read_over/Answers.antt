@@ -1,5 +1,5 @@
 -- `dimacs_bytes::read_over` meets its contract: what was read is stored as bytes, and answered by its number. Assumes nothing.
-use native.Mathlib.Omega.{arith}
+use borrow.Author.Rules.{rules}
 use Rattle.dimacs_bytes.specs.Texts.{fits, stores, host_reads_text}
 use Rattle.dimacs_bytes.proofs.read_over.Goals as goal
 
@@ -11,5 +11,5 @@ number-requires c = fits c.read-read.ensures
 
 pub returns : goal.returns
 returns c =
-    host_reads_text c.requires (λ x. omega (arith, c.slice_known-3-1.given x)) c.read-read.ensures c.number.ensures
+    host_reads_text c.requires (λ x. search rules) c.read-read.ensures c.number.ensures
     (rw (← c.stored-count.ensures) c.store.ensures)
