@@ -4,55 +4,52 @@
 
 ghost use Rattle.std.specs.Prelude.{◌<◌};
 
-use libc::STDOUT_FILENO;
 use opening::Opening;
 use refusals::Place;
+use std::io;
 
 // Writes a space and the number.
-fn item(x: u64) {
-    io::write_all(STDOUT_FILENO, b" ");
-    io::print_decimal(STDOUT_FILENO, x);
+fn item(rt: &impl Print, x: u64) -> io::Result<()> {
+    print!(rt; " {x}")
 }
 
-fn end_line() {
-    io::write_all(STDOUT_FILENO, b"\n");
+fn end_line(rt: &impl Print) -> io::Result<()> {
+    println!(rt)
 }
 
 // Writes the place of a refusal: an index, or the row, the column and the fault of a cell.
-fn show_place(place: Place) {
-    io::write_all(STDOUT_FILENO, b" at");
+fn show_place(rt: &impl Print, place: Place) -> io::Result<()> {
+    print!(rt; " at")?;
     match place {
-        Place::Index(index) => {
-            item(index as u64);
-        }
+        Place::Index(index) => item(rt, index as u64),
         Place::Cell(cell) => {
-            item(cell.row as u64);
-            item(cell.column as u64);
-            item(cell.fault as u64);
+            item(rt, cell.row as u64)?;
+            item(rt, cell.column as u64)?;
+            item(rt, cell.fault as u64)
         }
     }
 }
 
 // Writes an opening's answer.
-fn show(opening: Opening) {
+fn show(rt: &impl Print, opening: Opening) -> io::Result<()> {
     match opening {
         Opening::Opened(session) => {
-            io::write_all(STDOUT_FILENO, b"opened");
-            item(session.size as u64);
-            item(session.made as u64);
+            print!(rt; "opened")?;
+            item(rt, session.size as u64)?;
+            item(rt, session.made as u64)?;
         }
         Opening::Singular(f) => {
-            io::write_all(STDOUT_FILENO, b"witness");
-            item(f as u64);
+            print!(rt; "witness")?;
+            item(rt, f as u64)?;
         }
         Opening::Refused(refusal) => {
-            io::write_all(STDOUT_FILENO, b"refused");
-            item(refusal.cause as u64);
+            print!(rt; "refused")?;
+            item(rt, refusal.cause as u64)?;
             let place = refusal.place;
-            show_place(place);
+            show_place(rt, place)?;
         }
     }
-    end_line();
+    end_line(rt)
 }
 
 // Returns 3 times digest plus x, modulo 2^64.
@@ -90,12 +87,12 @@ fn digest_bytes(bytes: &[u8]) -> u64 {
 }
 
 // Opens a graph over buffers that are full of 7 and longer than needed, and writes the answer and the digests.
-fn run(n: usize, adjacency: &[u8], weights: &[u16]) {
+fn run(rt: &impl Print, n: usize, adjacency: &[u8], weights: &[u16]) -> io::Result<()> {
     let mut inverse = [7u16; 9220];
     let mut sequence = [7u8; 100];
     let mut witness = [7u16; 100];
     let mut work = [7u16; 9220];
-    show(opening::begin(
+    let opening = opening::begin(
         n,
         adjacency,
         weights,
@@ -103,13 +100,14 @@ fn run(n: usize, adjacency: &[u8], weights: &[u16]) {
         &mut sequence,
         &mut witness,
         &mut work,
-    ));
-    io::write_all(STDOUT_FILENO, b"digests");
-    item(digest_words(&inverse));
-    item(digest_bytes(&sequence));
-    item(digest_words(&witness));
-    item(digest_words(&work));
-    end_line();
+    );
+    show(rt, opening)?;
+    print!(rt; "digests")?;
+    item(rt, digest_words(&inverse))?;
+    item(rt, digest_bytes(&sequence))?;
+    item(rt, digest_words(&witness))?;
+    item(rt, digest_words(&work))?;
+    end_line(rt)
 }
 
 // Zeroes the diagonal.
@@ -124,30 +122,30 @@ fn clear_diagonal(adjacency: &mut [u8], n: usize)
 }
 
 // Opens 96 vertices that are all adjacent, 97, and the same table read as that of 95, whose second diagonal cell is then 1.
-fn all_linked() {
+fn all_linked(rt: &impl Print) -> io::Result<()> {
     let mut adjacency = [1u8; 9409];
     let weights = [1u16; 4656];
     clear_diagonal(&mut adjacency, 96);
-    run(96, &adjacency, &weights);
-    run(97, &adjacency, &weights);
-    run(95, &adjacency, &weights);
+    run(rt, 96, &adjacency, &weights)?;
+    run(rt, 97, &adjacency, &weights)?;
+    run(rt, 95, &adjacency, &weights)
 }
 
 // Opens two adjacent vertices with weight.
-fn two(weight: u16) {
+fn two(rt: &impl Print, weight: u16) -> io::Result<()> {
     let adjacency = [0u8, 1, 1, 0];
     let weights = [weight];
-    run(2, &adjacency, &weights);
+    run(rt, 2, &adjacency, &weights)
 }
 
-fn main() {
-    all_linked();
-    two(65520);
-    two(0);
-    two(65521);
-    two(2);
+fn main(rt: HostRuntime) -> io::Result<()> {
+    all_linked(&rt)?;
+    two(&rt, 65520)?;
+    two(&rt, 0)?;
+    two(&rt, 65521)?;
+    two(&rt, 2)?;
     let none = [0u8; 1];
     let no_weight = [0u16; 1];
-    run(0, &none, &no_weight);
-    run(1, &none, &no_weight);
+    run(&rt, 0, &none, &no_weight)?;
+    run(&rt, 1, &none, &no_weight)
 }

@@ -3,61 +3,66 @@
 // answers as the host's numbers, and then the session, the inverse and the sequence of pairs.
 #![tactic(auto)]
 
-use libc::STDOUT_FILENO;
 use session::Session;
+use std::io;
 
 // Writes the number and a space.
-fn item(x: u64) {
-    io::print_decimal(STDOUT_FILENO, x);
-    io::write_all(STDOUT_FILENO, b" ");
+fn item(rt: &impl Print, x: u64) -> io::Result<()> {
+    print!(rt; "{x} ")
 }
 
-fn show_numbers(numbers: &[u64]) {
+fn show_numbers(rt: &impl Print, numbers: &[u64]) -> io::Result<()> {
     let mut i = 0;
     while i < numbers.len() {
-        item(numbers[i]);
+        item(rt, numbers[i])?;
         i += 1;
     }
-    io::write_all(STDOUT_FILENO, b"\n");
+    println!(rt)
 }
 
 fn word(x: u16) -> u64 {
     x as u64
 }
 
-fn show_words(words: &[u16]) {
+fn show_words(rt: &impl Print, words: &[u16]) -> io::Result<()> {
     let mut i = 0;
     while i < words.len() {
-        item(word(words[i]));
+        item(rt, word(words[i]))?;
         i += 1;
     }
-    io::write_all(STDOUT_FILENO, b"\n");
+    println!(rt)
 }
 
 fn byte(x: u8) -> u64 {
     x as u64
 }
 
-fn show_state(session: Session, inverse: &[u16], sequence: &[u8; 4]) {
-    item(session.size as u64);
-    item(session.made as u64);
-    io::write_all(STDOUT_FILENO, b"\n");
-    show_words(inverse);
-    item(byte(sequence[0]));
-    item(byte(sequence[1]));
-    item(byte(sequence[2]));
-    item(byte(sequence[3]));
-    io::write_all(STDOUT_FILENO, b"\n");
+fn show_state(
+    rt: &impl Print,
+    session: Session,
+    inverse: &[u16],
+    sequence: &[u8; 4],
+) -> io::Result<()> {
+    item(rt, session.size as u64)?;
+    item(rt, session.made as u64)?;
+    println!(rt)?;
+    show_words(rt, inverse)?;
+    item(rt, byte(sequence[0]))?;
+    item(rt, byte(sequence[1]))?;
+    item(rt, byte(sequence[2]))?;
+    item(rt, byte(sequence[3]))?;
+    println!(rt)
 }
 
 // Makes the calls of list on the session, and writes the answers and what they leave.
 fn run(
+    rt: &impl Print,
     session: Session,
     inverse: &mut [u16; 16],
     sequence: &mut [u8; 4],
     kept: &[u8; 4],
     list: &[u64],
-) {
+) -> io::Result<()> {
     let adjacency = [0u8, 1, 1, 1, 1, 0, 1, 1, 1, 1, 0, 1, 1, 1, 1, 0];
     let weights = [1u16; 6];
     let mut answers = [0u64; 6];
@@ -72,11 +77,11 @@ fn run(
         &mut answers,
     );
     let after = replayed.session;
-    show_numbers(&answers);
-    show_state(after, inverse, sequence);
+    show_numbers(rt, &answers)?;
+    show_state(rt, after, inverse, sequence)
 }
 
-fn main() {
+fn main(rt: HostRuntime) -> io::Result<()> {
     // The inverse of document 01's seventh sheet to try.
     let mut inverse = [
         0u16, 65520, 1, 65520, 1, 0, 65520, 1, 65520, 1, 0, 65520, 1, 65520, 1, 0,
@@ -85,20 +90,22 @@ fn main() {
     let all = [1u8; 4];
     // Picks of 0 and 0, of 4 and 0, of 1 and 0, of 0 and 2, and two automatic picks.
     run(
+        &rt,
         Session { size: 4, made: 0 },
         &mut inverse,
         &mut sequence,
         &all,
         &[1u64, 0, 0, 1, 4, 0, 1, 1, 0, 1, 0, 2, 2, 0, 0, 2, 0, 0],
-    );
+    )?;
     // A pick of 300 and 300, which are not vertices, four undos, of which two have a pair, and an automatic pick.
     run(
+        &rt,
         Session { size: 4, made: 2 },
         &mut inverse,
         &mut sequence,
         &all,
         &[1u64, 300, 300, 3, 0, 0, 3, 0, 0, 3, 0, 0, 3, 0, 0, 2, 0, 0],
-    );
+    )?;
     // The inverse for 0 and 1 alone.
     let mut first_two = [0u16; 16];
     first_two[1] = 65520;
@@ -107,10 +114,11 @@ fn main() {
     let two = [1u8, 1, 0, 0];
     // A pick of 0 and 2, two automatic picks, a pick of 2 and 3, two undos.
     run(
+        &rt,
         Session { size: 4, made: 0 },
         &mut first_two,
         &mut unused,
         &two,
         &[1u64, 0, 2, 2, 0, 0, 2, 0, 0, 1, 2, 3, 3, 0, 0, 3, 0, 0],
-    );
+    )
 }
