@@ -9,10 +9,11 @@ use Rattle.modular.specs.Congruence.{Congruent, equals, flip, ◌⨾◌}
 use Rattle.modular.specs.Prime.{below_equal}
 use Rattle.residue.specs.Modulus.{modulus, modulus_prime}
 use Rattle.skew.specs.Subset.{Subset, ◌∈◌, ◌∉◌, Member, inside, outside, member?, clash, count, count_suc, count_most, count_below, marked, marked_in, marked_out}
-use Rattle.skew.specs.Inverse.{Matrix, Skew, Inverse, inverse_unique}
+use Rattle.skew.specs.Inverse.{Matrix, Skew, Inverse}
+use Rattle.skew.proofs.Inverse.{inverse_unique}
 use Rattle.skew.specs.Column.{Witness}
 use Rattle.skew.specs.Same.{inverse_same}
-use Rattle.skew.specs.Decide.{witness_singular}
+use Rattle.skew.proofs.Decide.{witness_singular}
 use Rattle.skew.specs.Listing.{Listed, along, element, ascending, skew_along, inverse_along, along_inverse}
 use Rattle.matching.specs.Graph.{Graph, tutte, tutte_upper, upper}
 use Rattle.matching.specs.Session.{InverseTable}

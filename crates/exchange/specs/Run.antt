@@ -12,11 +12,15 @@ use Rattle.skew.specs.Subset.{Subset, ◌∈◌, ◌∉◌, Member, inside, outs
 use Rattle.skew.specs.Inverse.{Matrix, Vector, delta, delta_same, delta_other, Skew, Inverse}
 use Rattle.skew.specs.Column.{FirstDependent, Witness}
 use Rattle.skew.specs.Same.{witness_same}
-use Rattle.skew.specs.Exchange.{source, Index, exchanged_zero, exchange_whole, exchange_inverse}
-use Rattle.skew.specs.Triangle.{mirror_above, mirror_skew, mirror_diagonal}
-use Rattle.skew.specs.Run.{State, Full, Lowest, Alone, state_start, state_skip, state_pair, state_pass, state_witness, state_first}
+use Rattle.skew.specs.Exchange.{source, Index, exchanged_zero}
+use Rattle.skew.proofs.Exchange.{exchange_whole, exchange_inverse}
+use Rattle.skew.specs.Triangle.{mirror_above, mirror_diagonal}
+use Rattle.skew.proofs.Triangle.{mirror_skew}
+use Rattle.skew.specs.Run.{State, Full, Lowest, Alone}
+use Rattle.skew.proofs.Run.{state_start, state_skip, state_pair, state_pass, state_witness, state_first}
 use Rattle.skew.specs.Decide.{full_next}
-use Rattle.skew.specs.Kept.{Keeps, keeps_of}
+use Rattle.skew.specs.Kept.{Keeps}
+use Rattle.skew.proofs.Kept.{keeps_of}
 use Rattle.exchange.specs.declared.Outcome.{Outcome}
 use Rattle.exchange.specs.declared.Outcome.TheVariants as ended
 use Rattle.exchange.specs.declared.Outcome.TheVariants.{Column}

@@ -9,7 +9,7 @@ use Rattle.std.proofs.Math.ListN.{get_or-append}
 use Rattle.lists.specs.Onto.{onto_again, onto_front_same}
 use Rattle.modular.specs.Prime.{OddPrime}
 use Rattle.skew.specs.Subset.{Subset, ◌∈◌, ◌∉◌, Member, inside, outside, member?}
-use Rattle.skew.specs.Matching.{invertible_even}
+use Rattle.skew.proofs.Matching.{invertible_even}
 use Rattle.matching.specs.Decision.{Refusal, Every, At, Ruling, accepted, refused}
 use Rattle.matching.specs.Graph.{Graph, tutte, largest, InOrder}
 use Rattle.matching.specs.Pairs.{Pair, Pairs, sequence, unmatched}

@@ -13,8 +13,9 @@ use Rattle.skew.specs.Subset.{Subset, ◌∈◌, ◌∉◌, Member, inside, outs
 use Rattle.skew.specs.Inverse.{Invertible}
 use Rattle.skew.specs.Column.{Dependent, DependentRow, FirstDependent, witness_of_dependent}
 use Rattle.skew.specs.Same.{inverse_same}
-use Rattle.skew.specs.Decide.{witness_singular}
-use Rattle.skew.specs.Kept.{KeptRows, Basis, keep, row_dependent, dependent_row, basis_same}
+use Rattle.skew.proofs.Decide.{witness_singular}
+use Rattle.skew.specs.Kept.{KeptRows, Basis, basis_same}
+use Rattle.skew.proofs.Kept.{keep, row_dependent, dependent_row}
 use Rattle.matching.specs.Decision.{Every}
 use Rattle.matching.specs.Graph.{Graph, tutte}
 use Rattle.matching.specs.Pairs.{Pairs, unmatched}

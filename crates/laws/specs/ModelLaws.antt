@@ -12,7 +12,7 @@ use Rattle.modular.specs.Operations.{negative_plus}
 use Rattle.modular.specs.Prime.{OddPrime}
 use Rattle.skew.specs.Subset.{Subset, ◌∈◌, Without, swap, without, without_same, count, count_without}
 use Rattle.skew.specs.Same.{inverse_same}
-use Rattle.skew.specs.Matching.{pick_exists}
+use Rattle.skew.proofs.Matching.{pick_exists}
 use Rattle.matching.specs.Decision.{index, Refusal, because, First, nowhere, first_at, first?, both?, Ruling, accepted, refused, judge, Accepted, accepted?, Every, Lowest}
 use Rattle.matching.specs.Graph.{Graph, cell, upper, tutte, tutte_upper, tutte_lower, tutte_diagonal}
 use Rattle.matching.specs.Pairs.{Pair, pair_of, Pairs, unmatched, in?}

@@ -8,11 +8,13 @@ use Rattle.lists.specs.Table.{row_below, column_below, index_of, index_row, inde
 use Rattle.modular.specs.Prime.{OddPrime, below_equal, remainder}
 use Rattle.modular.specs.Congruence.{Congruent, equals, ◌⨾◌}
 use Rattle.skew.specs.Subset.{Subset, ◌∈◌, marked, marked_in, count, count_none, count_suc, count_equal}
-use Rattle.skew.specs.Matching.{invertible_even}
-use Rattle.skew.specs.Inverse.{Matrix, Inverse, Invertible, inverse_unique}
+use Rattle.skew.proofs.Matching.{invertible_even}
+use Rattle.skew.specs.Inverse.{Matrix, Inverse, Invertible}
+use Rattle.skew.proofs.Inverse.{inverse_unique}
 use Rattle.skew.specs.Column.{FirstDependent, Witness, witness_unique}
 use Rattle.skew.specs.Same.{inverse_same, witness_same, first_same}
-use Rattle.skew.specs.Decide.{Outcome, inverse, column, outcome, witness_singular, first_unique}
+use Rattle.skew.specs.Decide.{Outcome, inverse, column}
+use Rattle.skew.proofs.Decide.{outcome, witness_singular, first_unique}
 use Rattle.matching.specs.Decision.{Every, Ruling, accepted, refused}
 use Rattle.matching.specs.Edition.{Edition}
 use Rattle.matching.specs.Graph.{Graph, over, tutte}

@@ -7,8 +7,9 @@ use native.Mathlib.Omega.{arith}
 use Rattle.lists.specs.Onto.{onto}
 use Rattle.modular.specs.Prime.{OddPrime}
 use Rattle.skew.specs.Subset.{Subset}
-use Rattle.skew.specs.Decide.{Outcome, inverse, column, outcome, witness_singular}
-use Rattle.skew.specs.Matching.{invertible_even}
+use Rattle.skew.specs.Decide.{Outcome, inverse, column}
+use Rattle.skew.proofs.Decide.{outcome, witness_singular}
+use Rattle.skew.proofs.Matching.{invertible_even}
 use Rattle.matching.specs.Decision.{Refusal, Ruling, accepted, refused, judge}
 use Rattle.matching.specs.Edition.{Edition}
 use Rattle.matching.specs.Graph.{Graph, tutte}

@@ -10,8 +10,8 @@ use Rattle.std.proofs.Math.Seq.{get_or-append_seam}
 use Rattle.lists.specs.Choose.{choose}
 use Rattle.modular.specs.Prime.{OddPrime}
 use Rattle.skew.specs.Subset.{Subset, ◌∈◌, count}
-use Rattle.skew.specs.Decide.{witness_singular}
-use Rattle.skew.specs.Matching.{invertible_even}
+use Rattle.skew.proofs.Decide.{witness_singular}
+use Rattle.skew.proofs.Matching.{invertible_even}
 use Rattle.matching.specs.Decision.{place_number, Refusal, Every}
 use Rattle.matching.specs.Edition.{Edition}
 use Rattle.matching.specs.Graph.{Graph, tutte}

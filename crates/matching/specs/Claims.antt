@@ -9,8 +9,8 @@ use Rattle.draws.specs.Draws.{draws}
 use Rattle.residue.specs.Modulus.{modulus, modulus_prime}
 use Rattle.skew.specs.Subset.{Subset, Member, inside, outside, member?, clash, count}
 use Rattle.skew.specs.Column.{DependentRow}
-use Rattle.skew.specs.Kept.{dependent_row?}
-use Rattle.skew.specs.Decide.{first_dependent?}
+use Rattle.skew.proofs.Kept.{dependent_row?}
+use Rattle.skew.proofs.Decide.{first_dependent?}
 use Rattle.matching.specs.Decision.{Refusal, Ruling, both?, not?, iff?, map?, every?, accepted, refused}
 use Rattle.matching.specs.Edition.{first_edition}
 use Rattle.matching.specs.Graph.{Graph, over, pair_count, tutte}

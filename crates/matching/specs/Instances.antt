@@ -10,7 +10,7 @@ use Rattle.std.proofs.Math.Decide.{dec_lt}
 use Rattle.std.proofs.Math.ListN.{length}
 use Rattle.residue.specs.Modulus.{modulus, modulus_prime}
 use Rattle.skew.specs.Subset.{◌∈◌, count}
-use Rattle.skew.specs.Decide.{first_dependent?}
+use Rattle.skew.proofs.Decide.{first_dependent?}
 use Rattle.matching.specs.Decision.{Refusal, because, Every, At, accepted, every?, first?}
 use Rattle.matching.specs.Edition.{first_edition}
 use Rattle.matching.specs.Graph.{Graph, over, cell, tutte}

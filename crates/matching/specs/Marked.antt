@@ -2,7 +2,7 @@
 use Rattle.std.specs.Prelude.{refl, List, [], ◌∷◌}
 use Rattle.std.proofs.Math.Decide.{dec_lt}
 use Rattle.residue.specs.Modulus.{modulus_prime}
-use Rattle.skew.specs.Decide.{first_dependent?}
+use Rattle.skew.proofs.Decide.{first_dependent?}
 use Rattle.matching.specs.Decision.{because, every?, first?}
 use Rattle.matching.specs.Graph.{tutte}
 use Rattle.matching.specs.Pairs.{unmatched, pairs_on}

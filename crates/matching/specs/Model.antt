@@ -7,7 +7,7 @@ use Rattle.std.proofs.Math.Decide.{ℕ_discrete, dec_lt}
 use Rattle.modular.specs.Prime.{OddPrime}
 use Rattle.skew.specs.Subset.{Subset, ◌∈◌}
 use Rattle.skew.specs.Inverse.{Skew, Invertible}
-use Rattle.skew.specs.Decide.{invertible?}
+use Rattle.skew.proofs.Decide.{invertible?}
 use Rattle.matching.specs.Decision.{Refusal, because, both?, not?, First, nowhere, first_at, first?, when, Cause, Ruling, accepted, refused, judge, Accepted, accepted?, Every, Lowest}
 use Rattle.matching.specs.Graph.{Graph, tutte, tutte_skew}
 use Rattle.matching.specs.Pairs.{Pair, pair_of, Pairs, unmatched, in?}

@@ -4,7 +4,7 @@ use Rattle.std.proofs.Math.Decide.{dec_lt}
 use Rattle.draws.specs.Draws.{draws}
 use Rattle.residue.specs.Modulus.{modulus_prime}
 use Rattle.skew.specs.Subset.{marked, count}
-use Rattle.skew.specs.Decide.{first_dependent?}
+use Rattle.skew.proofs.Decide.{first_dependent?}
 use Rattle.matching.specs.Decision.{every?, first?}
 use Rattle.matching.specs.Graph.{over, tutte}
 use Rattle.matching.specs.Pairs.{everything, unmatched}

@@ -5,7 +5,7 @@ use Rattle.std.proofs.Math.Decide.{dec_lt}
 use Rattle.draws.specs.Draws.{next, draw, draws}
 use Rattle.residue.specs.Modulus.{modulus_prime}
 use Rattle.skew.specs.Subset.{count}
-use Rattle.skew.specs.Decide.{first_dependent?}
+use Rattle.skew.proofs.Decide.{first_dependent?}
 use Rattle.matching.specs.Decision.{faulty_cell, because, because_cell, every?, first?, accepted, refused}
 use Rattle.matching.specs.Graph.{Graph, over, tutte, fault}
 use Rattle.matching.specs.Pairs.{Pair, unmatched, sequence, pairs_on}

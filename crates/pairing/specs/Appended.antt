@@ -12,7 +12,7 @@ use Rattle.modular.specs.Reciprocal.{Reciprocal, reciprocal_unit}
 use Rattle.skew.specs.Subset.{Subset, Without}
 use Rattle.skew.specs.Inverse.{column}
 use Rattle.skew.specs.Update.{Update}
-use Rattle.skew.specs.Remove.{inverse_without}
+use Rattle.skew.proofs.Remove.{inverse_without}
 use Rattle.matching.specs.Graph.{Graph, tutte}
 use Rattle.matching.specs.Pairs.{Pair, pair_of}
 use Rattle.matching.specs.Session.{InverseTable}

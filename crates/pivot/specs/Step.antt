@@ -13,7 +13,8 @@ use Rattle.modular.specs.Reciprocal.{Reciprocal, reciprocal_unit}
 use Rattle.residue.specs.Modulus.{modulus, modulus_prime}
 use Rattle.skew.specs.Exchange.{Exchanged}
 use Rattle.skew.specs.Pivot.{cleared, keep_first, keep_second, keep_other, Bordered}
-use Rattle.skew.specs.Triangle.{mirror_above, mirror_skew, exchanged_above}
+use Rattle.skew.specs.Triangle.{mirror_above}
+use Rattle.skew.proofs.Triangle.{mirror_skew, exchanged_above}
 use Rattle.pivot.specs.Words.{limit, square, Words, Below, Small, matrix, place, place_above, place_below, place_within, place_other, residue, residue_above, residue_small, residue_matrix, scaled, plus_two}
 
 -- the entries of column c with the indices before m are 0, and nothing else is changed

@@ -2,7 +2,8 @@
 use Rattle.std.specs.Prelude.{◌≡◌, ◌≢◌, List, ℕ, ◌+◌, ◌*◌, ◌%◌, ◌≤◌, ◌<◌, length, get_or}
 use Rattle.std.proofs.Common.{sym, ◌∙◌, mod-lt, arith, lit<}
 use Rattle.std.proofs.Math.Decide.{dec_lt}
-use Rattle.lists.specs.Written.{Written, written_at}
+use Rattle.lists.specs.Written.{Written}
+use Rattle.lists.proofs.Written.{written_at}
 use Rattle.lists.specs.Table.{table, same_place, index_below}
 use Rattle.lists.specs.Choose.{choose, choose_yes, choose_no}
 use Rattle.modular.specs.Congruence.{Congruent, ◌⊖◌, linear}

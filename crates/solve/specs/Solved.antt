@@ -17,7 +17,8 @@ use Rattle.skew.specs.Same.{inverse_same, witness_same, first_same}
 use Rattle.skew.specs.Exchange.{select, Index}
 use Rattle.skew.specs.Run.{Full}
 use Rattle.skew.specs.Kept.{Keeps, keeps_same}
-use Rattle.skew.specs.Triangle.{mirror_above, mirror_skew, by_triangle}
+use Rattle.skew.specs.Triangle.{mirror_above, by_triangle}
+use Rattle.skew.proofs.Triangle.{mirror_skew}
 use Rattle.matching.specs.Graph.{Graph, tutte, tutte_upper, weight, upper}
 use Rattle.matching.specs.Session.{InverseTable}
 use Rattle.matching.specs.Model.{skew}

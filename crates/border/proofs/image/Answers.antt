@@ -4,7 +4,8 @@ use mathlib.Core.Path.{◌≡◌, sym, ap, ◌∙◌}
 use Prim.Native.Nat.{◌+◌, ◌*◌, ◌-◌, ◌%◌}
 use native.Mathlib.Omega.{arith}
 use lib.ListN.{length, take, drop}
-use Rattle.lists.specs.Written.{written_start, written_more, written_all}
+use Rattle.lists.specs.Written.{written_start, written_all}
+use Rattle.lists.proofs.Written.{written_more}
 use Rattle.lists.specs.Part.{part_length}
 use Rattle.lists.specs.Table.{RowRoom, row_room}
 use Rattle.residue.specs.Modulus.{modulus}

@@ -4,7 +4,8 @@ use Prim.Native.Nat.{◌-◌}
 use native.Mathlib.Omega.{arith}
 use lib.ListN.{length}
 use Rattle.lists.specs.Values.{list_of_values}
-use Rattle.lists.specs.Written.{Written, written_start, written_more, written_all}
+use Rattle.lists.specs.Written.{Written, written_start, written_all}
+use Rattle.lists.proofs.Written.{written_more}
 use Rattle.lists.specs.Table.{vector}
 use borrow.Author.Rules.{rules}
 use Rattle.buffers.proofs.copy_bytes.Given as goal

@@ -3,7 +3,8 @@ use mathlib.Core.Path.{◌≡◌, refl, ◌∙◌}
 use Prim.Native.Nat.{◌-◌, ◌≤◌}
 use native.Mathlib.Omega.{arith}
 use Rattle.lists.specs.Values.{list_of_constant}
-use Rattle.lists.specs.Written.{Written, written_start, written_more}
+use Rattle.lists.specs.Written.{Written, written_start}
+use Rattle.lists.proofs.Written.{written_more}
 use Rattle.buffers.proofs.fill_bytes.Goals as goal
 
 pub loop-i-init : goal.loop-i-init

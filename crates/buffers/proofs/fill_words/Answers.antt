@@ -4,7 +4,8 @@ use Prim.Native.Nat.{◌-◌, ◌≤◌}
 use native.Mathlib.Omega.{arith}
 use borrow.Author.Rules.{rules}
 use Rattle.lists.specs.Values.{list_of_constant}
-use Rattle.lists.specs.Written.{Written, written_start, written_more}
+use Rattle.lists.specs.Written.{Written, written_start}
+use Rattle.lists.proofs.Written.{written_more}
 use Rattle.buffers.proofs.fill_words.Goals as goal
 
 pub loop-i-init : goal.loop-i-init

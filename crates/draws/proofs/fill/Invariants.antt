@@ -1,6 +1,7 @@
 -- `draws::fill` meets its contract: the state is that after i steps, and the first i words are the first i draws. Assumes nothing.
 use Rattle.std.proofs.Common.{◌≡◌, ℕ, ◌+◌, ◌-◌, List, length, sym, refl, ap, ◌∙◌, arith, rules}
-use Rattle.lists.specs.Written.{Written, written_start, written_more, written_all}
+use Rattle.lists.specs.Written.{Written, written_start, written_all}
+use Rattle.lists.proofs.Written.{written_more}
 use Rattle.draws.specs.Draws.{next, draw, roll_after}
 use Rattle.draws.specs.Laws.{roll_after_more, draws_values}
 use Rattle.draws.proofs.fill.Given as goal

@@ -5,7 +5,8 @@ use native.Mathlib.Omega.{arith}
 use lib.ListN.{length, get_or, length-set}
 use borrow.Author.Rules.{rules}
 use Rattle.lists.specs.Values.{list_of_values}
-use Rattle.lists.specs.Written.{written_start, written_more}
+use Rattle.lists.specs.Written.{written_start}
+use Rattle.lists.proofs.Written.{written_more}
 use Rattle.matching.specs.Host.{bytes_of}
 use Rattle.laws.specs.Words.{bytes_length, bytes_low, bytes_high}
 use Rattle.packing.proofs.pack.Goals as goal

@@ -3,7 +3,8 @@ use mathlib.Core.Path.{sym, ◌∙◌}
 use native.Mathlib.Omega.{arith}
 use lib.ListN.{length}
 use Rattle.lists.specs.Values.{list_of_front}
-use Rattle.lists.specs.Written.{written_start, written_more, written_all}
+use Rattle.lists.specs.Written.{written_start, written_all}
+use Rattle.lists.proofs.Written.{written_more}
 use Rattle.matching.specs.Host.{words}
 use Rattle.laws.specs.Words.{words_length, words_at_two}
 use Rattle.packing.proofs.unpack.Goals as goal

@@ -2,7 +2,8 @@
 use mathlib.Core.Path.{refl}
 use native.Mathlib.Omega.{arith}
 use Rattle.lists.specs.Table.{index_small}
-use Rattle.lists.specs.Written.{written_start, written_more, written_all}
+use Rattle.lists.specs.Written.{written_start, written_all}
+use Rattle.lists.proofs.Written.{written_more}
 use Rattle.pairing.proofs.column.Goals as goal
 
 pub loop-k-init : goal.loop-k-init

@@ -3,7 +3,8 @@
 use mathlib.Core.Path.{refl, ap, ◌∙◌}
 use native.Mathlib.Omega.{arith}
 use lib.ListN.{length-set}
-use Rattle.lists.specs.Written.{written_start, written_more, written_all}
+use Rattle.lists.specs.Written.{written_start, written_all}
+use Rattle.lists.proofs.Written.{written_more}
 use Rattle.matching.specs.Calls.{bit_of}
 use Rattle.partners.proofs.show.Goals as goal
 

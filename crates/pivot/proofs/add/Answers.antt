@@ -5,7 +5,8 @@ use Prim.Native.Nat.{ℕ, ◌+◌, ◌*◌, ◌%◌, ◌<◌}
 use native.Mathlib.Nat.{le_refl}
 use native.Mathlib.Omega.{arith}
 use lib.ListN.{get_or}
-use Rattle.lists.specs.Written.{written_start, written_more, written_rest}
+use Rattle.lists.specs.Written.{written_start}
+use Rattle.lists.proofs.Written.{written_more, written_rest}
 use Rattle.modular.specs.Product.{product_below}
 use Rattle.residue.specs.Modulus.{modulus}
 use Rattle.pivot.specs.Words.{limit, words_written}

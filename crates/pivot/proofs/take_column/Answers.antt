@@ -3,7 +3,8 @@
 use mathlib.Core.Path.{◌≡◌, ◌∙◌, ap}
 use native.Mathlib.Nat.{le_refl}
 use native.Mathlib.Omega.{arith}
-use Rattle.lists.specs.Written.{written_start, written_more}
+use Rattle.lists.specs.Written.{written_start}
+use Rattle.lists.proofs.Written.{written_more}
 use Rattle.pivot.specs.Words.{residue, words_written}
 use Rattle.pivot.specs.Step.{taken_start, taken_ahead, taken_next}
 use borrow.Author.Rules.{rules}

@@ -2,7 +2,8 @@
 -- Assumes nothing.
 use mathlib.Core.Path.{◌∙◌}
 use native.Mathlib.Omega.{arith}
-use Rattle.lists.specs.Written.{written_start, written_more, written_all}
+use Rattle.lists.specs.Written.{written_start, written_all}
+use Rattle.lists.proofs.Written.{written_more}
 use Rattle.solve.proofs.write_witness.Goals as goal
 
 pub loop-k-init : goal.loop-k-init

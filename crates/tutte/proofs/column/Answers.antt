@@ -1,7 +1,8 @@
 -- `tutte::column` meets its contract. The invariant of its loop: the first k words are those of the column, the others as they came.
 -- Assumes nothing.
 use native.Mathlib.Omega.{arith}
-use Rattle.lists.specs.Written.{written_start, written_more, written_all}
+use Rattle.lists.specs.Written.{written_start, written_all}
+use Rattle.lists.proofs.Written.{written_more}
 use Rattle.tutte.proofs.column.Goals as goal
 
 pub loop-k-init : goal.loop-k-init

@@ -2,7 +2,8 @@
 use mathlib.Core.Path.{ap, ◌∙◌}
 use native.Mathlib.Omega.{arith}
 use Rattle.lists.specs.Table.{vector}
-use Rattle.lists.specs.Written.{written_start, written_more, written_all, written_rest}
+use Rattle.lists.specs.Written.{written_start, written_all}
+use Rattle.lists.proofs.Written.{written_more, written_rest}
 use Rattle.residue.specs.Modulus.{modulus}
 use Rattle.update.specs.Rows.{combined}
 use Rattle.update.proofs.combine_row.Goals as goal

@@ -1,6 +1,7 @@
 -- `update::multiples` meets its contract: the words before j are multiplied and reduced. Assumes nothing.
 use native.Mathlib.Omega.{arith}
-use Rattle.lists.specs.Written.{written_start, written_more, written_all}
+use Rattle.lists.specs.Written.{written_start, written_all}
+use Rattle.lists.proofs.Written.{written_more}
 use Rattle.update.proofs.multiples.Goals as goal
 
 pub loop-j-init : goal.loop-j-init

@@ -1,0 +1,11 @@
+pub mod Inverse
+pub mod Remove
+pub mod Add
+pub mod Exchange
+pub mod Pivot
+pub mod Triangle
+pub mod Order
+pub mod Run
+pub mod Decide
+pub mod Kept
+pub mod Matching
