@@ -58,11 +58,11 @@ pub fn begin(
     witness: &mut [u16],
     work: &mut [u16],
 ) -> Opening
-    ensures fact { let lent = buffers inverse.old sequence.old witness.old work.old in
+    ensures opens { let lent = buffers inverse.old sequence.old witness.old work.old in
         let g = over n adjacency.now weights.now in
         let after = buffers inverse.new sequence.new witness.new work.new in
         Opens modulus g (players n lent) lent (opening_of result) after }
-    ensures fact_2 { let lent = buffers inverse.old sequence.old witness.old work.old in
+    ensures exactly { let lent = buffers inverse.old sequence.old witness.old work.old in
         let g = over n adjacency.now weights.now in
         OpenedExactly modulus g (players n lent) lent (opening_of result) }
 {

@@ -120,10 +120,10 @@ pub fn begin(
     witness: &mut [u8],
     work: &mut [u8],
 ) -> u64
-    ensures fact { let lent = buffers inverse.old sequence.old witness.old work.old in
+    ensures opens { let lent = buffers inverse.old sequence.old witness.old work.old in
         let after = buffers inverse.new sequence.new witness.new work.new in
         HostOpens first_edition n adjacency.now weights.now lent result after }
-    ensures fact_2 { let lent = buffers inverse.old sequence.old witness.old work.old in
+    ensures exactly { let lent = buffers inverse.old sequence.old witness.old work.old in
         HostOpenedExactly first_edition n adjacency.now weights.now lent result }
 {
     let ruling = checks::judge_room(

@@ -23,7 +23,7 @@ returns-in-Refused c =
     let b = buffers a.inverse.now a.sequence.now a.witness.now a.work.now in
     let o : Opens modulus g everything b _ b =
     refuses_opening _ (sym c.in-Refused.ensures) in
-    record { fact = o; fact_2 = opened_exactly modulus_prime g everything o }
+    record { opens = o; exactly = opened_exactly modulus_prime g everything o }
 
 pub overflow_mul-cells : goal.overflow_mul-cells
 overflow_mul-cells c =
@@ -61,10 +61,10 @@ pub returns-in-Inverse : goal.returns-in-Inverse
 returns-in-Inverse c =
     let accepts : (let a = c.args in ruling modulus (over a.n a.adjacency.now a.weights.now) (buffers a.inverse.now a.sequence.now a.witness.now a.work.now) ≡ accepted) = sym c.in_default.ensures in
     let o = begun_whole c.in-Inverse.ensures (refl, c.fill_words-in-Inverse.ensures) c.fill_words.ensures accepts in
-    record { fact = o; fact_2 = opened_exactly modulus_prime _ everything o }
+    record { opens = o; exactly = opened_exactly modulus_prime _ everything o }
 
 pub returns-in-Column : goal.returns-in-Column
 returns-in-Column c =
     let accepts : (let a = c.args in ruling modulus (over a.n a.adjacency.now a.weights.now) (buffers a.inverse.now a.sequence.now a.witness.now a.work.now) ≡ accepted) = sym c.in_default.ensures in
     let o = begun_whole c.in-Column.ensures (c.fill_words-in-Column.ensures, refl) c.fill_words.ensures accepts in
-    record { fact = o; fact_2 = opened_exactly modulus_prime _ everything o }
+    record { opens = o; exactly = opened_exactly modulus_prime _ everything o }
