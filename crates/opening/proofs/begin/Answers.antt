@@ -17,8 +17,7 @@ returns-in-Refused c =
     let a = c.args in
     let g = over a.n a.adjacency.now a.weights.now in
     let b = buffers a.inverse.now a.sequence.now a.witness.now a.work.now in
-    let o : Opens modulus g everything b _ b =
-    refuses_opening _ (sym c.in-Refused.ensures) in
+    let o : Opens modulus g everything b _ b = refuses_opening _ (sym c.in-Refused.ensures) in
     record { opens = o; exactly = opened_exactly modulus_prime g everything o }
 
 pub overflow_mul-cells : goal.overflow_mul-cells
@@ -45,13 +44,11 @@ fill_words-requires-in-Column c =
 -- the inverse is found and the witness cleared
 pub returns-in-Inverse : goal.returns-in-Inverse
 returns-in-Inverse c =
-    let accepts : (let a = c.args in ruling modulus (over a.n a.adjacency.now a.weights.now) (buffers a.inverse.now a.sequence.now a.witness.now a.work.now) ≡ accepted) = sym c.in_default.ensures in
-    let o = begun_whole c.in-Inverse.ensures (refl, c.fill_words-in-Inverse.ensures) c.fill_words.ensures accepts in
+    let o = begun_whole c.in-Inverse.ensures (refl, c.fill_words-in-Inverse.ensures) c.fill_words.ensures (sym c.in_default.ensures) in
     record { opens = o; exactly = opened_exactly modulus_prime _ everything o }
 
 -- the witness is found and the inverse cleared
 pub returns-in-Column : goal.returns-in-Column
 returns-in-Column c =
-    let accepts : (let a = c.args in ruling modulus (over a.n a.adjacency.now a.weights.now) (buffers a.inverse.now a.sequence.now a.witness.now a.work.now) ≡ accepted) = sym c.in_default.ensures in
-    let o = begun_whole c.in-Column.ensures (c.fill_words-in-Column.ensures, refl) c.fill_words.ensures accepts in
+    let o = begun_whole c.in-Column.ensures (c.fill_words-in-Column.ensures, refl) c.fill_words.ensures (sym c.in_default.ensures) in
     record { opens = o; exactly = opened_exactly modulus_prime _ everything o }

@@ -1,0 +1,28 @@
+-- `listing::list` meets its contract: the lines of the first `input_limit` bytes, from the start of the buffer. Assumes nothing.
+use mathlib.Core.Path.{sym}
+use native.Mathlib.Omega.{arith}
+use borrow.Author.Rules.{rules}
+use lib.Seq.{length-take-le, take_all}
+use Rattle.matching.specs.Listing.{input_limit, lacks_text_room}
+use Rattle.listing.specs.Sheets.{writes_into}
+use Rattle.listing.proofs.list.Goals as goal
+
+pub returns-then-text-lt2048 : goal.returns-then-text-lt2048
+returns-then-text-lt2048 c = lacks_text_room c.if-text-lt2048.true
+
+pub returns-then-input-lt16384 : goal.returns-then-input-lt16384
+returns-then-input-lt16384 c =
+    let at = c in
+    let start = at in
+    writes_into at.if-text-lt2048.false (rw (take_all input_limit start.args.input.now (omega (arith, at.if-input-lt16384.true))) at.write_lines.ensures)
+
+pub slice_bounds-write_lines-end : goal.slice_bounds-write_lines-end
+slice_bounds-write_lines-end c = sym (length-take-le input_limit c.args.input.now c.if-input-lt16384.false)
+
+pub write_lines-requires-2 : goal.write_lines-requires-2
+write_lines-requires-2 c =
+    let start = c in
+    (omega (arith, length-take-le input_limit start.args.input.now c.if-input-lt16384.false), c.if-text-lt2048.false)
+
+pub returns : goal.returns
+returns c = let at = c in writes_into at.if-text-lt2048.false at.write_lines-2.ensures
