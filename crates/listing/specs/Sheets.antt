@@ -7,7 +7,7 @@ use Rattle.matching.specs.Decision.{Refusal}
 use Rattle.matching.specs.Edition.{first_edition}
 use Rattle.matching.specs.Graph.{over, largest}
 use Rattle.matching.specs.Pairs.{Pair}
-use Rattle.matching.specs.Filling.{cells, graph, graph_read, not_read, lacks_room, fills}
+use Rattle.matching.specs.Filling.{cells, graph, graph_read, not_read, Filled, lacks_room, fills}
 use Rattle.matching.specs.Records.{sheet, ReadsAs, Fills, refuses_records, reads_records}
 use Rattle.matching.specs.Listing as definition
 use Rattle.matching.specs.Listing.{input_limit, text_room, refused_line, Lists, refuses_sheet, lists_sheet, ListsInto, lists_into}
@@ -47,17 +47,22 @@ sheet_lists {drawn = drawn} {n = n} {edges = edges} R A input e =
 
 pub sheet_read : {bytes adjacency weights adjacency' weights' : List ℕ} {n m : ℕ} → Fills first_edition bytes adjacency weights (graph_read n m) adjacency' weights'
     → Sheet bytes n m adjacency' weights'
-sheet_read {bytes} {adjacency} {weights} {n = n} {m = m} (reads_records {drawn = drawn} {edges = edges} R (fills e)) =
-    let F = reads_fit R refl tt in
-    let a : take (n * n) (onto (cells n edges) adjacency) ≡ cells n edges = onto_front (cells n edges) adjacency (n * n) (cells_length n edges) in
-    let w : take (needed n) (onto drawn weights) ≡ drawn = onto_front drawn weights (needed n) (drawn_needed F) in
-    let k = rw (onto_nothing (cells n edges), onto_nothing drawn) at (graph_in_order F [] []) in
-    record {
-      small = F.small;
-      few_edges = few_edges n edges F.small F.edges_fit F.different;
-      lent = rw (a, w) (record { in_order = k.1; long = k.0 });
-      lists = λ G. sheet_lists R (rw (a, w) at G);
-    }
+sheet_read (reads_records R F) = filled R F
+  where
+    filled : {bytes adjacency weights drawn : List ℕ} {edges : List Pair} {size n m : ℕ} {adjacency' weights' : List ℕ}
+        → ReadsAs first_edition bytes (sheet size drawn edges) → Filled size drawn edges adjacency weights (graph_read n m) adjacency' weights'
+        → Sheet bytes n m adjacency' weights'
+    filled {adjacency = adjacency} {weights = weights} {drawn = drawn} {edges = edges} {size = n} R (fills e) =
+        let F = reads_fit R refl tt in
+        let a : take (n * n) (onto (cells n edges) adjacency) ≡ cells n edges = onto_front (cells n edges) adjacency (n * n) (cells_length n edges) in
+        let w : take (needed n) (onto drawn weights) ≡ drawn = onto_front drawn weights (needed n) (drawn_needed F) in
+        let k = rw (onto_nothing (cells n edges), onto_nothing drawn) at (graph_in_order F [] []) in
+        record {
+          small = F.small;
+          few_edges = few_edges n edges F.small F.edges_fit F.different;
+          lent = rw (a, w) (record { in_order = k.1; long = k.0 });
+          lists = λ G. sheet_lists R (rw (a, w) at G);
+        }
 
 -- with tables for the largest graph, a sheet is refused only for its records
 pub sheet_refused : {bytes adjacency weights adjacency' weights' : List ℕ} {why : Refusal} → length adjacency ≡ 9216 → length weights ≡ 4560

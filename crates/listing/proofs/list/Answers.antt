@@ -1,7 +1,6 @@
 -- `listing::list` meets its contract: the lines of the first `input_limit` bytes, from the start of the buffer. Assumes nothing.
 use mathlib.Core.Path.{sym}
 use native.Mathlib.Omega.{arith}
-use borrow.Author.Rules.{rules}
 use lib.Seq.{length-take-le, take_all}
 use Rattle.matching.specs.Listing.{input_limit, lacks_text_room}
 use Rattle.listing.specs.Sheets.{writes_into}
