@@ -1,0 +1,31 @@
+-- `opening_bytes::begin` meets its contract: a refusal for the size or the lengths writes nothing, and else words are lent.
+-- Assumes nothing.
+use Rattle.matching.specs.Edition.{first_edition}
+use Rattle.matching.specs.Host.{HostOpens}
+use Rattle.laws.specs.OpeningOutcome.{host_opened_exactly}
+use Rattle.opening.specs.Meaning.{buffers}
+use Rattle.opening_bytes.specs.Opened.{room_refused, room_accepted, host_refuses, refusal_small}
+use Rattle.opening_bytes.proofs.begin.Goals as goal
+
+pub refused-requires : goal.refused-requires
+refused-requires c =
+    let a = c.args in
+    let host = buffers a.inverse.now a.sequence.now a.witness.now a.work.now in
+    refusal_small a.n a.adjacency.now a.weights.now host (room_refused a.n a.adjacency.now a.weights.now host c.in-Refused.ensures)
+
+pub returns-in-Refused : goal.returns-in-Refused
+returns-in-Refused c =
+    let a = c.args in
+    let host = buffers a.inverse.now a.sequence.now a.witness.now a.work.now in
+    let o : HostOpens first_edition a.n a.adjacency.now a.weights.now host c.refused.result host =
+    rw c.refused.ensures (host_refuses a.n a.adjacency.now a.weights.now host (room_refused a.n a.adjacency.now a.weights.now host c.in-Refused.ensures)) in
+    record { fact = o; fact_2 = host_opened_exactly first_edition o }
+
+pub open_words-requires : goal.open_words-requires
+open_words-requires c =
+    let a = c.args in
+    let host = buffers a.inverse.now a.sequence.now a.witness.now a.work.now in
+    room_accepted a.n a.adjacency.now a.weights.now host (rw c.in_default.is at c.judge_room-ruling.ensures)
+
+pub returns : goal.returns
+returns c = record { fact = c.open_words.ensures; fact_2 = host_opened_exactly first_edition c.open_words.ensures }
