@@ -19,7 +19,7 @@ returns-in-Refused c =
     let host = buffers a.inverse.now a.sequence.now a.witness.now a.work.now in
     let o : HostOpens first_edition a.n a.adjacency.now a.weights.now host c.refused.result host =
     rw c.refused.ensures (host_refuses a.n a.adjacency.now a.weights.now host (room_refused a.n a.adjacency.now a.weights.now host c.in-Refused.ensures)) in
-    record { fact = o; fact_2 = host_opened_exactly first_edition o }
+    record { opens = o; exactly = host_opened_exactly first_edition o }
 
 pub open_words-requires : goal.open_words-requires
 open_words-requires c =
@@ -28,4 +28,4 @@ open_words-requires c =
     room_accepted a.n a.adjacency.now a.weights.now host (rw c.in_default.is at c.judge_room-ruling.ensures)
 
 pub returns : goal.returns
-returns c = record { fact = c.open_words.ensures; fact_2 = host_opened_exactly first_edition c.open_words.ensures }
+returns c = record { opens = c.open_words.ensures; exactly = host_opened_exactly first_edition c.open_words.ensures }

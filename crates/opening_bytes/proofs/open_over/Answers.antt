@@ -28,7 +28,7 @@ pack-requires c =
     record {
       n_in_bounds = (omega (arith, kept.inverse, L.cells), omega (arith, kept.witness, L.vertices), omega (arith, kept.work, L.spare_cells));
       n_in_bounds_2 = (inverse_fits a.n a.adjacency.now a.weights.now host F, witness_fits a.n a.adjacency.now a.weights.now host F, work_fits a.n a.adjacency.now a.weights.now host F);
-      opening_number_fits = opening_number_fits (rw values at c.begin-opened.ensures.fact);
+      opening_number_fits = opening_number_fits (rw values at c.begin-opened.ensures.opens);
     }
 
 pub returns : goal.returns
@@ -37,4 +37,4 @@ returns c =
     let host = buffers a.inverse.now a.sequence.now a.witness.now a.work.now in
     let values : c.unpack.new.target ≡ needed_weights a.n a.weights.now = c.unpack.ensures ∙ ap (λ (k : ℕ). take k (words 2 a.weights.now)) c.requires.lends.counted in
     rw (c.pack.ensures.value, c.pack.ensures.by_index c.begin-opened.new.sequence a.sequence.now)
-    (host_opens a.n a.adjacency.now a.weights.now host c.requires.host_opening_fits c.requires.lends (search rules) (search rules) (search rules) (rw values at c.begin-opened.ensures.fact))
+    (host_opens a.n a.adjacency.now a.weights.now host c.requires.host_opening_fits c.requires.lends (search rules) (search rules) (search rules) (rw values at c.begin-opened.ensures.opens))
