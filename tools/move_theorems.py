@@ -227,6 +227,11 @@ def move(crate, file, to, moved, said):
         if not goes(it) and it.kind != "short" and it.private() and cites(it.names, cited):
             it.lines = [re.sub(r"^(\s*)(abbrev |unfoldable |)", r"\1\2pub ", l) if DECL.match(l.strip()) and i == 0 else l for i, l in enumerate(it.lines)]
             said.append(f"{crate}: specs/{file}: {' '.join(it.names)} becomes pub")
+    opened = {n for it in going for l in it.lines if l.strip().startswith("unfolding ") for n in l.split()[1:]}
+    for it in every:
+        if not goes(it) and set(it.names) & opened and not re.match(r"\s*(abbrev|unfoldable)\b", it.lines[0]):
+            it.lines[0] = re.sub(r"^(\s*)", r"\1unfoldable ", it.lines[0])
+            said.append(f"{crate}: specs/{file}: {' '.join(it.names)} becomes unfoldable")
     shown = lambda wanted: "\n\n".join(t for t in (it.show(wanted) for it in items) if t)
     old = shown(lambda it: not goes(it) and (it.kind != "short" or id(it) in left))
     arguments(items, [])
@@ -244,7 +249,11 @@ def move(crate, file, to, moved, said):
     else:
         h, body = [f"-- Theorems on what specs/{file}.antt defines."] if old else head, new
     write(proof, "\n".join(h + use_lines(mine, body)) + "\n\n" + body + "\n")
-    write(spec, "\n".join(head + use_lines(all_uses, old)) + ("\n\n" + old if old else "") + "\n")
+    if old:
+        write(spec, "\n".join(head + use_lines(all_uses, old)) + "\n\n" + old + "\n")
+    else:
+        os.remove(spec)
+        write(f"crates/{crate}/specs/Lib.antt", read(f"crates/{crate}/specs/Lib.antt").replace(f"pub mod {file}\n", ""))
     lib = f"crates/{crate}/proofs/Lib.antt"
     text = read(lib) if os.path.exists(lib) else ""
     if f"mod {to}\n" not in text:
