@@ -1,15 +1,14 @@
 -- Theorems on what specs/Add.antt defines.
-use Rattle.std.specs.Prelude.{◌≡◌, ◌↔◌, ℕ, ◌+◌, ◌*◌, ◌<◌}
+use Rattle.std.specs.Prelude.{◌≡◌, ℕ, ◌+◌, ◌*◌, ◌<◌}
 use Rattle.std.proofs.Common.{sym, ◌∙◌, arith}
 use Rattle.std.proofs.Math.Decide.{ℕ_discrete}
 use Rattle.modular.specs.Congruence.{Congruent, equals, ◌⨾◌, ◌⊕◌, ◌⊖◌, ◌⊛◌, linear, halve}
 use Rattle.modular.specs.Sum.{sum_add, sum_congruent, sum_vanish}
-use Rattle.modular.specs.Prime.{Odd, OddPrime, one_not_zero}
-use Rattle.modular.proofs.Reciprocal.{unit}
+use Rattle.modular.specs.Prime.{Odd}
 use Rattle.skew.specs.Subset.{Subset, ◌∈◌, ◌∉◌, Without, swap, Place, at_a, at_b, elsewhere, place, smaller, not_first}
-use Rattle.skew.specs.Inverse.{Matrix, Vector, column, delta, delta_same, delta_other, apply, apply_linear, apply_apply, apply_congruent, form, Supported, ZeroOn, sum_delta, apply_delta, Skew, Inverse, Invertible, inverse_reads, form_reads, form_zero}
+use Rattle.skew.specs.Inverse.{Matrix, Vector, column, delta, delta_same, delta_other, apply, apply_linear, apply_apply, apply_congruent, form, Supported, ZeroOn, sum_delta, apply_delta, Skew, Inverse, inverse_reads, form_reads, form_zero}
 use Rattle.skew.proofs.Inverse.{form_skew, kernel_zero, inverse_skew}
-use Rattle.skew.specs.Update.{Update, updated, update_skew, update_zero, apply_update}
+use Rattle.skew.specs.Update.{Update, update_skew, update_zero, apply_update}
 use Rattle.skew.specs.Add.{Border}
 
 module _ (p n : ℕ) (A : Matrix) (O : Odd p) (S : Skew p n A) where

@@ -1,13 +1,12 @@
 -- Theorems on what specs/Remove.antt defines.
 use Rattle.std.proofs.Common.{sym, ap, ◌∙◌, arith}
-use Rattle.std.specs.Prelude.{◌↔◌, ℕ, ◌+◌, ◌*◌, ◌<◌}
+use Rattle.std.specs.Prelude.{ℕ, ◌+◌, ◌*◌, ◌<◌}
 use Rattle.modular.specs.Congruence.{Congruent, ◌⨾◌, ◌⊕◌, ◌⊖◌, ◌⊛◌, linear}
-use Rattle.modular.specs.Prime.{Odd, OddPrime, one_not_zero}
-use Rattle.modular.proofs.Reciprocal.{unit}
+use Rattle.modular.specs.Prime.{Odd}
 use Rattle.skew.specs.Subset.{Subset, ◌∈◌, ◌∉◌, Without, Place, at_a, at_b, elsewhere, place, larger, clash}
-use Rattle.skew.specs.Inverse.{Matrix, column, apply, Supported, ZeroOn, Skew, Inverse, Invertible, apply_zero, skew_diagonal}
+use Rattle.skew.specs.Inverse.{Matrix, column, apply, Supported, ZeroOn, Skew, Inverse, apply_zero, skew_diagonal}
 use Rattle.skew.proofs.Inverse.{kernel_zero, inverse_skew}
-use Rattle.skew.specs.Update.{Update, updated, update_skew, update_zero, apply_update}
+use Rattle.skew.specs.Update.{Update, update_skew, update_zero, apply_update}
 use Rattle.skew.specs.Remove.{Eliminated}
 
 module _ (p n : ℕ) (A : Matrix) (O : Odd p) (S : Skew p n A) {L M : Subset} {a b : ℕ} (s : Without L a b M) (ha : a < n) (hb : b < n)
