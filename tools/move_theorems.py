@@ -1,9 +1,9 @@
 #!/usr/bin/env python3
-"""Moves theorems from specs/F.antt to proofs/F.antt of their crate, and rewrites what cites them in the whole repository.
+"""Moves theorems from specs/F.antt to proofs/ of their crate, and rewrites what cites them in the whole repository.
 
 usage: python3 tools/move_theorems.py        at the top of the repository; a second run, after a merge, moves what is new and mends what cites it
 
-tools/theorems.txt says what moves: lines `CRATE F: NAME NAME ..`. A theorem in a `module _` takes the head of the module with it, and what is
+tools/theorems.txt says what moves: lines `CRATE F: NAME NAME ..`, or `CRATE F G: NAME ..` where they go to proofs/G.antt. A theorem in a `module _` takes the head of the module with it, and what is
 private there and only says things shorter (infix, abbrev) stands in both files. Statements and proofs stay as they are, but for the arguments
 that a name of the module takes outside it. A name that stays in specs/ and is private becomes pub where a theorem that moves cites it.
 """
@@ -188,8 +188,8 @@ def with_arguments(item, names, moved, inside):
     item.lines = lines
 
 
-def move(crate, file, moved, said):
-    spec, proof = f"crates/{crate}/specs/{file}.antt", f"crates/{crate}/proofs/{file}.antt"
+def move(crate, file, to, moved, said):
+    spec, proof = f"crates/{crate}/specs/{file}.antt", f"crates/{crate}/proofs/{to}.antt"
     head, uses, items = split_file(read(spec))
     every = [it for top in items for it in top.walk()]
     going = [it for it in every if set(it.names) & moved]
@@ -227,6 +227,11 @@ def move(crate, file, moved, said):
         if not goes(it) and it.kind != "short" and it.private() and cites(it.names, cited):
             it.lines = [re.sub(r"^(\s*)(abbrev |unfoldable |)", r"\1\2pub ", l) if DECL.match(l.strip()) and i == 0 else l for i, l in enumerate(it.lines)]
             said.append(f"{crate}: specs/{file}: {' '.join(it.names)} becomes pub")
+    opened = {n for it in going for l in it.lines if l.strip().startswith("unfolding ") for n in l.split()[1:]}
+    for it in every:
+        if not goes(it) and set(it.names) & opened and not re.match(r"\s*(abbrev|unfoldable)\b", it.lines[0]):
+            it.lines[0] = re.sub(r"^(\s*)", r"\1unfoldable ", it.lines[0])
+            said.append(f"{crate}: specs/{file}: {' '.join(it.names)} becomes unfoldable")
     shown = lambda wanted: "\n\n".join(t for t in (it.show(wanted) for it in items) if t)
     old = shown(lambda it: not goes(it) and (it.kind != "short" or id(it) in left))
     arguments(items, [])
@@ -244,12 +249,16 @@ def move(crate, file, moved, said):
     else:
         h, body = [f"-- Theorems on what specs/{file}.antt defines."] if old else head, new
     write(proof, "\n".join(h + use_lines(mine, body)) + "\n\n" + body + "\n")
-    write(spec, "\n".join(head + use_lines(all_uses, old)) + ("\n\n" + old if old else "") + "\n")
+    if old:
+        write(spec, "\n".join(head + use_lines(all_uses, old)) + "\n\n" + old + "\n")
+    else:
+        os.remove(spec)
+        write(f"crates/{crate}/specs/Lib.antt", read(f"crates/{crate}/specs/Lib.antt").replace(f"pub mod {file}\n", ""))
     lib = f"crates/{crate}/proofs/Lib.antt"
     text = read(lib) if os.path.exists(lib) else ""
-    if f"mod {file}\n" not in text:
-        write(lib, text + f"pub mod {file}\n")
-    said.append(f"{crate}: {len(going)} declarations of specs/{file}.antt")
+    if f"mod {to}\n" not in text:
+        write(lib, text + f"pub mod {to}\n")
+    said.append(f"{crate}: {len(going)} declarations of specs/{file}.antt to proofs/{to}.antt")
 
 
 def cite(path, moves):
@@ -258,23 +267,23 @@ def cite(path, moves):
 
     def turn(m):
         lead, module, crate, part, file, names, end = m.groups()
-        if part != "specs" or (crate, file) not in moves:
-            return m[0]
+        to = moves.get((crate, file), {})
         names = [n.strip() for n in names.split(",") if n.strip()]
-        gone = [n for n in names if n.split(" as ")[0] in moves[crate, file]]
-        if not gone:
+        places = {n: to.get(n.split(" as ")[0], file) if part == "proofs" else to.get(n.split(" as ")[0]) for n in names}
+        if all(p in (None, file if part == "proofs" else None) for p in places.values()):
             return m[0]
-        kept = [n for n in names if n not in gone]
-        out = [f"{lead}{module}.{{{', '.join(kept)}}}{end}"] if kept else []
-        return "\n".join([*out, f"{lead}Rattle.{crate}.proofs.{file}.{{{', '.join(gone)}}}{end}"])
+        out = [f"{lead}{module}.{{{', '.join(n for n in names if places[n] is None)}}}{end}"] if None in places.values() else []
+        for p in dict.fromkeys(p for p in places.values() if p):
+            out.append(f"{lead}Rattle.{crate}.proofs.{p}.{{{', '.join(n for n in names if places[n] == p)}}}{end}")
+        return "\n".join(out)
 
     new = USE.sub(turn, text)
-    new = re.sub(r"Rattle\.(\w+)\.specs\.(\w+)\.([^\s(){}\[\],;.]+)", lambda m: m[0].replace(".specs.", ".proofs.") if m[3] in moves.get((m[1], m[2]), ()) else m[0], new)
+    new = re.sub(r"Rattle\.(\w+)\.specs\.(\w+)\.([^\s(){}\[\],;.]+)", lambda m: f"Rattle.{m[1]}.proofs.{moves[m[1], m[2]][m[3]]}.{m[3]}" if m[3] in moves.get((m[1], m[2]), ()) else m[0], new)
     # one line for each module
     lines, at, out = new.split("\n"), {}, []
     for l in lines:
         m = USE.match(l)
-        if m and m[4] == "proofs" and (m[3], m[5]) in moves and not path.endswith(f"crates/{m[3]}/proofs/{m[5]}.antt"):
+        if m and m[4] == "proofs" and any(c == m[3] and m[5] in to.values() for (c, _), to in moves.items()) and not path.endswith(f"crates/{m[3]}/proofs/{m[5]}.antt"):
             key = (m[1], m[2])
             if key in at:
                 o = USE.match(out[at[key]])
@@ -296,10 +305,12 @@ def main():
         line = line.split("--")[0].strip()
         if line:
             where, names = line.split(":", 1)
-            moves.setdefault(tuple(where.split()), set()).update(names.split())
+            crate, file, *to = where.split()
+            moves.setdefault((crate, file), {}).update({n: (to or [file])[0] for n in names.split()})
     for (crate, file), names in moves.items():
         if os.path.exists(f"crates/{crate}/specs/{file}.antt"):
-            move(crate, file, names, said)
+            for to in dict.fromkeys(names.values()):
+                move(crate, file, to, {n for n in names if names[n] == to}, said)
     paths = [p for p in glob.glob("crates/*/*/**/*", recursive=True) if p.endswith((".antt", ".rt")) and p.split("/")[2] in ("src", "specs", "proofs", "tests")]
     changed = [p for p in paths if cite(p, moves)]
     print("\n".join(said + [f"{len(changed)} files cite them anew"]))

@@ -5,7 +5,7 @@ use Rattle.std.proofs.Common.{sym, ap, ◌∙◌, arith, take-append-drop, lengt
 use Rattle.std.proofs.Math.ListN.{length-set}
 use Rattle.residue.specs.Modulus.{modulus, modulus_prime}
 use Rattle.skew.specs.Subset.{◌∈◌, Without, marked_in, marked_nonzero}
-use Rattle.skew.proofs.Remove.{invertible_without}
+use Rattle.skew.proofs.Criterion.{invertible_without}
 use Rattle.matching.specs.Decision.{Refusal, because, accepted, refused, Every, Lowest}
 use Rattle.matching.specs.Graph.{Graph, over, tutte}
 use Rattle.matching.specs.Pairs.{Pair, Pairs, pair_of, unmatched, pairs_on}

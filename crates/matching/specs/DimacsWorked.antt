@@ -1,15 +1,12 @@
 -- Worked examples of texts in the DIMACS edge format, one list with one claim over it. Assumes nothing.
-use Rattle.std.specs.Prelude.{refl, List, [], ◌∷◌, ◌++◌, ◌+◌, ◌*◌, ◌-◌, ◌^◌, replicate}
-use Rattle.std.proofs.Math.Decide.{dec_lt}
-use Rattle.draws.specs.Draws.{next, draw, draws}
+use Rattle.std.specs.Prelude.{List, [], ◌∷◌, ◌++◌, ◌+◌, ◌*◌, ◌-◌, ◌^◌, replicate}
+use Rattle.draws.specs.Draws.{next, draw}
 use Rattle.matching.specs.Decision.{because}
-use Rattle.matching.specs.Filling.{graph_read, not_read, cells}
+use Rattle.matching.specs.Filling.{graph_read, not_read}
 use Rattle.matching.specs.Dimacs.{ascii, text, unread}
-use Rattle.matching.specs.DimacsComputed.{read_text}
-use Rattle.matching.specs.Host.{words, bytes_of}
-use Rattle.matching.specs.Claims.{edge, Claim, reads_text, filling_text, host_reads_text, host_text_refused, Holds, All, ShownFilled, ShownText, Shown, all}
+use Rattle.matching.specs.Claims.{edge, Claim, reads_text, filling_text, host_reads_text, host_text_refused}
 
-pub worked_texts : List Claim
+unfoldable pub worked_texts : List Claim
 worked_texts =
     -- a comment, the size, an edge in both orders, another one: three lines, two edges
     reads_text (ascii "c x\np edge 3 3\ne 1 2\ne 2 1\ne 3 2\n") (text 3 (edge 1 2 ∷ edge 0 1 ∷ []))
@@ -100,7 +97,3 @@ worked_texts =
     ∷ host_text_refused (because 16 140737488355327) (16 + 2 ^ 16 * (2 ^ 47 - 1))
     ∷ host_text_refused (because 14 140737488355328) (14 + 2 ^ 16 * (2 ^ 47 - 1))
     ∷ []
-
-pub worked_texts_hold : All Holds worked_texts
-unfolding worked_texts Shown ShownText ShownFilled read_text words bytes_of draws cells dec_lt
-worked_texts_hold = all worked_texts (refl, (refl, (refl, (refl, (refl, (refl, (refl, (refl, (refl, (refl, (refl, (refl, (refl, (refl, (refl, (refl, (refl, (refl, (refl, (refl, (refl, (refl, (refl, (refl, (refl, (refl, (refl, (refl, (refl, (refl, (refl, (refl, (refl, (refl, (refl, (refl, (refl, (refl, (refl, (refl, (refl, (refl, (refl, (refl, (refl, (refl, (refl, (refl, (refl, (refl, (refl, (refl, (refl, (refl, (refl, (refl, (refl, (refl, ((refl, refl, refl, refl), ((refl, refl, refl, refl), ((refl, refl, refl), ((refl, refl, refl), ((refl, refl, refl), ((refl, refl, refl), (((refl, refl, refl, refl), refl, refl), (((refl, refl, refl), refl, refl), (((refl, refl, refl, refl), refl, refl), (refl, (refl, (refl, (refl, tt)))))))))))))))))))))))))))))))))))))))))))))))))))))))))))))))))))))))

@@ -1,20 +1,16 @@
 -- Worked examples of kept vertices, of sessions in which not every vertex is kept, and of spoiled kept rows. Assumes nothing.
-use Rattle.std.specs.Prelude.{refl, List, [], ◌∷◌, ◌++◌, ℕ, replicate}
+use Rattle.std.specs.Prelude.{List, [], ◌∷◌, ◌++◌, ℕ, replicate}
 use Rattle.std.proofs.Math.Decide.{dec_lt}
-use Rattle.residue.specs.Modulus.{modulus_prime}
 use Rattle.skew.specs.Subset.{marked}
-use Rattle.matching.specs.Decision.{not?, because, because_cell, every?, first?}
-use Rattle.matching.specs.Graph.{Graph, over, tutte, fault}
-use Rattle.matching.specs.Pairs.{everything, unmatched, sequence, pairs_on}
+use Rattle.matching.specs.Decision.{not?, because, because_cell, every?}
+use Rattle.matching.specs.Graph.{Graph, over}
+use Rattle.matching.specs.Pairs.{everything}
 use Rattle.matching.specs.Session.{State}
-use Rattle.matching.specs.Decided.{inverse_table?, well_formed?}
-use Rattle.matching.specs.Causes.{session_ruling}
-use Rattle.matching.specs.Model.{pick, automatic, undo, done, denied, nonsingular?, step}
-use Rattle.matching.specs.Calls.{Returned, state_after, row_ruling, open_row}
+use Rattle.matching.specs.Decided.{well_formed?}
+use Rattle.matching.specs.Model.{pick, automatic, undo, done, denied}
+use Rattle.matching.specs.Calls.{Returned}
 use Rattle.matching.specs.Filling.{cells}
-use Rattle.matching.specs.Replay.{first_calls, replay_ruling}
-use Rattle.matching.specs.Host.{words, bytes_of}
-use Rattle.matching.specs.Claims.{linked, keeping, edge, ones, complete, ring, Claim, kept, not_kept, kept?, by_hand, spoiled, handled, ran, row, no_row, replayed, no_replay, host_handled, Holds, All, IsYes, ShownHandled, ShownReturned, ShownRun, ShownReplay, Shown, all}
+use Rattle.matching.specs.Claims.{linked, keeping, edge, ones, complete, ring, Claim, kept, not_kept, by_hand, spoiled, handled, ran, row, no_row, replayed, no_replay, host_handled, IsYes}
 
 -- edges 01, 12 of three, with every weight 1
 abbrev path_of_three : Graph
@@ -58,7 +54,7 @@ stays k s = record { answer = denied (because k 0); state = s }
 abbrev bad_graph : Graph
 bad_graph = over 3 (1 ∷ replicate 8 0) (0 ∷ 1 ∷ 1 ∷ [])
 
-pub worked_kept : List Claim
+unfoldable pub worked_kept : List Claim
 worked_kept =
     -- which vertices are kept: those of the paper's ring, of a path of three, of a star; all, if there is an inverse; of a vertex without an
     -- edge, of one vertex, of none; in another order of the same edges; of other sets of vertices
@@ -130,10 +126,6 @@ worked_kept =
     ∷ host_handled (keeping (1 ∷ 1 ∷ 0 ∷ 9 ∷ []) (over 3 path_of_three.adjacency (1 ∷ 0 ∷ 1 ∷ 0 ∷ 1 ∷ 0 ∷ [])) 0 host_first_two unused_three) (pick 1 0) (edge 0 1)
     matched_two 4311745280 (keeping (1 ∷ 1 ∷ 0 ∷ 9 ∷ []) (over 3 path_of_three.adjacency (1 ∷ 0 ∷ 1 ∷ 0 ∷ 1 ∷ 0 ∷ [])) 1 (replicate 18 0 ++ 7 ∷ []) (0 ∷ 1 ∷ 255 ∷ []))
     ∷ []
-
-pub kept_hold : All Holds worked_kept
-unfolding worked_kept kept? marked Shown ShownHandled ShownReturned ShownRun modulus_prime step nonsingular? inverse_table? first? every? tutte fault session_ruling row_ruling open_row replay_ruling first_calls ShownReplay words bytes_of state_after cells unmatched sequence pairs_on dec_lt
-kept_hold = all worked_kept (tt, (tt, (tt, (tt, (tt, (tt, (tt, (tt, (tt, (tt, (tt, (tt, (tt, (tt, (tt, (tt, (tt, ((refl, refl), ((refl, refl), ((refl, refl), ((refl, refl), ((refl, refl), (refl, (refl, ((refl, refl), ((refl, refl, refl, tt, refl), ((refl, refl, refl, tt, refl), (((refl, refl, refl, tt, refl), ((refl, refl, refl), ((refl, refl, refl), ((refl, refl, refl, tt, refl), tt)))), ((refl, refl, refl, tt, refl), ((refl, refl), ((refl, refl), (refl, (refl, (refl, (refl, (refl, (refl, (refl, (refl, (refl, (refl, (refl, (refl, (refl, (refl, (refl, (refl, (refl, (refl, (refl, (refl, (refl, (refl, (refl, (refl, (refl, (refl, ((refl, ((refl, refl, refl, tt, refl), ((refl, refl, refl), tt)), refl, refl), (((refl, refl, refl, tt, refl), refl, refl), tt)))))))))))))))))))))))))))))))))))))))))))))))))))))))))))
 
 -- a pair past the last vertex, for which the adjacency table has a 1, is not well formed, also without a kept row
 pub past_the_last : IsYes (not? (well_formed? path_of_three 1 (0 ∷ 3 ∷ 255 ∷ [])))

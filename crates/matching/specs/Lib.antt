@@ -33,4 +33,3 @@ pub mod Worked
 pub mod DimacsWorked
 pub mod VerdictsWorked
 pub mod KeptWorked
-pub mod Instances

@@ -1,22 +1,10 @@
 -- The marked sheets to try of document 01, in its order: one list, and one claim over it. Assumes nothing.
-use Rattle.std.specs.Prelude.{refl, List, [], ◌∷◌}
-use Rattle.std.proofs.Math.Decide.{dec_lt}
-use Rattle.residue.specs.Modulus.{modulus_prime}
-use Rattle.skew.proofs.Decide.{first_dependent?}
-use Rattle.matching.specs.Decision.{because, every?, first?}
-use Rattle.matching.specs.Graph.{tutte}
-use Rattle.matching.specs.Pairs.{unmatched, pairs_on}
-use Rattle.matching.specs.Decided.{inverse_table?, witness?}
-use Rattle.matching.specs.Causes.{opening_ruling, session_ruling}
-use Rattle.matching.specs.Display.{display}
-use Rattle.matching.specs.Model.{pick, automatic, undo, done, denied, nonsingular?, step, answered, pairs_after}
-use Rattle.matching.specs.Calls.{row_ruling, open_row}
-use Rattle.matching.specs.Filling.{cells, graph}
-use Rattle.matching.specs.Computed.{read}
-use Rattle.matching.specs.Listing.{digits, pair_lines, witness_lines}
-use Rattle.matching.specs.Claims.{linked, on, edge, ones, path, complete, ring, Claim, opening, witness, answers, afterwards, by_hand, Holds, All, ShownSingular, Shown, all}
+use Rattle.std.specs.Prelude.{List, [], ◌∷◌}
+use Rattle.matching.specs.Decision.{because}
+use Rattle.matching.specs.Model.{pick, automatic, undo, done, denied}
+use Rattle.matching.specs.Claims.{linked, on, edge, ones, path, complete, ring, Claim, opening, witness, answers, afterwards, by_hand}
 
-pub marked : List Claim
+unfoldable pub marked : List Claim
 marked =
     opening (linked 0 [] []) []
     ∷ answers (linked 0 [] []) (automatic ∷ []) (denied (because 11 0) ∷ [])
@@ -32,7 +20,3 @@ marked =
     ∷ witness ring 2 (65520 ∷ 0 ∷ 1 ∷ 0 ∷ [])
     ∷ by_hand (on ring 1 (0 ∷ 0 ∷ 0 ∷ 0 ∷ 0 ∷ 0 ∷ 0 ∷ 0 ∷ 0 ∷ 0 ∷ 0 ∷ 65520 ∷ 0 ∷ 0 ∷ 1 ∷ 0 ∷ []) (0 ∷ 1 ∷ 255 ∷ 255 ∷ [])) undo (because 10 0)
     ∷ []
-
-pub marked_hold : All Holds marked
-unfolding marked Shown ShownSingular modulus_prime answered pairs_after step nonsingular? inverse_table? witness? first_dependent? first? every? tutte opening_ruling session_ruling row_ruling open_row display cells unmatched pairs_on dec_lt read digits pair_lines witness_lines graph
-marked_hold = all marked ((refl, refl, refl, tt), ((tt, refl), ((refl, refl, refl, (tt, tt, tt)), ((refl, refl, refl, (tt, tt, tt)), ((refl, refl, refl, tt), ((refl, refl, refl, (tt, tt, tt)), ((refl, refl, refl, (tt, tt, tt)), ((refl, refl, refl, tt), ((tt, refl), ((tt, refl, tt), ((tt, refl), ((refl, refl, refl, (tt, tt, tt)), ((refl, refl), tt)))))))))))))

@@ -1,22 +1,12 @@
 -- Worked examples of perfect matchings, and of verdicts, one list with one claim over it. Assumes nothing.
-use Rattle.std.specs.Prelude.{refl, List, [], ◌∷◌}
-use Rattle.std.proofs.Math.Decide.{dec_lt}
-use Rattle.draws.specs.Draws.{draws}
-use Rattle.residue.specs.Modulus.{modulus_prime}
-use Rattle.skew.specs.Subset.{marked, count}
-use Rattle.skew.proofs.Decide.{first_dependent?}
-use Rattle.matching.specs.Decision.{every?, first?}
-use Rattle.matching.specs.Graph.{over, tutte}
-use Rattle.matching.specs.Pairs.{everything, unmatched}
-use Rattle.matching.specs.Decided.{witness?, perfect?}
-use Rattle.matching.specs.Model.{nonsingular?, step, pairs_after, stopped, picked}
-use Rattle.matching.specs.Filling.{cells, graph}
+use Rattle.std.specs.Prelude.{List, [], ◌∷◌}
+use Rattle.skew.specs.Subset.{marked}
+use Rattle.matching.specs.Graph.{over}
+use Rattle.matching.specs.Pairs.{everything}
 use Rattle.matching.specs.Dimacs.{ascii}
-use Rattle.matching.specs.Computed.{read}
-use Rattle.matching.specs.Listing.{digits, pair_lines, witness_lines}
-use Rattle.matching.specs.Claims.{linked, edge, ones, path, ring, Claim, perfect, not_perfect, lines_paired, lines_witness, lists, lists_witness, Holds, All, ShownSingular, ShownPaired, ShownWitness, ShownListed, Shown, all}
+use Rattle.matching.specs.Claims.{linked, edge, ones, path, ring, Claim, perfect, not_perfect, lines_paired, lines_witness, lists, lists_witness}
 
-pub worked_verdicts : List Claim
+unfoldable pub worked_verdicts : List Claim
 worked_verdicts =
     -- document 02's ring: 0 with 1 and 2 with 3, in either order, and the other perfect matching; no vertices and no pairs
     perfect ring everything (edge 2 3 ∷ edge 0 1 ∷ [])
@@ -70,7 +60,3 @@ worked_verdicts =
     ∷ lists_witness (1 ∷ 4 ∷ 3 ∷ 0 ∷ 0 ∷ 0 ∷ 0 ∷ 2 ∷ 0 ∷ 1 ∷ 2 ∷ 0 ∷ 2 ∷ 2 ∷ 0 ∷ 3 ∷ 4 ∷ []) 2 (0 ∷ 58299 ∷ 1 ∷ 0 ∷ [])
     (ascii "sleeves 4 links 3\nwitness 1 58299\nwitness 2 1\nverdict U\n")
     ∷ []
-
-pub worked_verdicts_hold : All Holds worked_verdicts
-unfolding worked_verdicts Shown ShownSingular ShownPaired ShownWitness ShownListed perfect? marked count modulus_prime pairs_after step nonsingular? witness? first_dependent? first? every? tutte cells unmatched dec_lt read draws digits pair_lines witness_lines graph
-worked_verdicts_hold = all worked_verdicts (tt, (tt, (tt, (tt, (tt, (tt, (tt, (tt, (tt, (tt, (tt, (tt, (tt, (tt, (tt, (tt, (tt, (tt, (tt, (tt, (tt, (tt, ((refl, (tt, tt, tt), refl), ((refl, (tt, tt, tt), refl), ((tt, picked refl (stopped refl), refl), ((refl, (tt, tt, tt), refl), ((_, (tt, stopped refl, refl), refl), ((_, (tt, picked refl (picked refl (stopped refl)), refl), refl), ((_, (refl, (tt, tt, tt), refl), refl), ((_, (refl, (tt, tt, tt), refl), refl), ((_, (refl, (tt, tt, tt), refl), refl), ((_, (refl, (tt, tt, tt), refl), refl), ((_, (refl, (tt, tt, tt), refl), refl), ((_, (refl, (tt, tt, tt), refl), refl), tt))))))))))))))))))))))))))))))))))

@@ -3,26 +3,19 @@
 use Rattle.std.specs.Prelude.{◌≡◌, refl, List, [], ◌∷◌, ◌++◌, map, ℕ, replicate}
 use Rattle.std.proofs.Math.Decide.{dec_lt}
 use Rattle.draws.specs.Draws.{next, draw, draws}
-use Rattle.residue.specs.Modulus.{modulus_prime}
-use Rattle.skew.specs.Subset.{count}
-use Rattle.skew.proofs.Decide.{first_dependent?}
-use Rattle.matching.specs.Decision.{faulty_cell, because, because_cell, every?, first?, accepted, refused}
-use Rattle.matching.specs.Graph.{Graph, over, tutte, fault}
-use Rattle.matching.specs.Pairs.{Pair, unmatched, sequence, pairs_on}
+use Rattle.matching.specs.Decision.{faulty_cell, because, because_cell, accepted, refused}
+use Rattle.matching.specs.Graph.{Graph, over, fault}
+use Rattle.matching.specs.Pairs.{Pair, sequence}
 use Rattle.matching.specs.Session.{State}
-use Rattle.matching.specs.Decided.{inverse_table?, witness?}
-use Rattle.matching.specs.Causes.{cell_at, opening_ruling, session_ruling}
+use Rattle.matching.specs.Causes.{cell_at}
 use Rattle.matching.specs.Opening.{opened, singular, not_opened, Buffers}
-use Rattle.matching.specs.Display.{of_inverse, of_witness, display}
-use Rattle.matching.specs.Model.{pick, automatic, undo, done, denied, nonsingular?, step, answered, pairs_after, picked, stopped}
-use Rattle.matching.specs.Calls.{Returned, state_after, row_ruling, open_row}
-use Rattle.matching.specs.Filling.{cells, graph, graph_read, not_read}
+use Rattle.matching.specs.Display.{of_inverse, of_witness}
+use Rattle.matching.specs.Model.{pick, automatic, undo, done, denied}
+use Rattle.matching.specs.Calls.{Returned}
+use Rattle.matching.specs.Filling.{graph_read, not_read}
 use Rattle.matching.specs.Records.{sheet, unread}
-use Rattle.matching.specs.Computed.{read}
-use Rattle.matching.specs.Host.{words, bytes_of}
-use Rattle.matching.specs.Replay.{short_index, first_calls, replay_ruling}
-use Rattle.matching.specs.Listing.{digits, pair_lines, witness_lines}
-use Rattle.matching.specs.Claims.{linked, on, edge, ones, path, complete, ring, Claim, witness, not_opening, model, answers, by_hand, spoiled, handled, ran, row, no_row, replayed, no_replay, displayed, reads, filling, lists, lists_witness, lists_refusal, host_opening, host_answer, host_row, host_words, host_bytes, host_handled, host_replayed, host_reads, host_draws, before, Holds, All, ShownSingular, ShownHandled, ShownReturned, ShownRun, ShownReplay, ShownPaired, ShownWitness, ShownListed, ShownFilling, Shown, all}
+use Rattle.matching.specs.Replay.{short_index}
+use Rattle.matching.specs.Claims.{linked, on, edge, ones, path, complete, ring, Claim, witness, not_opening, model, answers, by_hand, spoiled, handled, ran, row, no_row, replayed, no_replay, displayed, reads, filling, lists, lists_witness, lists_refusal, host_opening, host_answer, host_row, host_words, host_bytes, host_handled, host_replayed, host_reads, host_draws, before}
 
 -- two vertices, whose adjacency table and weights are as lent
 abbrev two : List ℕ → List ℕ → Graph
@@ -67,7 +60,7 @@ gives e s = record { answer = done e; state = s }
 abbrev stays : ℕ → State → Returned
 stays k s = record { answer = denied (because k 0); state = s }
 
-pub worked : List Claim
+unfoldable pub worked : List Claim
 worked =
     -- causes 1 to 4, each with its place, and the lowest first
     not_opening (over 97 [] []) (lengths 0 0 0 0) (because 1 0)
@@ -213,12 +206,8 @@ worked =
     ∷ host_draws 97 0 [] 1 []
     ∷ []
 
-pub worked_hold : All Holds worked
-unfolding worked Shown ShownFilling words bytes_of draws count ShownSingular ShownHandled ShownReturned ShownRun ShownPaired ShownWitness ShownListed modulus_prime answered pairs_after step nonsingular? inverse_table? witness? first_dependent? first? every? tutte opening_ruling session_ruling row_ruling open_row display cells unmatched pairs_on dec_lt read digits pair_lines witness_lines graph sequence
-worked_hold = all worked (refl, (refl, (refl, (refl, (refl, (refl, (refl, (refl, (refl, (refl, (refl, (refl, (refl, (refl, (refl, (refl, (refl, (refl, (refl, (refl, (refl, (refl, (refl, (refl, (refl, (refl, (refl, (refl, (refl, (refl, (refl, (refl, (refl, (refl, (refl, (refl, (refl, (refl, (refl, (refl, (refl, (refl, ((refl, refl), ((refl, refl), ((refl, refl), ((refl, refl), ((tt, refl), (refl, ((tt, refl), ((refl, refl, refl, tt, refl), ((refl, refl, refl, tt, refl), ((refl, refl, refl, tt, refl), (((refl, refl, refl), ((refl, refl, refl, tt, refl), ((refl, refl, refl), ((refl, refl, refl, tt, refl), ((refl, refl, refl), ((refl, refl, refl, tt, refl), ((refl, refl, refl, tt, refl), tt))))))), (((refl, refl, refl, tt, refl), ((refl, refl, refl, tt, refl), ((refl, refl, refl), tt))), ((refl, refl), ((refl, refl), (refl, (refl, (refl, (refl, (refl, (refl, (refl, (refl, (refl, (refl, (refl, (refl, (refl, (refl, (refl, (refl, (refl, (refl, (refl, (refl, (refl, (refl, (refl, (refl, (refl, (refl, (refl, (refl, (refl, (refl, (refl, (refl, (refl, (refl, ((refl, refl, refl), ((refl, refl, refl), ((refl, refl, refl, refl), ((_, (tt, picked refl (picked refl (stopped refl)), refl), refl), ((_, (refl, (tt, tt, tt), refl), refl), ((_, (refl, (tt, tt, tt), refl), refl), ((refl, refl), ((refl, refl), (refl, (refl, (refl, (refl, (refl, (refl, (refl, (refl, (refl, (refl, (refl, (refl, (refl, (refl, (refl, (refl, (((refl, refl, refl, tt, refl), refl, refl), (((refl, refl, refl, refl), refl, refl), (((refl, refl, refl), refl, refl), ((refl, refl), ((refl, refl), ((refl, refl), tt))))))))))))))))))))))))))))))))))))))))))))))))))))))))))))))))))))))))))))))))))))))))))))))))))))))))))))))))))))))))
-
 -- replays
-pub worked_replays : List Claim
+unfoldable pub worked_replays : List Claim
 worked_replays =
     -- 1 to 6 before 12 and 13 of the list, and the answers last of the buffers; the answers are as they were
     no_replay (on (over 97 [] []) 0 [] []) (0 ∷ 0 ∷ 0 ∷ []) (9 ∷ []) (because 1 0)
@@ -245,10 +234,6 @@ worked_replays =
     (on (over 2 in_order (2 ∷ 0 ∷ [])) 1 (0 ∷ 0 ∷ 0 ∷ 0 ∷ 0 ∷ 0 ∷ 0 ∷ 0 ∷ 9 ∷ []) (0 ∷ 1 ∷ []))
     (4311745280 ∷ 9 ∷ [])
     ∷ []
-
-pub worked_replays_hold : All Holds worked_replays
-unfolding worked_replays Shown ShownReplay words bytes_of ShownHandled ShownReturned ShownRun modulus_prime step nonsingular? inverse_table? first? every? tutte replay_ruling session_ruling first_calls state_after cells unmatched pairs_on dec_lt sequence
-worked_replays_hold = all worked_replays (refl, (refl, (refl, (refl, (refl, (refl, (refl, (refl, (refl, (refl, ((refl, ((refl, refl, refl, tt, refl), ((refl, refl, refl, tt, refl), ((refl, refl, refl), ((refl, refl, refl, tt, refl), tt)))), refl, refl), ((refl, tt, refl, refl), (((refl, ((refl, refl, refl, tt, refl), tt), refl, refl), refl, refl), tt)))))))))))))
 
 -- document 02's index 3127 of a table of 96 vertices: row 32, column 55
 pub cell_3127 : cell_at (over 96 [] []) 3127 ≡ faulty_cell 32 55 0

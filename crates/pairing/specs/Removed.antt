@@ -12,7 +12,8 @@ use Rattle.modular.specs.Reciprocal.{Reciprocal}
 use Rattle.skew.specs.Subset.{Subset, Without}
 use Rattle.skew.specs.Inverse.{Matrix, Vector, apply, Skew, Invertible}
 use Rattle.skew.specs.Add.{Border}
-use Rattle.skew.proofs.Add.{inverse_with, invertible_with}
+use Rattle.skew.proofs.Add.{inverse_with}
+use Rattle.skew.proofs.Criterion.{invertible_with}
 use Rattle.matching.specs.Graph.{Graph, tutte}
 use Rattle.matching.specs.Pairs.{unused}
 use Rattle.matching.specs.Session.{InverseTable}

@@ -8,7 +8,7 @@ use Rattle.modular.specs.Congruence.{Congruent, equals}
 use Rattle.modular.specs.Prime.{below_equal}
 use Rattle.residue.specs.Modulus.{modulus, modulus_prime}
 use Rattle.skew.specs.Subset.{Subset, ◌∈◌, marked, marked_in, clash, marked_out}
-use Rattle.skew.proofs.Remove.{invertible_without}
+use Rattle.skew.proofs.Criterion.{invertible_without}
 use Rattle.matching.specs.Decision as decision
 use Rattle.matching.specs.Decision.{index, because, accepted, refused, not?, both?, Cause}
 use Rattle.matching.specs.Graph.{Graph, over, largest, cell, tutte, InOrder}

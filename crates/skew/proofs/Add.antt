@@ -1,15 +1,14 @@
 -- Theorems on what specs/Add.antt defines.
-use Rattle.std.specs.Prelude.{◌≡◌, ◌↔◌, ℕ, ◌+◌, ◌*◌, ◌<◌}
+use Rattle.std.specs.Prelude.{◌≡◌, ℕ, ◌+◌, ◌*◌, ◌<◌}
 use Rattle.std.proofs.Common.{sym, ◌∙◌, arith}
 use Rattle.std.proofs.Math.Decide.{ℕ_discrete}
 use Rattle.modular.specs.Congruence.{Congruent, equals, ◌⨾◌, ◌⊕◌, ◌⊖◌, ◌⊛◌, linear, halve}
 use Rattle.modular.specs.Sum.{sum_add, sum_congruent, sum_vanish}
-use Rattle.modular.specs.Prime.{Odd, OddPrime, one_not_zero}
-use Rattle.modular.proofs.Reciprocal.{unit}
+use Rattle.modular.specs.Prime.{Odd}
 use Rattle.skew.specs.Subset.{Subset, ◌∈◌, ◌∉◌, Without, swap, Place, at_a, at_b, elsewhere, place, smaller, not_first}
-use Rattle.skew.specs.Inverse.{Matrix, Vector, column, delta, delta_same, delta_other, apply, apply_linear, apply_apply, apply_congruent, form, Supported, ZeroOn, sum_delta, apply_delta, Skew, Inverse, Invertible, inverse_reads, form_reads, form_zero}
+use Rattle.skew.specs.Inverse.{Matrix, Vector, column, delta, delta_same, delta_other, apply, apply_linear, apply_apply, apply_congruent, form, Supported, ZeroOn, sum_delta, apply_delta, Skew, Inverse, inverse_reads, form_reads, form_zero}
 use Rattle.skew.proofs.Inverse.{form_skew, kernel_zero, inverse_skew}
-use Rattle.skew.specs.Update.{Update, updated, update_skew, update_zero, apply_update}
+use Rattle.skew.specs.Update.{Update, update_skew, update_zero, apply_update}
 use Rattle.skew.specs.Add.{Border}
 
 module _ (p n : ℕ) (A : Matrix) (O : Odd p) (S : Skew p n A) where
@@ -106,30 +105,6 @@ module _ (p n : ℕ) (A : Matrix) (O : Odd p) (S : Skew p n A) where
         (omega arith)
 
     module _ (g : ℕ) (e : g * apply n A x b ≈ 1) {T' : Matrix} (h : Update p n T x y g T') where
-      out : (i j : ℕ) → i < n → j < n → i ∉ L → T' i j ≈ 0
-      out i j hi hj o =
-          update_zero h i j hi hj (I.rows i j hi hj (smaller s i o)) (supported s ha I B i hi o) (supported t hb I C i hi o)
-
-      read : (i j : ℕ) → i < n → j < n → i ∈ L → apply n A (column T' j) i ≈ delta i j
-      read i j hi hj l = go (place a b i)
-        where
-          go : Place a b i → apply n A (column T' j) i ≈ delta i j
-          go (at_a q) =
-              rw q
-              (linear
-              (apply_update h A a j hj ⊕ (g * x j) ⊛ cross ⊖ (g * y j) ⊛ sent_a s ha I B ⊖ x j ⊛ e ⊕ against s ha I B j hj)
-              (omega arith))
-          go (at_b q) =
-              rw q (linear (apply_update h A b j hj ⊕ (g * x j) ⊛ sent_a t hb I C ⊖ y j ⊛ e ⊕ against t hb I C j hj) (omega arith))
-          go (elsewhere d d') =
-              let m = s.others i d d' ∙ l in
-              linear
-              (apply_update h A i j hj
-              ⊕ (g * x j) ⊛ sent t hb I C i hi m
-              ⊖ (g * y j) ⊛ sent s ha I B i hi m
-              ⊕ inverse_reads p n A I i j hi hj m)
-              (omega arith)
-
       pub inverse_with : Inverse p n A L T'
       inverse_with = record {
         rows = out;
@@ -137,13 +112,27 @@ module _ (p n : ℕ) (A : Matrix) (O : Odd p) (S : Skew p n A) where
         one = λ i hi l. read i i hi hi l ⨾ equals (delta_same i);
         off = λ i j hi hj l _ d. read i j hi hj l ⨾ equals (delta_other i j d);
       }
+        where
+          out : (i j : ℕ) → i < n → j < n → i ∉ L → T' i j ≈ 0
+          out i j hi hj o =
+              update_zero h i j hi hj (I.rows i j hi hj (smaller s i o)) (supported s ha I B i hi o) (supported t hb I C i hi o)
 
-module _ {p : ℕ} (P : OddPrime p) (n : ℕ) (A : Matrix) (S : Skew p n A) {L M : Subset} {a b : ℕ} (s : Without L a b M) (ha : a < n)
-    (hb : b < n) {T : Matrix} {x y : Vector} (I : Inverse p n A M T) (B : Border p n A T a x) (C : Border p n A T b y) where
-  pub invertible_with : Invertible p n A L ↔ ¬ Congruent p (apply n A x b) 0
-  invertible_with = (
-    λ u z. one_not_zero P.prime (no_inverse_with p n A P.odd S s ha hb I B C z u.1),
-    λ d.
-        let g = unit P.prime _ d in
-        (_, inverse_with p n A P.odd S s ha hb I B C g.0 g.1 (updated P.odd T x y g.0)),
-  )
+          read : (i j : ℕ) → i < n → j < n → i ∈ L → apply n A (column T' j) i ≈ delta i j
+          read i j hi hj l = go (place a b i)
+            where
+              go : Place a b i → apply n A (column T' j) i ≈ delta i j
+              go (at_a q) =
+                  rw q
+                  (linear
+                  (apply_update h A a j hj ⊕ (g * x j) ⊛ cross ⊖ (g * y j) ⊛ sent_a s ha I B ⊖ x j ⊛ e ⊕ against s ha I B j hj)
+                  (omega arith))
+              go (at_b q) =
+                  rw q (linear (apply_update h A b j hj ⊕ (g * x j) ⊛ sent_a t hb I C ⊖ y j ⊛ e ⊕ against t hb I C j hj) (omega arith))
+              go (elsewhere d d') =
+                  let m = s.others i d d' ∙ l in
+                  linear
+                  (apply_update h A i j hj
+                  ⊕ (g * x j) ⊛ sent t hb I C i hi m
+                  ⊖ (g * y j) ⊛ sent s ha I B i hi m
+                  ⊕ inverse_reads p n A I i j hi hj m)
+                  (omega arith)

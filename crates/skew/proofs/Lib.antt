@@ -1,6 +1,7 @@
 pub mod Inverse
 pub mod Remove
 pub mod Add
+pub mod Criterion
 pub mod Exchange
 pub mod Pivot
 pub mod Triangle

@@ -7,7 +7,7 @@ use Rattle.modular.specs.Prime.{OddPrime, one_not_zero, sum_some}
 use Rattle.skew.specs.Subset.{Subset, ◌∈◌, Member, inside, outside, member?, Without, without, remove, count, count_some, count_without}
 use Rattle.skew.specs.Inverse.{Matrix, apply, Skew, Invertible, skew_diagonal}
 use Rattle.skew.proofs.Inverse.{inverse_skew}
-use Rattle.skew.proofs.Remove.{invertible_without}
+use Rattle.skew.proofs.Criterion.{invertible_without}
 use Rattle.skew.specs.Matching.{Pick}
 
 module _ {p : ℕ} (P : OddPrime p) (n : ℕ) (A : Matrix) (S : Skew p n A) where

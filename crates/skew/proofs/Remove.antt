@@ -1,13 +1,12 @@
 -- Theorems on what specs/Remove.antt defines.
 use Rattle.std.proofs.Common.{sym, ap, ◌∙◌, arith}
-use Rattle.std.specs.Prelude.{◌↔◌, ℕ, ◌+◌, ◌*◌, ◌<◌}
+use Rattle.std.specs.Prelude.{ℕ, ◌+◌, ◌*◌, ◌<◌}
 use Rattle.modular.specs.Congruence.{Congruent, ◌⨾◌, ◌⊕◌, ◌⊖◌, ◌⊛◌, linear}
-use Rattle.modular.specs.Prime.{Odd, OddPrime, one_not_zero}
-use Rattle.modular.proofs.Reciprocal.{unit}
+use Rattle.modular.specs.Prime.{Odd}
 use Rattle.skew.specs.Subset.{Subset, ◌∈◌, ◌∉◌, Without, Place, at_a, at_b, elsewhere, place, larger, clash}
-use Rattle.skew.specs.Inverse.{Matrix, column, apply, Supported, ZeroOn, Skew, Inverse, Invertible, apply_zero, skew_diagonal}
+use Rattle.skew.specs.Inverse.{Matrix, column, apply, Supported, ZeroOn, Skew, Inverse, apply_zero, skew_diagonal}
 use Rattle.skew.proofs.Inverse.{kernel_zero, inverse_skew}
-use Rattle.skew.specs.Update.{Update, updated, update_skew, update_zero, apply_update}
+use Rattle.skew.specs.Update.{Update, update_skew, update_zero, apply_update}
 use Rattle.skew.specs.Remove.{Eliminated}
 
 module _ (p n : ℕ) (A : Matrix) (O : Odd p) (S : Skew p n A) {L M : Subset} {a b : ℕ} (s : Without L a b M) (ha : a < n) (hb : b < n)
@@ -54,28 +53,6 @@ module _ (p n : ℕ) (A : Matrix) (O : Odd p) (S : Skew p n A) {L M : Subset} {a
           (omega arith)
 
   module _ (g : ℕ) (e : g * T a b ≈ 1) {T' : Matrix} (h : Update p n T (column T a) (column T b) g T') where
-    gone : (i j : ℕ) → i < n → j < n → i ∉ M → T' i j ≈ 0
-    gone i j hi hj o = go (place a b i)
-      where
-        go : Place a b i → T' i j ≈ 0
-        go (at_a q) =
-            rw q (linear (h.entry a j ha hj ⊕ T j a ⊛ e ⊕ skew.turn j a hj ha ⊖ (g * T j b) ⊛ diagonal a ha) (omega arith))
-        go (at_b q) =
-            rw q
-            (linear
-            (h.entry b j hb hj ⊕ (g * T j a) ⊛ diagonal b hb ⊖ (g * T j b) ⊛ skew.turn a b ha hb ⊕ T j b ⊛ e ⊕ skew.turn j b hj hb)
-            (omega arith))
-        go (elsewhere d d') =
-            let l = sym (s.others i d d') ∙ o in update_zero h i j hi hj (I.rows i j hi hj l) (I.rows i a hi ha l) (I.rows i b hi hb l)
-
-    same : (i j : ℕ) → i < n → j < n → i ∈ M → apply n A (column T' j) i ≈ apply n A (column T j) i
-    same i j hi hj m =
-        linear
-        (apply_update h A i j hj
-        ⊕ (g * T j a) ⊛ sent b hb s.b_in s.b_out i hi m
-        ⊖ (g * T j b) ⊛ sent a ha s.a_in s.a_out i hi m)
-        (omega arith)
-
     pub inverse_without : Inverse p n A M T'
     inverse_without = record {
       rows = gone;
@@ -83,6 +60,28 @@ module _ (p n : ℕ) (A : Matrix) (O : Odd p) (S : Skew p n A) {L M : Subset} {a
       one = λ i hi m. same i i hi hi m ⨾ I.one i hi (larger s i m);
       off = λ i j hi hj m m' d. same i j hi hj m ⨾ I.off i j hi hj (larger s i m) (larger s j m') d;
     }
+      where
+        gone : (i j : ℕ) → i < n → j < n → i ∉ M → T' i j ≈ 0
+        gone i j hi hj o = go (place a b i)
+          where
+            go : Place a b i → T' i j ≈ 0
+            go (at_a q) =
+                rw q (linear (h.entry a j ha hj ⊕ T j a ⊛ e ⊕ skew.turn j a hj ha ⊖ (g * T j b) ⊛ diagonal a ha) (omega arith))
+            go (at_b q) =
+                rw q
+                (linear
+                (h.entry b j hb hj ⊕ (g * T j a) ⊛ diagonal b hb ⊖ (g * T j b) ⊛ skew.turn a b ha hb ⊕ T j b ⊛ e ⊕ skew.turn j b hj hb)
+                (omega arith))
+            go (elsewhere d d') =
+                let l = sym (s.others i d d') ∙ o in update_zero h i j hi hj (I.rows i j hi hj l) (I.rows i a hi ha l) (I.rows i b hi hb l)
+
+        same : (i j : ℕ) → i < n → j < n → i ∈ M → apply n A (column T' j) i ≈ apply n A (column T j) i
+        same i j hi hj m =
+            linear
+            (apply_update h A i j hj
+            ⊕ (g * T j a) ⊛ sent b hb s.b_in s.b_out i hi m
+            ⊖ (g * T j b) ⊛ sent a ha s.a_in s.a_out i hi m)
+            (omega arith)
 
   -- if entry (a, b) is 0, column b of T is on M, A sends it to 0 there, and it is not 0
   pub no_inverse_without : T a b ≈ 0 → {U : Matrix} → Inverse p n A M U → 1 ≈ 0
@@ -98,13 +97,3 @@ module _ (p n : ℕ) (A : Matrix) (O : Odd p) (S : Skew p n A) {L M : Subset} {a
           go (at_a q) = rw q z
           go (at_b q) = rw q (diagonal b hb)
           go (elsewhere d e) = I.rows k b hk hb (sym (s.others k d e) ∙ o)
-
-module _ {p : ℕ} (P : OddPrime p) (n : ℕ) (A : Matrix) (S : Skew p n A) {L M : Subset} {a b : ℕ} (s : Without L a b M) (ha : a < n)
-    (hb : b < n) {T : Matrix} (I : Inverse p n A L T) where
-  pub invertible_without : Invertible p n A M ↔ ¬ Congruent p (T a b) 0
-  invertible_without = (
-    λ u z. one_not_zero P.prime (no_inverse_without p n A P.odd S s ha hb I z u.1),
-    λ d.
-        let g = unit P.prime _ d in
-        (_, inverse_without p n A P.odd S s ha hb I g.0 g.1 (updated P.odd T (column T a) (column T b) g.0)),
-  )

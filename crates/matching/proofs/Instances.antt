@@ -5,7 +5,7 @@ use Rattle.std.proofs.Math.Path.{refl, ap}
 use Rattle.std.proofs.Common.{sym, ◌∙◌, arith}
 use Rattle.std.proofs.Math.Bool.{false≢true}
 use mathlib.Core.List.{List, [], ◌∷◌, ◌++◌, map}
-use Prim.Native.Nat.{ℕ, zero, suc, ◌+◌, ◌≤◌, ◌<◌}
+use Prim.Native.Nat.{ℕ, zero, suc, ◌≤◌, ◌<◌}
 use Rattle.std.proofs.Math.Decide.{dec_lt}
 use Rattle.std.proofs.Math.ListN.{length}
 use Rattle.residue.specs.Modulus.{modulus, modulus_prime}
@@ -20,11 +20,12 @@ use Rattle.matching.specs.Decided.{inverse_table?, witness?}
 use Rattle.matching.specs.Causes.{session_ruling, opening_ruling}
 use Rattle.matching.specs.Opening.{opened, singular, Buffers, Opens, opens, finds_singular}
 use Rattle.matching.specs.Model.{Call, pick, automatic, undo, done, denied, answered, pairs_after, step, nonsingular?, pick_ruling, OpenPartner, PicksToCome, stopped, picked}
-use Rattle.matching.specs.Calls.{Returned, state_after, row_ruling, open_row, refuses, carries, none, shows}
+use Rattle.matching.specs.Calls.{Returned, state_after, row_ruling, open_row, refuses, carries, shows}
 use Rattle.matching.specs.Demand.{Once, StateOf, pairs_at, pairs_left, Undoes, FollowsModel}
 use Rattle.matching.specs.Host.{words, bytes_of, cause_in, HostOpens, HostShowsRow}
 use Rattle.matching.specs.HostRuns.{HostReturned, host_after, HostRuns, host_none, host_more, HostRestores}
-use Rattle.matching.specs.Claims.{on, edge, Claim, spoiled, Holds, All, decided, ShownSingular, shown_singular, Shown, all}
+use Rattle.matching.specs.Claims.{on, edge, Claim, spoiled, Holds, All, decided, ShownSingular, Shown}
+use Rattle.matching.proofs.Claims.{shown_singular, all}
 
 -- two adjacent vertices with weight 2, over tables with an excess
 abbrev pair_graph : Graph

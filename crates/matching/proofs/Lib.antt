@@ -1,0 +1,7 @@
+pub mod Claims
+pub mod Worked
+pub mod DimacsWorked
+pub mod KeptWorked
+pub mod Marked
+pub mod VerdictsWorked
+pub mod Instances
