@@ -36,8 +36,8 @@ overflow_cast-larger c = omega (arith, c.type_inv.sequence (c.loop-k.k + c.loop-
 pub pair_line-next-requires : goal.pair_line-next-requires
 pair_line-next-requires c =
     let short : length (pair_line (pair_at c.args.sequence.now c.loop-k.k)) ≤ 13 =
-      let k = c.loop-k.k in
-      pair_length (pair_at c.args.sequence.now k) (omega (arith, c.type_inv.sequence (k + k))) (omega (arith, c.type_inv.sequence (k + k + 1))) in
+    let k = c.loop-k.k in
+    pair_length (pair_at c.args.sequence.now k) (omega (arith, c.type_inv.sequence (k + k))) (omega (arith, c.type_inv.sequence (k + k + 1))) in
     omega (arith, c.requires.1, puts_length c.loop-k.invariant.2, short)
 
 pub overflow_add-k : goal.overflow_add-k
@@ -49,8 +49,8 @@ loop-k-smaller c = omega arith
 pub loop-k-preserved : goal.loop-k-preserved
 loop-k-preserved c =
     let short : length (pair_line (pair_at c.args.sequence.now c.loop-k.k)) ≤ 13 =
-      let k = c.loop-k.k in
-      pair_length (pair_at c.args.sequence.now k) (omega (arith, c.type_inv.sequence (k + k))) (omega (arith, c.type_inv.sequence (k + k + 1))) in
+    let k = c.loop-k.k in
+    pair_length (pair_at c.args.sequence.now k) (omega (arith, c.type_inv.sequence (k + k))) (omega (arith, c.type_inv.sequence (k + k + 1))) in
     let sequence = c.args.sequence.now in (
       omega arith,
       omega (arith, c.pair_line-next.ensures.behind, short),
