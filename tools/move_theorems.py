@@ -113,12 +113,16 @@ def parse(lines, depth):
             groups[-1] += ["", *c]
         else:
             groups.append(list(c))
-    items = []
+    items, alone = [], []
     for g in groups:
         n = next((i for i, l in enumerate(g) if not l.strip().startswith("--")), len(g))
-        items.append(Item(g[:n], g[n:], depth) if n < len(g) else None)
-        if items[-1] is None:  # a comment alone goes before what follows
-            items.pop()
+        if n < len(g):
+            items.append(Item(alone + g[:n], g[n:], depth))
+            alone = []
+        else:  # a comment alone goes before what follows
+            alone += [*g, ""]
+    if alone and items:
+        items[-1].lines += ["", *alone[:-1]]
     return items
 
 

@@ -13,7 +13,8 @@ use Rattle.matching.specs.Pairs as spelling
 use Rattle.matching.specs.Matching.{Matching, another}
 use Rattle.matching.specs.Session.{State, kept_in, in_play, with_pairs, InverseTable, state}
 use Rattle.matching.specs.Causes.{Lent, session_ruling}
-use Rattle.matching.specs.Model.{Call, pick, automatic, done, denied, skew, pick_ruling, Allowed, OpenPartner, step, picks, pick_refused, picks_lowest, none_left}
+use Rattle.matching.specs.Model.{Call, pick, automatic, done, denied, pick_ruling, Allowed, OpenPartner, step, picks, pick_refused, picks_lowest, none_left}
+use Rattle.matching.proofs.Model.{skew}
 use Rattle.matching.specs.Calls.{Handles, unsound, refuses, carries}
 use Rattle.laws.specs.ModelLaws.{allowed_of_accepted, unmatched_without, open_partner}
 use Rattle.laws.specs.Rules.{rule_step}

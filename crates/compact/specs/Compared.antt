@@ -17,7 +17,7 @@ use Rattle.skew.proofs.Decide.{witness_singular}
 use Rattle.skew.specs.Listing.{Listed, along, element, ascending, skew_along, inverse_along, along_inverse}
 use Rattle.matching.specs.Graph.{Graph, tutte, tutte_upper, upper}
 use Rattle.matching.specs.Session.{InverseTable}
-use Rattle.matching.specs.Model.{skew}
+use Rattle.matching.proofs.Model.{skew}
 use Rattle.sequence.specs.Formed.{Tells}
 use Rattle.tutte.specs.Table.{Ascending, Filled, listed}
 use Rattle.pivot.specs.Words.{Small, matrix}

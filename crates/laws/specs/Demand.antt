@@ -16,7 +16,8 @@ use Rattle.matching.specs.Pairs.{Pair, Pairs, sequence, unmatched}
 use Rattle.matching.specs.Matching.{Matching}
 use Rattle.matching.specs.Session.{State, kept_in, in_play, graph_of, pairs_of, with_pairs, session, InverseTable, WellFormed}
 use Rattle.matching.specs.Causes.{session_ruling}
-use Rattle.matching.specs.Model.{Call, undo, Answer, done, denied, Step, skew, Nonsingular, nonsingular?, undoes, remove_last, step, answered, pairs_after}
+use Rattle.matching.specs.Model.{Call, undo, Answer, done, denied, Step, Nonsingular, nonsingular?, undoes, remove_last, step, answered, pairs_after}
+use Rattle.matching.proofs.Model.{skew}
 use Rattle.matching.specs.Calls.{Returned, state_after, Handles, unsound, refuses, carries, Runs, none, more}
 use Rattle.matching.specs.Demand.{Once, StateOf, Undoes, FollowsModel}
 use Rattle.laws.specs.Sound.{GraphFits, SessionFits, Sound, session_accepted}

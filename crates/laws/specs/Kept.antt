@@ -20,7 +20,8 @@ use Rattle.matching.specs.Decision.{Every}
 use Rattle.matching.specs.Graph.{Graph, tutte}
 use Rattle.matching.specs.Pairs.{Pairs, unmatched}
 use Rattle.matching.specs.Matching.{Matching, empty, Perfect}
-use Rattle.matching.specs.Model.{automatic, skew, Nonsingular, pairs_after, PicksToCome}
+use Rattle.matching.specs.Model.{automatic, Nonsingular, pairs_after, PicksToCome}
+use Rattle.matching.proofs.Model.{skew}
 use Rattle.matching.specs.Opening.{Kept}
 use Rattle.laws.specs.MatchingLaws.{perfect_half, matching_within}
 use Rattle.laws.specs.Verdicts.{picks_perfect}

@@ -17,7 +17,8 @@ use Rattle.matching.specs.Decision.{index, Refusal, because, First, nowhere, fir
 use Rattle.matching.specs.Graph.{Graph, cell, upper, tutte, tutte_upper, tutte_lower, tutte_diagonal}
 use Rattle.matching.specs.Pairs.{Pair, pair_of, Pairs, unmatched, in?}
 use Rattle.matching.specs.Matching.{Adjacent, adjacent?}
-use Rattle.matching.specs.Model.{Call, pick, automatic, undo, Answer, done, denied, named?, needs, skew, Nonsingular, nonsingular?, pick_ruling, Allowed, append, remove_last, step, pairs_after, OpenPartner, PicksToCome, stopped, picked}
+use Rattle.matching.specs.Model.{Call, pick, automatic, undo, Answer, done, denied, named?, needs, Nonsingular, nonsingular?, pick_ruling, Allowed, append, remove_last, step, pairs_after, OpenPartner, PicksToCome, stopped, picked}
+use Rattle.matching.proofs.Model.{skew}
 use Rattle.laws.specs.MatchingLaws.{none_counted}
 
 pub pair_of_smaller : (a b : ℕ) → a < b → pair_of a b ≡ record { smaller = a; larger = b }

@@ -19,7 +19,7 @@ use Rattle.matching.specs.Decision.{Every, Ruling, accepted, refused}
 use Rattle.matching.specs.Edition.{Edition}
 use Rattle.matching.specs.Graph.{Graph, over, tutte}
 use Rattle.matching.specs.Pairs.{everything}
-use Rattle.matching.specs.Model.{skew}
+use Rattle.matching.proofs.Model.{skew}
 use Rattle.matching.specs.Session.{Session, session, InverseTable}
 use Rattle.matching.specs.Opening.{Opening, opened, singular, not_opened, Buffers, Singular, ruling, with_inverse, with_witness, players, Opens, refuses_opening, opens, finds_singular, OpenedExactly}
 use Rattle.matching.specs.Host.{words, opening_number, unpacked, stored_after, HostOpens, HostOpenedExactly}

@@ -17,7 +17,8 @@ use Rattle.matching.specs.Pairs.{Pair, unmatched}
 use Rattle.matching.specs.Session.{State}
 use Rattle.matching.specs.Causes.{LongEnough, session_ruling}
 use Rattle.matching.specs.Opening.{Singular}
-use Rattle.matching.specs.Model.{skew, automatic, pairs_after, Nonsingular, PicksToCome}
+use Rattle.matching.specs.Model.{automatic, pairs_after, Nonsingular, PicksToCome}
+use Rattle.matching.proofs.Model.{skew}
 use Rattle.matching.specs.Calls.{state_after, row_ruling, ShowsRow, shows, row_refused}
 use Rattle.matching.specs.Replay.{call_count, calls_of, lent_answers, list_causes, replay_ruling, numbers_of, Replays, refuses_replay, replays}
 use Rattle.matching.specs.Filling.{graph, Read, not_read}

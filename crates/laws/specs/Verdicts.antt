@@ -17,7 +17,8 @@ use Rattle.matching.specs.Edition.{Edition}
 use Rattle.matching.specs.Graph.{Graph, tutte}
 use Rattle.matching.specs.Pairs.{Pair, Pairs, unmatched}
 use Rattle.matching.specs.Matching.{Matching, empty, Perfect}
-use Rattle.matching.specs.Model.{automatic, skew, Nonsingular, step, pairs_after, PicksToCome, stopped, picked}
+use Rattle.matching.specs.Model.{automatic, Nonsingular, step, pairs_after, PicksToCome, stopped, picked}
+use Rattle.matching.proofs.Model.{skew}
 use Rattle.matching.specs.Filling.{graph}
 use Rattle.matching.specs.Records.{sheet, ReadsAs}
 use Rattle.matching.specs.Listing.{input_limit, decimal, text_verdict, text_refused, text_at, line_feed, first_line, pair_lines, witness_lines, letter_full, letter_odd, letter_undecided, witness_letter, verdict_line, refused_line, GraphLines, pairs_up, shows_witness, players_of, Lists, refuses_sheet, lists_sheet}

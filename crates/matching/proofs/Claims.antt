@@ -6,7 +6,7 @@ use Rattle.lists.specs.Table.{vector}
 use Rattle.draws.specs.Draws.{draws}
 use Rattle.residue.specs.Modulus.{modulus, modulus_prime}
 use Rattle.skew.specs.Subset.{Subset}
-use Rattle.skew.proofs.Decide.{first_dependent?}
+use Rattle.skew.proofs.Any.{first_dependent_any?}
 use Rattle.matching.specs.Decision.{not?, every?, accepted}
 use Rattle.matching.specs.Edition.{first_edition}
 use Rattle.matching.specs.Graph.{Graph, pair_count, tutte}
@@ -14,7 +14,7 @@ use Rattle.matching.specs.Pairs.{Pair, everything}
 use Rattle.matching.specs.Session.{session, State, graph_of}
 use Rattle.matching.specs.Decided.{inverse_table?, witness?, perfect?}
 use Rattle.matching.specs.Opening.{opened, singular, Buffers, Singular, Opens, opens, refuses_opening, finds_singular}
-use Rattle.matching.specs.Model.{Call, Answer, done, denied, skew, nonsingular?}
+use Rattle.matching.specs.Model.{Call, Answer, done, denied, nonsingular?}
 use Rattle.matching.specs.Calls.{Returned, model_step, Handles, unsound, refuses, carries, Runs, none, more, ShowsRow, shows, row_refused}
 use Rattle.matching.specs.Filling.{graph, Read, graph_read, not_read, Filled, lacks_room, fills}
 use Rattle.matching.specs.Records.{Reading, sheet, unread, ReadsAs, Fills, reads_records}
@@ -31,7 +31,7 @@ pub shown_singular : (g : Graph) (S : Subset) (f : ℕ) (words : List ℕ) → S
 unfolding ShownSingular
 shown_singular g S f words e = record {
   small = decided (every? _ g.n (λ x. dec_lt (get_or words x 0) modulus)) e.0;
-  first = decided (first_dependent? modulus_prime g.n (tutte g modulus) (skew modulus_prime g) S f) e.1;
+  first = decided (first_dependent_any? modulus_prime g.n (tutte g modulus) S f) e.1;
   kernel = decided (witness? modulus g.n (tutte g modulus) S f (vector words)) e.2;
 }
 

@@ -10,7 +10,7 @@ use Rattle.std.proofs.Math.Decide.{dec_lt}
 use Rattle.std.proofs.Math.ListN.{length}
 use Rattle.residue.specs.Modulus.{modulus, modulus_prime}
 use Rattle.skew.specs.Subset.{◌∈◌, count}
-use Rattle.skew.proofs.Decide.{first_dependent?}
+use Rattle.skew.proofs.Any.{first_dependent_any?}
 use Rattle.matching.specs.Decision.{Refusal, because, Every, At, accepted, every?, first?}
 use Rattle.matching.specs.Edition.{first_edition}
 use Rattle.matching.specs.Graph.{Graph, over, cell, tutte}
@@ -265,13 +265,13 @@ host_opened = record {
 -- one vertex alone: the witness, and the inverse cleared; on words,
 pub singular_found : Opens modulus (over 1 (0 ∷ []) []) everything (record { inverse = 9 ∷ 8 ∷ []; sequence = 9 ∷ 8 ∷ []; witness = 9 ∷ 8 ∷ []; work = 9 ∷ 8 ∷ [] }) (singular 0)
     (record { inverse = 0 ∷ 8 ∷ []; sequence = 255 ∷ 8 ∷ []; witness = 1 ∷ 8 ∷ []; work = 0 ∷ 8 ∷ [] })
-unfolding opening_ruling ShownSingular first_dependent? witness? first? every? tutte dec_lt modulus_prime
+unfolding opening_ruling ShownSingular first_dependent_any? witness? first? every? tutte dec_lt modulus_prime
 singular_found = finds_singular 0 (1 ∷ []) refl refl (shown_singular (over 1 (0 ∷ []) []) everything 0 (1 ∷ []) (tt, tt, tt))
 
 -- and through the host
 pub host_singular : HostOpens first_edition 1 (0 ∷ []) [] (record { inverse = replicate 5 9; sequence = 9 ∷ 8 ∷ []; witness = replicate 5 9; work = replicate 5 9 }) 512
     (record { inverse = 0 ∷ 0 ∷ replicate 3 9; sequence = 255 ∷ 8 ∷ []; witness = 1 ∷ 0 ∷ replicate 3 9; work = 0 ∷ 0 ∷ replicate 3 9 })
-unfolding words bytes_of opening_ruling ShownSingular first_dependent? witness? first? every? tutte dec_lt modulus_prime
+unfolding words bytes_of opening_ruling ShownSingular first_dependent_any? witness? first? every? tutte dec_lt modulus_prime
 host_singular = record {
   opening = singular 0;
   buffers = _;

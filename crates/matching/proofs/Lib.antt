@@ -5,3 +5,4 @@ pub mod KeptWorked
 pub mod Marked
 pub mod VerdictsWorked
 pub mod Instances
+pub mod Model

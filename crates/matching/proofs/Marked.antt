@@ -2,7 +2,7 @@
 use Rattle.std.specs.Prelude.{refl}
 use Rattle.std.proofs.Math.Decide.{dec_lt}
 use Rattle.residue.specs.Modulus.{modulus_prime}
-use Rattle.skew.proofs.Decide.{first_dependent?}
+use Rattle.skew.proofs.Any.{first_dependent_any?}
 use Rattle.matching.specs.Decision.{every?, first?}
 use Rattle.matching.specs.Graph.{tutte}
 use Rattle.matching.specs.Pairs.{unmatched, pairs_on}
@@ -19,5 +19,5 @@ use Rattle.matching.proofs.Claims.{all}
 use Rattle.matching.specs.Marked.{marked}
 
 pub marked_hold : All Holds marked
-unfolding marked Shown ShownSingular modulus_prime answered pairs_after step nonsingular? inverse_table? witness? first_dependent? first? every? tutte opening_ruling session_ruling row_ruling open_row display cells unmatched pairs_on dec_lt read digits pair_lines witness_lines graph
+unfolding marked Shown ShownSingular modulus_prime answered pairs_after step nonsingular? inverse_table? witness? first_dependent_any? first? every? tutte opening_ruling session_ruling row_ruling open_row display cells unmatched pairs_on dec_lt read digits pair_lines witness_lines graph
 marked_hold = all marked ((refl, refl, refl, tt), ((tt, refl), ((refl, refl, refl, (tt, tt, tt)), ((refl, refl, refl, (tt, tt, tt)), ((refl, refl, refl, tt), ((refl, refl, refl, (tt, tt, tt)), ((refl, refl, refl, (tt, tt, tt)), ((refl, refl, refl, tt), ((tt, refl), ((tt, refl, tt), ((tt, refl), ((refl, refl, refl, (tt, tt, tt)), ((refl, refl), tt)))))))))))))

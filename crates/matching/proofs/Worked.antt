@@ -4,7 +4,7 @@ use Rattle.std.proofs.Math.Decide.{dec_lt}
 use Rattle.draws.specs.Draws.{draws}
 use Rattle.residue.specs.Modulus.{modulus_prime}
 use Rattle.skew.specs.Subset.{count}
-use Rattle.skew.proofs.Decide.{first_dependent?}
+use Rattle.skew.proofs.Any.{first_dependent_any?}
 use Rattle.matching.specs.Decision.{every?, first?}
 use Rattle.matching.specs.Graph.{tutte}
 use Rattle.matching.specs.Pairs.{unmatched, sequence, pairs_on}
@@ -23,7 +23,7 @@ use Rattle.matching.proofs.Claims.{all}
 use Rattle.matching.specs.Worked.{worked, worked_replays}
 
 pub worked_hold : All Holds worked
-unfolding worked Shown ShownFilling words bytes_of draws count ShownSingular ShownHandled ShownReturned ShownRun ShownPaired ShownWitness ShownListed modulus_prime answered pairs_after step nonsingular? inverse_table? witness? first_dependent? first? every? tutte opening_ruling session_ruling row_ruling open_row display cells unmatched pairs_on dec_lt read digits pair_lines witness_lines graph sequence
+unfolding worked Shown ShownFilling words bytes_of draws count ShownSingular ShownHandled ShownReturned ShownRun ShownPaired ShownWitness ShownListed modulus_prime answered pairs_after step nonsingular? inverse_table? witness? first_dependent_any? first? every? tutte opening_ruling session_ruling row_ruling open_row display cells unmatched pairs_on dec_lt read digits pair_lines witness_lines graph sequence
 worked_hold = all worked (refl, (refl, (refl, (refl, (refl, (refl, (refl, (refl, (refl, (refl, (refl, (refl, (refl, (refl, (refl, (refl, (refl, (refl, (refl, (refl, (refl, (refl, (refl, (refl, (refl, (refl, (refl, (refl, (refl, (refl, (refl, (refl, (refl, (refl, (refl, (refl, (refl, (refl, (refl, (refl, (refl, (refl, ((refl, refl), ((refl, refl), ((refl, refl), ((refl, refl), ((tt, refl), (refl, ((tt, refl), ((refl, refl, refl, tt, refl), ((refl, refl, refl, tt, refl), ((refl, refl, refl, tt, refl), (((refl, refl, refl), ((refl, refl, refl, tt, refl), ((refl, refl, refl), ((refl, refl, refl, tt, refl), ((refl, refl, refl), ((refl, refl, refl, tt, refl), ((refl, refl, refl, tt, refl), tt))))))), (((refl, refl, refl, tt, refl), ((refl, refl, refl, tt, refl), ((refl, refl, refl), tt))), ((refl, refl), ((refl, refl), (refl, (refl, (refl, (refl, (refl, (refl, (refl, (refl, (refl, (refl, (refl, (refl, (refl, (refl, (refl, (refl, (refl, (refl, (refl, (refl, (refl, (refl, (refl, (refl, (refl, (refl, (refl, (refl, (refl, (refl, (refl, (refl, (refl, (refl, ((refl, refl, refl), ((refl, refl, refl), ((refl, refl, refl, refl), ((_, (tt, picked refl (picked refl (stopped refl)), refl), refl), ((_, (refl, (tt, tt, tt), refl), refl), ((_, (refl, (tt, tt, tt), refl), refl), ((refl, refl), ((refl, refl), (refl, (refl, (refl, (refl, (refl, (refl, (refl, (refl, (refl, (refl, (refl, (refl, (refl, (refl, (refl, (refl, (((refl, refl, refl, tt, refl), refl, refl), (((refl, refl, refl, refl), refl, refl), (((refl, refl, refl), refl, refl), ((refl, refl), ((refl, refl), ((refl, refl), tt))))))))))))))))))))))))))))))))))))))))))))))))))))))))))))))))))))))))))))))))))))))))))))))))))))))))))))))))))))))))
 
 pub worked_replays_hold : All Holds worked_replays

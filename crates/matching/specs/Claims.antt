@@ -8,8 +8,7 @@ use Rattle.draws.specs.Draws.{draws}
 use Rattle.residue.specs.Modulus.{modulus, modulus_prime}
 use Rattle.skew.specs.Subset.{Subset, Member, inside, outside, member?, clash, count}
 use Rattle.skew.specs.Column.{DependentRow}
-use Rattle.skew.proofs.Kept.{dependent_row?}
-use Rattle.skew.proofs.Decide.{first_dependent?}
+use Rattle.skew.proofs.Any.{first_dependent_any?, dependent_row_any?}
 use Rattle.matching.specs.Decision.{Refusal, Ruling, both?, not?, iff?, map?, every?, accepted, refused}
 use Rattle.matching.specs.Edition.{first_edition}
 use Rattle.matching.specs.Graph.{Graph, over, pair_count, tutte}
@@ -20,7 +19,7 @@ use Rattle.matching.specs.Decided.{inverse_table?, witness?, perfect?}
 use Rattle.matching.specs.Causes.{session_ruling}
 use Rattle.matching.specs.Opening.{Opening, opened, singular, not_opened, Buffers, Kept, Opens, with_inverse, with_witness, ruling}
 use Rattle.matching.specs.Display.{Part, display}
-use Rattle.matching.specs.Model.{Call, automatic, Answer, done, denied, skew, Nonsingular, nonsingular?, answered, pairs_after, PicksToCome}
+use Rattle.matching.specs.Model.{Call, automatic, Answer, done, denied, Nonsingular, nonsingular?, answered, pairs_after, PicksToCome}
 use Rattle.matching.specs.Calls.{Returned, state_after, model_step, Handles, Runs, row_ruling, open_row, ShowsRow}
 use Rattle.matching.specs.Filling.{cells, graph, Read, graph_read, not_read, room}
 use Rattle.matching.specs.Records.{Reading, sheet, unread, ReadsAs, Fills}
@@ -211,7 +210,7 @@ decided (no _) t = absurd t
 unfoldable pub ShownSingular : Graph → Subset → ℕ → List ℕ → Type 0
 ShownSingular g S f words =
     IsYes (every? (λ x. get_or words x 0 < modulus) g.n (λ x. dec_lt (get_or words x 0) modulus))
-    × IsYes (first_dependent? modulus_prime g.n (tutte g modulus) (skew modulus_prime g) S f)
+    × IsYes (first_dependent_any? modulus_prime g.n (tutte g modulus) S f)
     × IsYes (witness? modulus g.n (tutte g modulus) S f (vector words))
 
 -- an accepted call: the first words of the state handed back are the inverse
@@ -285,16 +284,16 @@ ShownText seed (dimacs.text n edges) adjacency weights o adjacency' weights' =
 
 -- whether a row of the matrix is a combination of the rows before it, and whether a row of bytes is that of the kept vertices, are decided
 unfoldable dependent? : (g : Graph) (S : Subset) (v : ℕ) → Dec (DependentRow modulus g.n (tutte g modulus) S v)
-unfolding dependent_row? member? dec_lt
+unfolding dependent_row_any? member? dec_lt
 dependent? g S v = go (dec_lt v g.n) (member? S v)
   where
     go : Dec (v < g.n) → Member S v → Dec (DependentRow modulus g.n (tutte g modulus) S v)
     go (no d) _ = no (λ D. d D.below)
     go (yes l) (outside o) = no (λ D. clash D.in_L o)
-    go (yes l) (inside m) = dependent_row? modulus_prime g.n (tutte g modulus) (skew modulus_prime g) S v l m
+    go (yes l) (inside m) = dependent_row_any? modulus_prime g.n (tutte g modulus) S v l m
 
 unfoldable pub kept? : (g : Graph) (S : Subset) (bytes : List ℕ) → Dec (Kept modulus g S bytes)
-unfolding dependent? dependent_row? member? every? dec_le dec_lt ℕ_discrete
+unfolding dependent? dependent_row_any? member? every? dec_le dec_lt ℕ_discrete
 kept? g S bytes =
     map? (λ h. record { size = h.0; bits = h.1.0; exactly = h.1.1 }) (λ h. (h.size, (h.bits, h.exactly)))
     (both? (ℕ_discrete (length bytes) g.n)

@@ -2,14 +2,13 @@
 use Rattle.std.specs.Prelude.{◌≡◌, ◌≢◌}
 use mathlib.Core.List.{List, [], ◌∷◌}
 use Prim.Native.Nat.{ℕ, zero, suc, ◌<◌}
-use Rattle.std.proofs.Common.{arith}
 use Rattle.std.proofs.Math.Decide.{ℕ_discrete, dec_lt}
 use Rattle.modular.specs.Prime.{OddPrime}
 use Rattle.skew.specs.Subset.{Subset, ◌∈◌}
-use Rattle.skew.specs.Inverse.{Skew, Invertible}
-use Rattle.skew.proofs.Decide.{invertible?}
+use Rattle.skew.specs.Inverse.{Invertible}
+use Rattle.skew.proofs.Any.{invertible_any?}
 use Rattle.matching.specs.Decision.{Refusal, because, both?, not?, First, nowhere, first_at, first?, when, Cause, Ruling, accepted, refused, judge, Accepted, accepted?, Every, Lowest}
-use Rattle.matching.specs.Graph.{Graph, tutte, tutte_skew}
+use Rattle.matching.specs.Graph.{Graph, tutte}
 use Rattle.matching.specs.Pairs.{Pair, pair_of, Pairs, unmatched, in?}
 use Rattle.matching.specs.Matching.{Adjacent, adjacent?}
 
@@ -51,9 +50,6 @@ named? n a b = all (dec_lt a n) (dec_lt b n) (not? (ℕ_discrete a b))
 abbrev pub needs : {A : Type 0} → ℕ → Dec A → Cause
 needs k d = record { number = k; finding = when (not? d) 0 }
 
-pub skew : {p : ℕ} → OddPrime p → (g : Graph) → Skew p g.n (tutte g p)
-skew P g = tutte_skew g (omega (arith, P.prime.above_one)) g.n
-
 -- S is the set of vertices in play
 module _ {p : ℕ} (P : OddPrime p) (g : Graph) (S : Subset) where
   -- the Tutte matrix has an inverse on the vertices that the pairs leave unmatched
@@ -61,8 +57,8 @@ module _ {p : ℕ} (P : OddPrime p) (g : Graph) (S : Subset) where
   Nonsingular pairs = Invertible p g.n (tutte g p) (unmatched S pairs)
 
   unfoldable pub nonsingular? : (pairs : Pairs) → Dec (Nonsingular pairs)
-  unfolding invertible? tutte unmatched
-  nonsingular? pairs = invertible? P g.n (tutte g p) (skew P g) (unmatched S pairs)
+  unfolding invertible_any? tutte unmatched
+  nonsingular? pairs = invertible_any? P g.n (tutte g p) (unmatched S pairs)
 
   -- causes 7 to 10 of a pick: not two vertices, one of them not unmatched, not adjacent, no inverse for the vertices then unmatched
   unfoldable pub pick_ruling : Pairs → ℕ → ℕ → Ruling

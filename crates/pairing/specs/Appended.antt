@@ -16,7 +16,7 @@ use Rattle.skew.proofs.Remove.{inverse_without}
 use Rattle.matching.specs.Graph.{Graph, tutte}
 use Rattle.matching.specs.Pairs.{Pair, pair_of}
 use Rattle.matching.specs.Session.{InverseTable}
-use Rattle.matching.specs.Model.{skew}
+use Rattle.matching.proofs.Model.{skew}
 use Rattle.laws.specs.ModelLaws.{pair_of_smaller}
 use Rattle.update.specs.Rows.{Updated}
 use Rattle.pairing.specs.declared.Pair as declared

@@ -17,7 +17,7 @@ use Rattle.skew.proofs.Criterion.{invertible_with}
 use Rattle.matching.specs.Graph.{Graph, tutte}
 use Rattle.matching.specs.Pairs.{unused}
 use Rattle.matching.specs.Session.{InverseTable}
-use Rattle.matching.specs.Model.{skew}
+use Rattle.matching.proofs.Model.{skew}
 use Rattle.border.specs.Column.{Bordered, border_of}
 use Rattle.update.specs.Rows.{Updated}
 use Rattle.pairing.specs.Appended.{unit, small_words}

@@ -15,7 +15,8 @@ use Rattle.matching.specs.Graph.{Graph, over, largest, cell, tutte, InOrder}
 use Rattle.matching.specs.Pairs.{Pairs, pair_of, unmatched, in?}
 use Rattle.matching.specs.Session.{InverseTable}
 use Rattle.matching.specs.Matching.{adjacent?}
-use Rattle.matching.specs.Model.{Named, named?, needs, skew, Nonsingular, nonsingular?, pick_ruling, OpenPartner}
+use Rattle.matching.specs.Model.{Named, named?, needs, Nonsingular, nonsingular?, pick_ruling, OpenPartner}
+use Rattle.matching.proofs.Model.{skew}
 use Rattle.matching.specs.Calls.{bit_of}
 use Rattle.laws.specs.Faults.{faultless_simple}
 use Rattle.laws.specs.ModelLaws.{pair_of_smaller, pair_of_larger, unmatched_without}

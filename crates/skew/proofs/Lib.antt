@@ -10,3 +10,4 @@ pub mod Run
 pub mod Decide
 pub mod Kept
 pub mod Matching
+pub mod Any

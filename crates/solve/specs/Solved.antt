@@ -21,7 +21,7 @@ use Rattle.skew.specs.Triangle.{mirror_above, by_triangle}
 use Rattle.skew.proofs.Triangle.{mirror_skew}
 use Rattle.matching.specs.Graph.{Graph, tutte, tutte_upper, weight, upper}
 use Rattle.matching.specs.Session.{InverseTable}
-use Rattle.matching.specs.Model.{skew}
+use Rattle.matching.proofs.Model.{skew}
 use Rattle.matching.specs.Opening.{Singular}
 use Rattle.tutte.specs.Table.{restricted, Filled}
 use Rattle.exchange.specs.declared.Outcome.{Outcome}
