@@ -5,7 +5,7 @@ use Rattle.std.proofs.Math.Decide.{dec_lt}
 use Rattle.draws.specs.Draws.{next, draw, draws}
 use Rattle.matching.specs.Decision.{faulty_cell, because, because_cell, accepted, refused}
 use Rattle.matching.specs.Graph.{Graph, over, fault}
-use Rattle.matching.specs.Pairs.{Pair, sequence}
+use Rattle.matching.specs.Pairs.{Pair}
 use Rattle.matching.specs.Session.{State}
 use Rattle.matching.specs.Causes.{cell_at}
 use Rattle.matching.specs.Opening.{opened, singular, not_opened, Buffers}
@@ -15,7 +15,7 @@ use Rattle.matching.specs.Calls.{Returned}
 use Rattle.matching.specs.Filling.{graph_read, not_read}
 use Rattle.matching.specs.Records.{sheet, unread}
 use Rattle.matching.specs.Replay.{short_index}
-use Rattle.matching.specs.Claims.{linked, on, edge, ones, path, complete, ring, Claim, witness, not_opening, model, answers, by_hand, spoiled, handled, ran, row, no_row, replayed, no_replay, displayed, reads, filling, lists, lists_witness, lists_refusal, host_opening, host_answer, host_row, host_words, host_bytes, host_handled, host_replayed, host_reads, host_draws, before}
+use Rattle.matching.specs.Claims.{linked, on, edge, ones, path, complete, ring, Claim, not_opening, model, answers, by_hand, spoiled, handled, ran, row, no_row, replayed, no_replay, displayed, reads, filling, lists, lists_witness, lists_refusal, host_opening, host_answer, host_row, host_words, host_bytes, host_handled, host_replayed, host_reads, host_draws, before}
 
 -- two vertices, whose adjacency table and weights are as lent
 abbrev two : List ℕ → List ℕ → Graph
