@@ -11,17 +11,14 @@ returns-then-text-lt2048 c = lacks_text_room c.if-text-lt2048.true
 
 pub returns-then-input-lt16384 : goal.returns-then-input-lt16384
 returns-then-input-lt16384 c =
-    let at = c in
-    let start = at in
-    writes_into at.if-text-lt2048.false (rw (take_all input_limit start.args.input.now (omega (arith, at.if-input-lt16384.true))) at.write_lines.ensures)
+    writes_into c.if-text-lt2048.false (rw (take_all input_limit c.args.input.now (omega (arith, c.if-input-lt16384.true))) c.write_lines.ensures)
 
 pub slice_bounds-write_lines-end : goal.slice_bounds-write_lines-end
 slice_bounds-write_lines-end c = sym (length-take-le input_limit c.args.input.now c.if-input-lt16384.false)
 
 pub write_lines-requires-2 : goal.write_lines-requires-2
 write_lines-requires-2 c =
-    let start = c in
-    (omega (arith, length-take-le input_limit start.args.input.now c.if-input-lt16384.false), c.if-text-lt2048.false)
+    (omega (arith, length-take-le input_limit c.args.input.now c.if-input-lt16384.false), c.if-text-lt2048.false)
 
 pub returns : goal.returns
-returns c = let at = c in writes_into at.if-text-lt2048.false at.write_lines-2.ensures
+returns c = writes_into c.if-text-lt2048.false c.write_lines-2.ensures

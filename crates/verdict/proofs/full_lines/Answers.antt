@@ -10,28 +10,22 @@ complete-made-requires c = let pre = c.requires in (pre.0.0, _, pre.0.1.known)
 
 pub pair_lines-next-requires : goal.pair_lines-next-requires
 pair_lines-next-requires c =
-    let at = c in
-    let pre = at.requires in
+    let pre = c.requires in
     let K = pre.0.1.known in
-    let C = at.complete-made.ensures _ _ K in
-    (omega (arith, C.few, sequence_fits K, at.complete-made.auto.sequence), omega (arith, C.few, (tables K).size, pre.1))
+    let C = c.complete-made.ensures _ _ K in
+    (omega (arith, C.few, sequence_fits K, c.complete-made.auto.sequence), omega (arith, C.few, (tables K).size, pre.1))
 
 pub full_verdict-requires : goal.full_verdict-requires
 full_verdict-requires c =
-    let written = c in
-    let at = written in
-    let pre = at.requires in
+    let pre = c.requires in
     let K = pre.0.1.known in
-    omega (arith, (at.complete-made.ensures _ _ K).few, (tables K).size, pre.1, written.pair_lines-next.ensures.bound, puts_length written.pair_lines-next.ensures.lines)
+    omega (arith, (c.complete-made.ensures _ _ K).few, (tables K).size, pre.1, c.pair_lines-next.ensures.bound, puts_length c.pair_lines-next.ensures.lines)
 
 pub returns : goal.returns
 returns c =
     λ weights F.
-    let last = c in
-    let written = last in
-    let at = written in
     record {
       text = _;
-      lines = full_lines (tables F.known).size F.nonsingular (at.complete-made.ensures weights _ F.known);
-      puts = puts_then written.pair_lines-next.ensures.lines last.full_verdict.ensures;
+      lines = full_lines (tables F.known).size F.nonsingular (c.complete-made.ensures weights _ F.known);
+      puts = puts_then c.pair_lines-next.ensures.lines c.full_verdict.ensures;
     }
