@@ -168,6 +168,91 @@ fn is_inverse_over(
     }
 }
 
+// Calls is_inverse_over with a table for at most 32 vertices. It and the next two are functions of their own, so that the compiler can put
+// their tables in the same place.
+fn is_inverse_small(
+    n: usize,
+    adjacency: &[u8],
+    weights: &[u16],
+    marks: &[u8],
+    inverse: &[u16],
+    vertices: &[u8],
+) -> bool
+    requires complete { Complete n adjacency.now weights.now × (length marks.now ≡ n) × (n * n ≤ length inverse.now) }
+    requires numbered { Numbered n marks.now vertices.now × (length vertices.now * length vertices.now ≤ 1024) }
+    ensures { let g = over n adjacency.now weights.now in
+        Tells (InverseTable modulus g (marked marks.now) inverse.now) result }
+{
+    let cells = vertices.len() * vertices.len();
+    // 32 * 32 words.
+    let mut t = [0u64; 1024];
+    is_inverse_over(
+        n,
+        adjacency,
+        weights,
+        marks,
+        inverse,
+        vertices,
+        &mut t[..cells],
+    )
+}
+
+// Calls is_inverse_over with a table for at most 64 vertices.
+fn is_inverse_medium(
+    n: usize,
+    adjacency: &[u8],
+    weights: &[u16],
+    marks: &[u8],
+    inverse: &[u16],
+    vertices: &[u8],
+) -> bool
+    requires complete { Complete n adjacency.now weights.now × (length marks.now ≡ n) × (n * n ≤ length inverse.now) }
+    requires numbered { Numbered n marks.now vertices.now × (length vertices.now * length vertices.now ≤ 4096) }
+    ensures { let g = over n adjacency.now weights.now in
+        Tells (InverseTable modulus g (marked marks.now) inverse.now) result }
+{
+    let cells = vertices.len() * vertices.len();
+    // 64 * 64 words.
+    let mut t = [0u64; 4096];
+    is_inverse_over(
+        n,
+        adjacency,
+        weights,
+        marks,
+        inverse,
+        vertices,
+        &mut t[..cells],
+    )
+}
+
+// Calls is_inverse_over with a table for any number of vertices.
+fn is_inverse_large(
+    n: usize,
+    adjacency: &[u8],
+    weights: &[u16],
+    marks: &[u8],
+    inverse: &[u16],
+    vertices: &[u8],
+) -> bool
+    requires complete { Complete n adjacency.now weights.now × (length marks.now ≡ n) × (n * n ≤ length inverse.now) }
+    requires numbered { Numbered n marks.now vertices.now }
+    ensures { let g = over n adjacency.now weights.now in
+        Tells (InverseTable modulus g (marked marks.now) inverse.now) result }
+{
+    let cells = vertices.len() * vertices.len();
+    // 96 * 96 words.
+    let mut t = [0u64; 9216];
+    is_inverse_over(
+        n,
+        adjacency,
+        weights,
+        marks,
+        inverse,
+        vertices,
+        &mut t[..cells],
+    )
+}
+
 // Calls is_inverse_over with a table of its own; a table for few vertices takes less time to clear.
 fn is_inverse_of(
     n: usize,
@@ -184,40 +269,12 @@ fn is_inverse_of(
 {
     let cells = vertices.len() * vertices.len();
     if cells <= 1024 {
-        let mut t = [0u64; 1024];
-        return is_inverse_over(
-            n,
-            adjacency,
-            weights,
-            marks,
-            inverse,
-            vertices,
-            &mut t[..cells],
-        );
+        return is_inverse_small(n, adjacency, weights, marks, inverse, vertices);
     }
     if cells <= 4096 {
-        let mut t = [0u64; 4096];
-        return is_inverse_over(
-            n,
-            adjacency,
-            weights,
-            marks,
-            inverse,
-            vertices,
-            &mut t[..cells],
-        );
+        return is_inverse_medium(n, adjacency, weights, marks, inverse, vertices);
     }
-    // 96 * 96 words.
-    let mut t = [0u64; 9216];
-    is_inverse_over(
-        n,
-        adjacency,
-        weights,
-        marks,
-        inverse,
-        vertices,
-        &mut t[..cells],
-    )
+    is_inverse_large(n, adjacency, weights, marks, inverse, vertices)
 }
 
 // Tells whether inverse is the inverse for the marked vertices. The graph must already have been checked.
