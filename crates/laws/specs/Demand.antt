@@ -37,7 +37,7 @@ denied_unchanged _ (unchanged k) q = refl
 both : {v : Ruling} {r : Refusal} → v ≡ accepted → v ≡ refused r → ⊥
 both a b = let z : ◌≡◌ {A = ℕ} 0 1 = cc in omega arith
 
--- a vertex that stands among the pairs of a well_formed sequence stands nowhere else
+-- a vertex that stands among the pairs of a well-formed sequence stands nowhere else
 once_at : (g : Graph) (made : ℕ) (s : List ℕ) (v x : ℕ) → g.n ≤ largest → WellFormed g made s → v < g.n → x < made + made → get_or s x 0 ≡ v → Once g made s v
 once_at g made s v x small W below l e = record {
   place = x;

@@ -311,7 +311,7 @@ module _ {p : ℕ} (P : OddPrime p) where
   rule_small g (picks_lowest _ _) q = absurd (let z : ◌≡◌ {A = ℕ} 0 1 = cc in omega arith)
   rule_small g (undoes _ _) q = absurd (let z : ◌≡◌ {A = ℕ} 0 1 = cc in omega arith)
 
-  -- the newest pair of a well_formed sequence has vertices below n
+  -- the newest pair of a well-formed sequence has vertices below n
   newest_below : (s : State) → Sound p s → (made : ℕ) → made ≡ s.session.made → (e : Pair) (earlier : Pairs) → pairs_on s.sequence made ≡ e ∷ earlier
       → (e.smaller < e.larger) × (e.larger < s.session.size)
   unfolding pairs_on

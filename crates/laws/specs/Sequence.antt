@@ -192,7 +192,7 @@ inside_sequence g S pairs rest M x l = rw append_assoc (go (ℕ_discrete x (x / 
     go (yes e) = ap (λ y. S (get_or xs y 0)) e ∙ two.0
     go (no d) = let e : x ≡ x / 2 + x / 2 + 1 = omega arith in ap (λ y. S (get_or xs y 0)) e ∙ two.1
 
--- a well_formed sequence is that of the pairs read off it
+-- a well-formed sequence is that of the pairs read off it
 pub length_pairs_on : (s : List ℕ) (k : ℕ) → length (pairs_on s k) ≡ k
 unfolding pairs_on
 length_pairs_on s zero = refl

@@ -177,7 +177,7 @@ module _ {n : ℕ} {S : Subset} {adjacency s marks : List ℕ} {k : ℕ} (L : Le
       in_marks : (v : ℕ) → v < n → v ∈ S → Every (k + k) (λ x. get_or s x 0 ≢ v) → get_or marks v 0 ≢ 0
       in_marks v b m d = marked_nonzero marks v (L.same v b ∙ left_on S s v k m d)
 
--- the parts of a well_formed session
+-- the parts of a well-formed session
 pub formed_all : {n made : ℕ} {adjacency s kept : List ℕ} → made + made ≤ n → Every n (λ v. get_or kept v 0 ≤ 1) → UpTo n (kept_in n kept) adjacency s made
     → UnusedFrom s (made + made) n → (weights : List ℕ) → WellFormed (over n adjacency weights) made s × KeptFits n made s kept
 formed_all f b U r weights = (
