@@ -7,15 +7,31 @@ ghost use Rattle.matching.specs.Filling.{not_read};
 ghost use Rattle.matching.specs.Host.{number, refusal_number, ruled_number, read_number, capped};
 ghost use Rattle.refusals.specs.Meaning.{place_of, refusal_of, ruling_of};
 ghost use Rattle.numbers.specs.Bits.{RulingFits};
+ghost use Rattle.numbers.specs.Kinds.{kind_number};
 
-use refusals::{Refusal, Ruling};
+use refusals::Refusal;
+
+// What a call that was carried out answers. docs/HOST.md has the value of each.
+#[derive(Clone, Copy)]
+pub enum AnswerKind {
+    Opened = 1,
+    Witness = 2,
+    Pair = 3,
+    Row = 4,
+    Replayed = 5,
+    Read = 6,
+    Drawn = 7,
+}
+
+// The last line of a text that a number can name, 2^47 - 1.
+const LAST_LINE: u64 = 140737488355327;
 
 // Returns the number of a call that was carried out: its answer-kind, its value, and the pairs made.
-pub fn carried(kind: u64, value: u64, made: u64) -> u64
-    requires { (kind < 2 ^ 8) × (value < 2 ^ 16) × (made < 2 ^ 8) }
-    ensures { result ≡ number 0 kind value made }
+pub fn carried(kind: AnswerKind, value: u64, made: u64) -> u64
+    requires { (value < 2 ^ 16) × (made < 2 ^ 8) }
+    ensures { result ≡ number 0 (kind_number kind) value made }
 {
-    256 * kind + 65536 * value + 4294967296 * made
+    256 * (kind as u64) + 65536 * value + 4294967296 * made
 }
 
 // Returns the number of a refusal.
@@ -23,30 +39,24 @@ pub fn refused(refusal: Refusal) -> u64
     requires { place_number (place_of refusal.place) < 2 ^ 24 }
     ensures { result ≡ refusal_number (refusal_of refusal) }
 {
-    let place = refusal.place;
-    refusal.cause as u64 + 65536 * (refusals::place_number(place) as u64)
+    refusal.cause.number() as u64 + 65536 * (refusals::place_number(refusal.place) as u64)
 }
 
-// Returns the number of a refusal of a text: a line of 2^47 - 1 or later is given as that.
+// Returns the number of a refusal of a text: a line after the last that a number can name is given as that one.
 pub fn refused_at_line(refusal: Refusal) -> u64
     ensures { result ≡ read_number (capped (not_read (refusal_of refusal))) }
 {
-    let place = refusal.place;
-    let line = refusals::place_number(place) as u64;
-    // 2^47 - 1.
-    if line < 140737488355327 {
-        return refusal.cause as u64 + 65536 * line;
-    }
-    refusal.cause as u64 + 65536 * 140737488355327
+    let line = refusals::place_number(refusal.place) as u64;
+    refusal.cause.number() as u64 + 65536 * line.min(LAST_LINE)
 }
 
 // Returns the number of a call whose answer has no value: the answer-kind and the pairs made, or the refusal.
-pub fn ruled(kind: u64, ruling: Ruling, made: usize) -> u64
-    requires { (kind < 2 ^ 8) × RulingFits (ruling_of ruling) made }
-    ensures { (n : ℕ) → result ≡ ruled_number kind (ruling_of ruling) (record { size = n; made = made }) }
+pub fn ruled(kind: AnswerKind, ruling: Result<(), Refusal>, made: usize) -> u64
+    requires { RulingFits (ruling_of ruling) made }
+    ensures { (n : ℕ) → result ≡ ruled_number (kind_number kind) (ruling_of ruling) (record { size = n; made = made }) }
 {
     match ruling {
-        Ruling::Accepted => carried(kind, 0, made as u64),
-        Ruling::Refused(refusal) => refused(refusal),
+        Ok(()) => carried(kind, 0, made as u64),
+        Err(refusal) => refused(refusal),
     }
 }

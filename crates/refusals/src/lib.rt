@@ -1,18 +1,65 @@
-// Why a call is refused: a cause and a place; and what the checks answer: a ruling, or the first of what they look for. The functions make
-// refusals, and turn a place into a number.
+// Why a call is refused: a cause and a place.
 #![tactic(auto)]
 
 ghost use Rattle.std.specs.Prelude.{◌≡◌};
-ghost use Rattle.matching.specs.Decision.{place_number, because, because_cell, refused};
-ghost use Rattle.refusals.specs.Meaning.{place_of, refusal_of, ruling_of};
+ghost use Rattle.matching.specs.Decision.{place_number, because, because_cell};
+ghost use Rattle.refusals.specs.Meaning.{cause_number, fault_number, place_of, refusal_of};
 
-// A faulty cell of the adjacency table. Its fault is the first of these that it has: 1 it is not 0 or 1, 2 it is not 0 on the diagonal, 3 it
-// differs from its mirror.
+// The causes, in the order in which they are looked for. docs/HOST.md has what each means; of 12 and 13, what each means of a sheet, and of a
+// list of calls.
+#[derive(Clone, Copy)]
+pub enum Cause {
+    SizeTooLarge = 1,
+    BufferTooShort = 2,
+    AdjacencyFault = 3,
+    WeightOutOfRange = 4,
+    SessionMalformed = 5,
+    InverseWrong = 6,
+    VertexInvalid = 7,
+    VertexMatched = 8,
+    NotAdjacent = 9,
+    RestSingular = 10,
+    NothingLeft = 11,
+    KindNotDue = 12,
+    CutShort = 13,
+    EndsInvalid = 14,
+    EdgeRepeated = 15,
+    LineInvalid = 16,
+    LineCountWrong = 17,
+}
+
+impl Cause {
+    // Returns the number of the cause.
+    pub fn number(self) -> u8
+        ensures { result ≡ cause_number self }
+    {
+        self as u8
+    }
+}
+
+// What is wrong with a cell of the adjacency table: it is not 0 or 1, it is not 0 on the diagonal, or it differs from its mirror.
+#[derive(Clone, Copy)]
+pub enum Fault {
+    NotBit = 1,
+    OnDiagonal = 2,
+    Unequal = 3,
+}
+
+impl Fault {
+    // Returns the number of the fault.
+    pub fn number(self) -> u8
+        ensures { result ≡ fault_number self }
+    {
+        self as u8
+    }
+}
+
+// A faulty cell of the adjacency table, with the first of the faults that it has.
 #[derive(Clone, Copy)]
 pub struct FaultyCell {
     pub row: u8,
     pub column: u8,
-    pub fault: u8,
+    pub fault: Fault,
 }
 
 // The place returned with a cause: a number, such as an index, an offset, a line or the number of a buffer; or a faulty cell.
@@ -22,30 +69,16 @@ pub enum Place {
     Cell(FaultyCell),
 }
 
-// Why a call is refused: the number of the cause, and the place returned with it.
+// Why a call is refused: the cause, and the place returned with it.
 #[derive(Clone, Copy)]
 pub struct Refusal {
-    pub cause: u8,
+    pub cause: Cause,
     pub place: Place,
 }
 
-// A ruling on a call: no cause applies, or the call is refused.
-#[derive(Clone, Copy)]
-pub enum Ruling {
-    Accepted,
-    Refused(Refusal),
-}
-
-// The lowest number with a property, or none.
-#[derive(Clone, Copy)]
-pub enum Finding {
-    Absent,
-    At(usize),
-}
-
 // Returns the refusal for a cause at an index.
-pub fn because(cause: u8, index: usize) -> Refusal
-    ensures { refusal_of result ≡ because cause index }
+pub fn because(cause: Cause, index: usize) -> Refusal
+    ensures { refusal_of result ≡ because (cause_number cause) index }
 {
     Refusal {
         cause,
@@ -53,22 +86,14 @@ pub fn because(cause: u8, index: usize) -> Refusal
     }
 }
 
-// Refuses for a cause at an index.
-pub fn refuse(cause: u8, index: usize) -> Ruling
-    ensures { ruling_of result ≡ refused (because cause index) }
+// Returns the refusal for a faulty cell, the only cause whose place is one.
+pub fn because_cell(cell: FaultyCell) -> Refusal
+    ensures { refusal_of result ≡ because_cell cell.row cell.column (fault_number cell.fault) }
 {
-    let refusal = because(cause, index);
-    Ruling::Refused(refusal)
-}
-
-// Refuses for cause 3, the only one whose place is a cell.
-pub fn refuse_cell(cell: FaultyCell) -> Ruling
-    ensures { ruling_of result ≡ refused (because_cell cell.row cell.column cell.fault) }
-{
-    Ruling::Refused(Refusal {
-        cause: 3,
+    Refusal {
+        cause: Cause::AdjacencyFault,
         place: Place::Cell(cell),
-    })
+    }
 }
 
 // Returns a place as one number: an index as it is; of a cell the row, the column and the fault, 8 bits each.
@@ -78,7 +103,8 @@ pub fn place_number(place: Place) -> usize
     match place {
         Place::Index(index) => index,
         Place::Cell(cell) => {
-            cell.row as usize + 256 * (cell.column as usize) + 65536 * (cell.fault as usize)
+            let fault = cell.fault.number() as usize;
+            cell.row as usize + 256 * (cell.column as usize) + 65536 * fault
         }
     }
 }

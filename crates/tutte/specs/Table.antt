@@ -8,14 +8,9 @@ use Rattle.lists.specs.Table.{table, vector, index_below, row_fits, row_left, ro
 use Rattle.skew.specs.Subset.{Subset}
 use Rattle.skew.specs.Inverse.{Matrix}
 use Rattle.skew.specs.Exchange.{select}
+use Rattle.graph.specs.Complete.{Complete}
 use Rattle.matching.specs.Graph.{Graph, over, largest, pair_count, upper}
 use Rattle.laws.specs.Weights.{index_closed, index_fits}
-
--- a graph of at most 96 vertices whose tables are long enough
-pub record Complete (n : ℕ) (adjacency weights : List ℕ) : Type 0 where
-  pub size : n ≤ largest
-  pub cells : n * n ≤ length adjacency
-  pub weights_enough : pair_count n ≤ length weights
 
 -- an entry above the diagonal if both vertices are in the set, else 0
 abbrev pub restricted : Graph → Subset → Matrix
@@ -79,24 +74,3 @@ module _ (n : ℕ) (E : Matrix) {m : ℕ} {t s : List ℕ} (F : Filled n E m t s
       below i j hi l (no d) = other i j (omega arith) d ∙ F.on_below i j hi l
       below i j hi l (yes w) =
           rw w (row_left n m (m + 1) (m * n + (m + 1)) size s part refl len hm (omega arith) full' j (omega arith) ∙ F.on_below m j hm (omega arith))
-
-module _ {n : ℕ} {adjacency weights : List ℕ} (L : Complete n adjacency weights) (i j : ℕ) where
-  -- products of indices are small
-  pub row_small : i < n → i * n ≤ 9216
-  row_small h = mul-le-mul {n₁ = i} {m₁ = n} {n₂ = 96} {m₂ = 96} (omega (arith, L.size)) L.size
-
-  pub numerator_small : i < n → i * (2 * n - i - 1) ≤ 18432
-  numerator_small h =
-      mul-le-mul {n₁ = i} {m₁ = 2 * n - i - 1} {n₂ = 96} {m₂ = 192} (omega (arith, L.size)) (omega (arith, L.size))
-
-  -- a cell and a weight are within what is lent
-  pub cell_within : i < n → j < n → i * n + j < length adjacency
-  cell_within hi hj = omega (arith, index_below n i j hi hj, L.cells)
-
-  pub weight_within : i < j → j < n → i * (2 * n - i - 1) / 2 + (j - i - 1) < length weights
-  weight_within h l =
-      let g = over n adjacency weights in
-      let e = index_closed g i j h l in
-      let f = index_fits g i j h l in
-      let k = L.weights_enough in
-      omega arith

@@ -1,10 +1,17 @@
--- `numbers::refused_at_line` meets its contract: a line below 2^47 - 1 is its place, and a later one has that place. Assumes nothing.
-use native.Mathlib.Omega.{arith}
+-- `numbers::refused_at_line` meets its contract: an earlier line is its place, and any later one has the last. Assumes nothing.
+use Rattle.std.specs.Prelude.{◌≡◌, ℕ, ◌-◌, ◌^◌, ◌<◌}
+use Rattle.std.proofs.Common.{arith, min}
+use Rattle.std.proofs.Math.Decide.{dec_lt}
+use Rattle.matching.specs.Host.{line_place}
 use Rattle.laws.specs.Texts.{line_same, line_last}
 use Rattle.numbers.proofs.refused_at_line.Goals as goal
 
-pub returns-then-line-lt140737488355327 : goal.returns-then-line-lt140737488355327
-returns-then-line-lt140737488355327 c = rw (← c.place_number-line.ensures, line_same _ c.if-line-lt140737488355327.true) (omega arith)
+least : (x : ℕ) → line_place x ≡ min x 140737488355327
+least x = go (dec_lt x (2 ^ 47 - 1))
+  where
+    go : Dec (x < 2 ^ 47 - 1) → line_place x ≡ min x 140737488355327
+    go (yes l) = rw (line_same x l) (omega arith)
+    go (no d) = rw (line_last x d) (omega arith)
 
 pub returns : goal.returns
-returns c = rw (← c.place_number-line.ensures, line_last c.place_number-line.result (λ l. omega (arith, c.if-line-lt140737488355327.false))) (omega arith)
+returns c = rw (← c.place_number-line.ensures, least c.place_number-line.result) cc

@@ -3,13 +3,13 @@ use native.Mathlib.Omega.{arith}
 use Rattle.numbers.proofs.ruled.Goals as goal
 
 pub carried-requires : goal.carried-requires
-carried-requires c = let h = rw c.in-Accepted.is at c.requires in (h.0, omega arith, h.1)
+carried-requires c = (omega arith, rw c.in-Ok.is at c.requires)
 
 pub refused-requires : goal.refused-requires
-refused-requires c = (rw c.in-Refused.is at c.requires).1
+refused-requires c = rw c.in-Err.is at c.requires
 
-pub returns-in-Accepted : goal.returns-in-Accepted
-returns-in-Accepted c = λ n. rw c.in-Accepted.is c.carried.ensures
+pub returns-in-Ok : goal.returns-in-Ok
+returns-in-Ok c = λ n. rw c.in-Ok.is c.carried.ensures
 
-pub returns-in-Refused : goal.returns-in-Refused
-returns-in-Refused c = λ n. rw c.in-Refused.is c.refused.ensures
+pub returns-in-Err : goal.returns-in-Err
+returns-in-Err c = λ n. rw c.in-Err.is c.refused.ensures

@@ -1,6 +1,5 @@
 -- `refusals::place_number` meets its contract: an index, or the three parts of a cell. Assumes nothing.
 use native.Mathlib.Omega.{arith}
-use borrow.Author.Rules.{rules}
 use Rattle.refusals.proofs.place_number.Goals as goal
 
 pub returns-in-Cell : goal.returns-in-Cell
