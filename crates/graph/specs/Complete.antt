@@ -1,5 +1,5 @@
 -- Tables that are long enough for a graph. Assumes nothing.
-use Rattle.std.specs.Prelude.{◌≡◌, List, ℕ, ◌+◌, ◌*◌, ◌-◌, ◌/◌, ◌≤◌, ◌<◌, length}
+use Rattle.std.specs.Prelude.{List, ℕ, ◌+◌, ◌*◌, ◌-◌, ◌/◌, ◌≤◌, ◌<◌, length}
 use Rattle.std.proofs.Common.{mul-le-mul, arith}
 use Rattle.lists.specs.Table.{index_below}
 use Rattle.matching.specs.Graph.{over, largest, pair_count}

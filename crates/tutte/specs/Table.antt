@@ -1,16 +1,14 @@
 -- What filling a table is lent, and what the table then holds. Assumes nothing.
-use Rattle.std.specs.Prelude.{◌≡◌, refl, ◌≢◌, List, ℕ, ◌+◌, ◌*◌, ◌-◌, ◌/◌, ◌≤◌, ◌<◌, length, get_or}
-use Rattle.std.proofs.Common.{ap, ◌∙◌, mul-le-mul, arith}
+use Rattle.std.specs.Prelude.{◌≡◌, refl, ◌≢◌, List, ℕ, ◌+◌, ◌*◌, ◌-◌, ◌≤◌, ◌<◌, length, get_or}
+use Rattle.std.proofs.Common.{ap, ◌∙◌, arith}
 use Rattle.std.proofs.Math.Decide.{ℕ_discrete}
 use Rattle.lists.specs.Values.{list_of, length_list_of, getD_list_of}
 use Rattle.lists.specs.Part.{replaced, length_replaced}
-use Rattle.lists.specs.Table.{table, vector, index_below, row_fits, row_left, row_inside, row_other}
+use Rattle.lists.specs.Table.{table, vector, row_fits, row_left, row_inside, row_other}
 use Rattle.skew.specs.Subset.{Subset}
 use Rattle.skew.specs.Inverse.{Matrix}
 use Rattle.skew.specs.Exchange.{select}
-use Rattle.graph.specs.Complete.{Complete}
-use Rattle.matching.specs.Graph.{Graph, over, largest, pair_count, upper}
-use Rattle.laws.specs.Weights.{index_closed, index_fits}
+use Rattle.matching.specs.Graph.{Graph, upper}
 
 -- an entry above the diagonal if both vertices are in the set, else 0
 abbrev pub restricted : Graph → Subset → Matrix

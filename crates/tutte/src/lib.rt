@@ -13,7 +13,6 @@ ghost use Rattle.tutte.specs.Table.{restricted, listed, Ascending, row_of, Fille
 
 use graph::Graph;
 use residue::Residue;
-use std::cmp::Ordering;
 
 // Returns what upper returns if i and j are both in set, else 0.
 fn entry(graph: Graph, set: &[u8], i: usize, j: usize) -> u16
@@ -46,7 +45,9 @@ pub fn fill(graph: Graph, set: &[u8], table: &mut [u64])
 {
     let n = graph.size;
     for i in 0..n {
-        fill_row(graph, set, i, &mut table[i * n + i + 1..i * n + n]);
+        let at = i * n + (i + 1);
+        let end = i * n + n;
+        fill_row(graph, set, i, &mut table[at..end]);
     }
 }
 
@@ -58,7 +59,8 @@ fn listed_row(graph: Graph, vertices: &[u8], i: usize, row: &mut [u64])
 {
     let a = vertices[i] as usize;
     for (k, word) in row.iter_mut().enumerate() {
-        *word = graph.upper(a, vertices[i + 1 + k] as usize) as u64;
+        let b = vertices[i + 1 + k] as usize;
+        *word = graph.upper(a, b) as u64;
     }
 }
 
@@ -71,7 +73,9 @@ pub fn fill_listed(graph: Graph, vertices: &[u8], table: &mut [u64])
 {
     let count = vertices.len();
     for i in 0..count {
-        listed_row(graph, vertices, i, &mut table[i * count + i + 1..i * count + count]);
+        let at = i * count + (i + 1);
+        let end = i * count + count;
+        listed_row(graph, vertices, i, &mut table[at..end]);
     }
 }
 
@@ -80,10 +84,15 @@ fn whole_entry(graph: Graph, i: usize, j: usize) -> u16
     requires { (i < graph.size) × (j < graph.size) }
     ensures { result ≡ tutte (graph_of graph.entry) modulus i j }
 {
-    match i.cmp(&j) {
-        Ordering::Less => graph.upper(i, j),
-        Ordering::Equal => 0,
-        Ordering::Greater => Residue::make(graph.upper(j, i) as u64).negate().value,
+    if i < j {
+        graph.upper(i, j)
+    } else if j < i {
+        let above = Residue {
+            value: graph.upper(j, i),
+        };
+        above.negate().value
+    } else {
+        0
     }
 }
 

@@ -1,13 +1,10 @@
 -- `tutte::fill` meets its contract. The invariant of its loop: the first i rows are filled above the diagonal.
 -- Assumes nothing.
-use Prim.Native.Nat.{◌-◌, ◌≤◌}
+use Prim.Native.Nat.{◌≤◌}
 use Rattle.skew.specs.Subset.{marked}
-use Rattle.matching.specs.Graph.{over}
+use Rattle.graph.specs.Meaning.{graph_of}
 use Rattle.tutte.specs.Table.{restricted, Filled}
 use Rattle.tutte.proofs.fill.Given as goal
 
 abbrev pub invariant-loop-i : goal.invariant-loop-i
-invariant-loop-i l = (l.i ≤ l.n) × Filled l.n (restricted (over l.n l.adjacency l.weights) (marked l.set)) l.i l.initial.table l.table
-
-abbrev pub decreases-loop-i : goal.decreases-loop-i
-decreases-loop-i l = l.n - l.i
+invariant-loop-i l = (l.i ≤ l.graph.size) × Filled l.graph.size (restricted (graph_of l.graph) (marked l.set)) l.i l.initial.table l.table

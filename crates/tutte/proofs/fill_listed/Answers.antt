@@ -6,7 +6,7 @@ use native.Mathlib.Omega.{arith}
 use lib.ListN.{length, take, drop}
 use Rattle.lists.specs.Part.{part_length}
 use Rattle.lists.specs.Table.{RowRoom, row_room}
-use Rattle.matching.specs.Graph.{over}
+use Rattle.graph.specs.Meaning.{graph_of}
 use Rattle.tutte.specs.Table.{listed, filled_start, filled_next}
 use borrow.Author.Rules.{rules}
 use Rattle.tutte.proofs.fill_listed.Goals as goal
@@ -58,7 +58,7 @@ listed_row-requires c =
     let n = length c.args.vertices.now in
     let size = at.i * n + n - (at.i * n + (at.i + 1)) in
     let l = part_length at.table (at.i * n + (at.i + 1)) size (omega arith) in
-    record { complete = c.requires.complete; i_in_bounds = (omega arith, omega arith) }
+    record { ascending = c.requires.ascending; i_in_bounds = (omega arith, omega arith) }
 
 pub loop-i-preserved : goal.loop-i-preserved
 loop-i-preserved c =
@@ -68,7 +68,7 @@ loop-i-preserved c =
     let n = length c.args.vertices.now in
     let size = at.i * n + n - (at.i * n + (at.i + 1)) in
     let l : length (take size (drop (at.i * n + (at.i + 1)) at.table)) ≡ size = part_length at.table (at.i * n + (at.i + 1)) size (omega arith) in
-    (omega arith, filled_next n (listed (over c.args.n c.args.adjacency.now c.args.weights.now) c.args.vertices.now) at.invariant.1 (omega arith) c.requires.square.size size (omega arith) (rw l at c.listed_row.ensures))
+    (omega arith, filled_next n (listed (graph_of c.args.graph) c.args.vertices.now) at.invariant.1 (omega arith) c.requires.square.size size (omega arith) (rw l at c.listed_row.ensures))
 
 pub shape_of-table : goal.shape_of-table
 shape_of-table c = c.loop-i.invariant.1.size

@@ -1,15 +1,11 @@
 -- `tutte::fill_row` meets its contract. The invariant of its loop: the first k words are those of the row, the others as they came.
 -- Assumes nothing.
-use Prim.Native.Nat.{◌+◌, ◌-◌}
-use lib.ListN.{length}
+use Prim.Native.Nat.{◌+◌}
 use Rattle.lists.specs.Written.{Written}
 use Rattle.skew.specs.Subset.{marked}
-use Rattle.matching.specs.Graph.{over}
+use Rattle.graph.specs.Meaning.{graph_of}
 use Rattle.tutte.specs.Table.{restricted}
 use Rattle.tutte.proofs.fill_row.Given as goal
 
 abbrev pub invariant-loop-k : goal.invariant-loop-k
-invariant-loop-k l = Written (λ m. restricted (over l.n l.adjacency l.weights) (marked l.set) l.i (l.i + 1 + m)) l.initial.row l.row l.k
-
-abbrev pub decreases-loop-k : goal.decreases-loop-k
-decreases-loop-k l = length l.initial.row - l.k
+invariant-loop-k l = Written (λ m. restricted (graph_of l.graph) (marked l.set) l.i (l.i + 1 + m)) l.initial.row l.row l.k

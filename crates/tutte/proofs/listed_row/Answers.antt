@@ -20,7 +20,7 @@ upper-requires c =
     let i = c.args.i in
     let k = c.loop-k.k in
     let w = c.loop-k.invariant in
-    record { complete = c.requires.complete.0; i_lt_j = (c.requires.complete.1.ordered i (i + 1 + k) (omega arith) (omega arith), c.requires.complete.1.below (i + 1 + k) (omega arith)) }
+    (c.requires.ascending.ordered i (i + 1 + k) (omega arith) (omega arith), c.requires.ascending.below (i + 1 + k) (omega arith))
 
 pub loop-k-preserved : goal.loop-k-preserved
 loop-k-preserved c = written_more _ c.loop-k.invariant (omega arith) c.upper.ensures
