@@ -1,5 +1,5 @@
 -- The vertices that pairs leave unmatched, marked, with the inverse for them, and what these say of a pick. Assumes nothing.
-use Rattle.std.specs.Prelude.{◌≡◌, refl, ◌≢◌, ◌↔◌, List, [], ◌∷◌, ℕ, ◌+◌, ◌*◌, ◌≤◌, ◌<◌, length, get_or}
+use Rattle.std.specs.Prelude.{◌≡◌, refl, ◌≢◌, ◌↔◌, Option, Result, List, [], ◌∷◌, ℕ, ◌+◌, ◌*◌, ◌≤◌, ◌<◌, length, get_or}
 use Rattle.std.proofs.Common.{sym, ◌∙◌, arith}
 use Rattle.std.proofs.Math.Decide.{dec_lt}
 use Rattle.lists.specs.Values.{list_of}
@@ -21,8 +21,7 @@ use Rattle.matching.specs.Calls.{bit_of}
 use Rattle.laws.specs.Faults.{faultless_simple}
 use Rattle.laws.specs.ModelLaws.{pair_of_smaller, pair_of_larger, unmatched_without}
 use Rattle.laws.specs.Judge.{judge_refused, judge_next, when_at, unless_absent}
-use Rattle.refusals.specs.declared.Ruling.{Ruling}
-use Rattle.refusals.specs.declared.Finding.{Finding}
+use Rattle.refusals.specs.declared.Refusal.{Refusal}
 use Rattle.refusals.specs.Meaning.{ruling_of, Finds}
 
 -- the tables of n vertices are long enough, and there is a mark for each
@@ -39,7 +38,7 @@ pub record Standing (g : Graph) (S : Subset) (pairs : Pairs) (inverse marks : Li
   pub held : InverseTable modulus g (unmatched S pairs) inverse
 
 -- the ruling of a pick, whatever the weights, the set and the pairs are
-abbrev pub Judges : (n : ℕ) (adjacency inverse marks : List ℕ) (a b : ℕ) → Ruling → Type 0
+abbrev pub Judges : (n : ℕ) (adjacency inverse marks : List ℕ) (a b : ℕ) → Result (Unit {0}) Refusal → Type 0
 Judges n adjacency inverse marks a b r =
     (weights : List ℕ) (S : Subset) (pairs : Pairs) → Standing (over n adjacency weights) S pairs inverse marks
     → ruling_of r ≡ pick_ruling modulus_prime (over n adjacency weights) S pairs a b
@@ -48,7 +47,7 @@ abbrev pub Marked : List ℕ → ℕ → Type 0
 Marked marks v = get_or marks v 0 ≢ 0
 
 -- the lowest partner of c
-abbrev pub FindsPartner : (n : ℕ) (adjacency inverse marks : List ℕ) (c : ℕ) → Finding → Type 0
+abbrev pub FindsPartner : (n : ℕ) (adjacency inverse marks : List ℕ) (c : ℕ) → Option ℕ → Type 0
 FindsPartner n adjacency inverse marks c r =
     (weights : List ℕ) (S : Subset) (pairs : Pairs) → Standing (over n adjacency weights) S pairs inverse marks
     → Finds n (OpenPartner modulus_prime (over n adjacency weights) S pairs c) r

@@ -1,6 +1,6 @@
--- `partners::partner` meets its contract. The invariant of its loop: no vertex before r is a partner of c. The measure is what is left of
+-- `partners::partner` meets its contract. The invariant of its loop: no vertex before r is a partner of c.
 use mathlib.Core.List.{List}
-use Prim.Native.Nat.{ℕ, ◌-◌, ◌≤◌}
+use Prim.Native.Nat.{ℕ}
 use Rattle.residue.specs.Modulus.{modulus_prime}
 use Rattle.matching.specs.Decision.{Every}
 use Rattle.matching.specs.Graph.{over}
@@ -16,7 +16,4 @@ NoneBefore n adjacency inverse marks c r =
     → Every r (λ k. ¬ OpenPartner modulus_prime (over n adjacency weights) S pairs c k)
 
 abbrev pub invariant-loop-r : goal.invariant-loop-r
-invariant-loop-r l = (l.r ≤ l.n) × NoneBefore l.n l.adjacency l.inverse l.marks l.c l.r
-
-abbrev pub decreases-loop-r : goal.decreases-loop-r
-decreases-loop-r l = l.n - l.r
+invariant-loop-r l = NoneBefore l.n l.adjacency l.inverse l.marks l.c l.r

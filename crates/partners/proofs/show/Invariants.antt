@@ -1,8 +1,6 @@
--- `partners::show` meets its contract. The invariant of its loop: the bytes before b are those of the definition. The measure is what is left
-use mathlib.Core.Path.{◌≡◌}
+-- `partners::show` meets its contract. The invariant of its loop: the bytes before b are those of the definition.
 use mathlib.Core.List.{List}
-use Prim.Native.Nat.{ℕ, ◌-◌, ◌≤◌}
-use lib.ListN.{length}
+use Prim.Native.Nat.{ℕ}
 use Rattle.residue.specs.Modulus.{modulus_prime}
 use Rattle.lists.specs.Written.{Written}
 use Rattle.matching.specs.Graph.{over}
@@ -19,7 +17,4 @@ ShownBefore n adjacency inverse marks a old row b =
     → Written (λ k. bit_of (pick_ruling modulus_prime (over n adjacency weights) S pairs a k)) old row b
 
 abbrev pub invariant-loop-b : goal.invariant-loop-b
-invariant-loop-b l = (l.b ≤ length l.initial.row) × (length l.row ≡ length l.initial.row) × ShownBefore l.n l.adjacency l.inverse l.marks l.a l.initial.row l.row l.b
-
-abbrev pub decreases-loop-b : goal.decreases-loop-b
-decreases-loop-b l = length l.initial.row - l.b
+invariant-loop-b l = ShownBefore l.n l.adjacency l.inverse l.marks l.a l.initial.row l.row l.b
