@@ -90,7 +90,8 @@ fn whole_entry(graph: Graph, i: usize, j: usize) -> u16
         let above = Residue {
             value: graph.upper(j, i),
         };
-        above.negate().value
+        let below = above.negate();
+        below.value
     } else {
         0
     }

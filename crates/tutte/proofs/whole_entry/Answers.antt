@@ -11,7 +11,7 @@ returns-then-i-j c = rw (tutte_upper (graph_of c.args.graph) modulus c.args.i c.
 
 pub returns-then-j-i : goal.returns-then-j-i
 returns-then-j-i c =
-    rw (tutte_lower (graph_of c.args.graph) modulus c.args.i c.args.j c.if-j-i.true, ← c.upper-then-j-i.ensures) c.negate.ensures
+    rw (tutte_lower (graph_of c.args.graph) modulus c.args.i c.args.j c.if-j-i.true, ← c.upper-then-j-i.ensures) c.negate-below.ensures
 
 pub returns-else-j-i : goal.returns-else-j-i
 returns-else-j-i c =
