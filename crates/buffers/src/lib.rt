@@ -1,40 +1,22 @@
-// Fills the first words or bytes of a buffer with one value, and copies bytes.
+// Fills the first items of a buffer with one value, and copies items.
 #![tactic(auto)]
 
 ghost use Rattle.std.specs.Prelude.{◌≡◌, ◌++◌, ◌≤◌, length, drop, replicate};
 
-// Sets the first count words to v.
-pub fn fill_words(words: &mut [u16], count: usize, v: u16)
-    requires { count ≤ length words.old }
-    ensures { words.new ≡ replicate count v ++ drop count words.old }
+// Sets the first count items to v.
+pub fn fill<T: Copy>(items: &mut [T], count: usize, v: T)
+    requires { count ≤ length items.old }
+    ensures { items.new ≡ replicate count v ++ drop count items.old }
 {
-    let mut i = 0;
-    while i < count {
-        words[i] = v;
-        i += 1;
+    for item in &mut items[..count] {
+        *item = v;
     }
 }
 
-// Sets the first count bytes to v.
-pub fn fill_bytes(bytes: &mut [u8], count: usize, v: u8)
-    requires { count ≤ length bytes.old }
-    ensures { bytes.new ≡ replicate count v ++ drop count bytes.old }
+// Copies items to target, which has the same length.
+pub fn copy<T: Copy>(items: &[T], target: &mut [T])
+    requires { length target.old ≡ length items.now }
+    ensures { target.new ≡ items.now }
 {
-    let mut i = 0;
-    while i < count {
-        bytes[i] = v;
-        i += 1;
-    }
-}
-
-// Copies bytes to target, which has the same length.
-pub fn copy_bytes(bytes: &[u8], target: &mut [u8])
-    requires { length target.old ≡ length bytes.now }
-    ensures { target.new ≡ bytes.now }
-{
-    let mut i = 0;
-    while i < target.len() {
-        target[i] = bytes[i];
-        i += 1;
-    }
+    target.copy_from_slice(items);
 }
