@@ -1,5 +1,6 @@
 -- Exchange on words, index by index. Assumes nothing.
-use Rattle.std.specs.Prelude.{◌≡◌, refl, ◌≢◌, Bool, true, false, List, ℕ, ◌+◌, ◌*◌, ◌%◌, ◌≤◌, ◌<◌, length, get_or, set}
+use Rattle.std.specs.Prelude.{◌≡◌, refl, ◌≢◌, Bool, true, false, List, Option, None, Some, IfSome, ℕ, ◌+◌, ◌*◌, ◌%◌, ◌≤◌, ◌<◌, length, get_or, set}
+use Rattle.std.specs.Option.{is_some}
 use Rattle.std.proofs.Common.{sym, ap, subst, ◌∙◌, add-one, arith, length-set, get_or-set_same, get_or-set_other}
 use Rattle.std.proofs.Math.Nat.{zero-mod}
 use Rattle.std.proofs.Math.Decide.{ℕ_discrete}
@@ -21,9 +22,6 @@ use Rattle.skew.proofs.Run.{state_start, state_skip, state_pair, state_pass, sta
 use Rattle.skew.specs.Decide.{full_next}
 use Rattle.skew.specs.Kept.{Keeps}
 use Rattle.skew.proofs.Kept.{keeps_of}
-use Rattle.exchange.specs.declared.Outcome.{Outcome}
-use Rattle.exchange.specs.declared.Outcome.TheVariants as ended
-use Rattle.exchange.specs.declared.Outcome.TheVariants.{Column}
 use Rattle.pivot.specs.Words.{limit, square, Small, matrix, place, residue, residue_small, residue_matrix}
 use Rattle.pivot.specs.Step.{Stepped}
 
@@ -43,12 +41,18 @@ pub record TurnReady (n c : ℕ) (t waiting : List ℕ) : Type 0 where
 abbrev pub Between : ℕ → ℕ → List ℕ → List ℕ → ℕ → Type 0
 Between n c t waiting r = (k : ℕ) → c < k → k < r → vector waiting k ≢ 0 → table n t c k % modulus ≡ 0
 
--- r is the lowest partner of c, or n
-pub record Found (n c : ℕ) (t waiting : List ℕ) (r : ℕ) : Type 0 where
+-- r is the lowest partner of c
+pub record Partner (n c : ℕ) (t waiting : List ℕ) (r : ℕ) : Type 0 where
   pub after : c < r
-  pub to : r ≤ n
+  pub below : r < n
   pub between : Between n c t waiting r
-  pub found : r < n → (vector waiting r ≢ 0) × (table n t c r % modulus ≢ 0)
+  pub waits : vector waiting r ≢ 0
+  pub nonzero : table n t c r % modulus ≢ 0
+
+-- the lowest partner of c, or none
+abbrev pub Found : ℕ → ℕ → List ℕ → List ℕ → Option ℕ → Type 0
+Found n c t waiting None = Between n c t waiting n
+Found n c t waiting (Some r) = Partner n c t waiting r
 
 pub between_next : (n c : ℕ) (t waiting : List ℕ) {r x : ℕ} → Between n c t waiting r → Weight (vector waiting r) (table n t c r) x → x ≡ 0
     → Between n c t waiting (r + 1)
@@ -59,10 +63,11 @@ between_next n c t waiting {r} {x} h W z k l l' o = go (ℕ_discrete k r)
     go (no d) = h k l (omega arith) o
 
 -- what a turn at c does: c does not wait, has no partner, or is exchanged with r
-pub data Turned (n c : ℕ) (t waiting t' waiting' : List ℕ) (r : ℕ) : Type 0 where
-  skipped : vector waiting c ≡ 0 → r ≡ c → t' ≡ t → waiting' ≡ waiting → Turned n c t waiting t' waiting' r
-  stuck : vector waiting c ≢ 0 → r ≡ n → Found n c t waiting r → t' ≡ t → waiting' ≡ waiting → Turned n c t waiting t' waiting' r
-  paired : vector waiting c ≢ 0 → Found n c t waiting r → r < n → Stepped n c r t t' → waiting' ≡ set (set waiting c 0) r 0 → Turned n c t waiting t' waiting' r
+pub data Turned (n c : ℕ) (t waiting t' waiting' : List ℕ) : Option ℕ → Type 0 where
+  skipped : vector waiting c ≡ 0 → t' ≡ t → waiting' ≡ waiting → Turned n c t waiting t' waiting' (Some c)
+  stuck : vector waiting c ≢ 0 → Between n c t waiting n → t' ≡ t → waiting' ≡ waiting → Turned n c t waiting t' waiting' None
+  paired : {r : ℕ} → vector waiting c ≢ 0 → Partner n c t waiting r → Stepped n c r t t' → waiting' ≡ set (set waiting c 0) r 0
+      → Turned n c t waiting t' waiting' (Some r)
 
 -- the indices of S that do not wait
 abbrev pub only : Bool → Bool → Bool
@@ -165,23 +170,25 @@ witness_small n t waiting f k = go (ℕ_discrete (vector waiting k) 0) (ℕ_disc
 
 -- the table holds the inverse on S, and all of S is exchanged; or f is the first dependent column and has this witness, and exchange can go
 -- on at f + 1
-abbrev pub Ended : ℕ → Matrix → Subset → List ℕ → List ℕ → Outcome → Type 0
-Ended n A S t waiting ended.Inverse = Inverse modulus n A S (matrix n t) × Passing n A S n t waiting × Full S (done S waiting) n
-Ended n A S t waiting (Column f) =
+abbrev pub Ended : ℕ → Matrix → Subset → List ℕ → List ℕ → Option ℕ → Type 0
+Ended n A S t waiting None = Inverse modulus n A S (matrix n t) × Passing n A S n t waiting × Full S (done S waiting) n
+Ended n A S t waiting (Some f) =
     FirstDependent modulus n A S f
     × Witness modulus n A S f (witness_word n t waiting f)
     × Passing n A S (f + 1) t waiting
     × Bounded n (f + 1) t waiting
 
--- what exchange from index first on leaves: it ends at f, the first index from there on that has no partner, or n
-pub record Advanced (n first : ℕ) (t waiting t' waiting' : List ℕ) (f : ℕ) : Type 0 where
-  pub after : first ≤ f
-  pub to : f ≤ n
-  pub bounded : f < n → Bounded n (f + 1) t' waiting'
-  pub passed : f < n → (A : Matrix) (S : Subset) → Passing n A S first t waiting → Passing n A S (f + 1) t' waiting'
-  pub passed_all : f ≡ n → (A : Matrix) (S : Subset) → Passing n A S first t waiting → Passing n A S n t' waiting'
-  pub column : f < n → (A : Matrix) (S : Subset) → Running n A S first t waiting → Ended n A S t' waiting' (Column f)
-  pub inverse : f ≡ n → (A : Matrix) (S : Subset) → Running n A S first t waiting → Ended n A S t' waiting' ended.Inverse
+-- the index at which exchange goes on after f, or its end
+abbrev pub next : ℕ → Option ℕ → ℕ
+next n None = n
+next n (Some f) = f + 1
+
+-- what exchange from index first on leaves: it ends at the first index from there on that has no partner, or at none
+pub record Advanced (n first : ℕ) (t waiting t' waiting' : List ℕ) (r : Option ℕ) : Type 0 where
+  pub after : IfSome r (λ f. first ≤ f)
+  pub bounded : Bounded n (next n r) t' waiting'
+  pub passed : (A : Matrix) (S : Subset) → Passing n A S first t waiting → Passing n A S (next n r) t' waiting'
+  pub ended : (A : Matrix) (S : Subset) → Running n A S first t waiting → Ended n A S t' waiting' r
 
 pub bounded_ready : {n c : ℕ} {t waiting : List ℕ} → Bounded n c t waiting → c < n → TurnReady n c t waiting
 bounded_ready B h = record {
@@ -191,8 +198,8 @@ bounded_ready B h = record {
   size = B.size;
 }
 
-pub bounded_next : {n c : ℕ} {t waiting t' waiting' : List ℕ} {r : ℕ} → Bounded n c t waiting → c < n → Turned n c t waiting t' waiting' r
-    → length t' ≡ length t → length waiting' ≡ length waiting → Bounded n (c + 1) t' waiting'
+pub bounded_next : {n c : ℕ} {t waiting t' waiting' : List ℕ} {r : Option ℕ} → Bounded n c t waiting → c < n
+    → Turned n c t waiting t' waiting' r → length t' ≡ length t → length waiting' ≡ length waiting → Bounded n (c + 1) t' waiting'
 bounded_next {n} {c} {t} {waiting} {t'} B h T lt lw = record {
   table_square = record { small = B.table_square.small; size = lt ∙ B.table_square.size };
   small = record { at = λ i j hi hj. grown i j hi hj T };
@@ -203,11 +210,11 @@ bounded_next {n} {c} {t} {waiting} {t'} B h T lt lw = record {
     same : (i j : ℕ) → i < n → j < n → t' ≡ t → table n t' i j < (c + 1 + 1) * (square + square)
     same i j hi hj e = rw e (omega (arith, B.small.at i j hi hj))
 
-    grown : {waiting' : List ℕ} {r : ℕ} (i j : ℕ) → i < n → j < n → Turned n c t waiting t' waiting' r
+    grown : {waiting' : List ℕ} {r : Option ℕ} (i j : ℕ) → i < n → j < n → Turned n c t waiting t' waiting' r
         → table n t' i j < (c + 1 + 1) * (square + square)
-    grown i j hi hj (skipped _ _ e _) = same i j hi hj e
-    grown i j hi hj (stuck _ _ _ e _) = same i j hi hj e
-    grown i j hi hj (paired _ _ _ X _) = omega (arith, B.small.at i j hi hj, X.grown i j hi hj)
+    grown i j hi hj (skipped _ e _) = same i j hi hj e
+    grown i j hi hj (stuck _ _ e _) = same i j hi hj e
+    grown i j hi hj (paired _ _ X _) = omega (arith, B.small.at i j hi hj, X.grown i j hi hj)
 
 pub running_start : {n : ℕ} {A : Matrix} {t : List ℕ} (waiting : List ℕ) → Holds n A (marked waiting) t → Running n A (marked waiting) 0 t waiting
 running_start {n} {A} {t} waiting H = record {
@@ -240,7 +247,7 @@ module _ {n : ℕ} {A : Matrix} {S : Subset} {c : ℕ} {t waiting : List ℕ} (R
       (by_remainders _ 0 (between k l l' (waits S waiting k lk.inside o) ∙ sym (zero-mod modulus)))
 
   -- if c and r are exchanged
-  module _ {waiting' : List ℕ} {r : ℕ} (size : length waiting ≡ n) (z : vector waiting c ≢ 0) (F : Found n c t waiting r) (h : r < n)
+  module _ {waiting' : List ℕ} {r : ℕ} (size : length waiting ≡ n) (z : vector waiting c ≢ 0) (F : Partner n c t waiting r)
       (ew : waiting' ≡ set (set waiting c 0) r 0) where
     at_r : vector waiting' r ≡ 0
     at_r = rw ew (get_or-set_same (set waiting c 0) r 0 0 (simp length-set (omega arith)))
@@ -263,24 +270,25 @@ module _ {n : ℕ} {A : Matrix} {S : Subset} {c : ℕ} {t waiting : List ℕ} (R
     sets = record {
       differ = λ e. omega (arith, F.after);
       a_in = done_in S waiting' c (index c hc z).inside (marked_out waiting' c at_c);
-      b_in = done_in S waiting' r (index r h (F.found h).0).inside (marked_out waiting' r at_r);
+      b_in = done_in S waiting' r (index r F.below F.waits).inside (marked_out waiting' r at_r);
       a_out = not_done c z;
-      b_out = not_done r (F.found h).0;
+      b_out = not_done r F.waits;
       others = λ i d e. ap (only (S i)) (marked_same waiting waiting' i (off i d e));
     }
 
     lowest : Lowest modulus n S (done S waiting) (matrix n t) c r
     lowest = record {
-      index = index r h (F.found h).0;
-      not_in = not_done r (F.found h).0;
+      index = index r F.below F.waits;
+      not_in = not_done r F.waits;
       after = F.after;
-      nonzero = λ w. (F.found h).1 (remainders_equal (rw (mirror_above modulus_prime.odd (table n t) c r F.after) at w) ∙ zero-mod modulus);
+      nonzero = λ w. F.nonzero (remainders_equal (rw (mirror_above modulus_prime.odd (table n t) c r F.after) at w) ∙ zero-mod modulus);
       between = alone F.between;
     }
 
   -- a turn at c, also at a c that has no partner
-  pub passing_next : {t' waiting' : List ℕ} {r : ℕ} → length waiting ≡ n → Turned n c t waiting t' waiting' r → Passing n A S (c + 1) t' waiting'
-  passing_next _ (skipped e _ et ew) =
+  pub passing_next : {t' waiting' : List ℕ} {r : Option ℕ} → length waiting ≡ n → Turned n c t waiting t' waiting' r
+      → Passing n A S (c + 1) t' waiting'
+  passing_next _ (skipped e et ew) =
       rw (et, ew)
       (record {
         skew = R.skew;
@@ -288,23 +296,23 @@ module _ {n : ℕ} {A : Matrix} {S : Subset} {c : ℕ} {t waiting : List ℕ} (R
         within = R.within;
         outer = R.outer;
       })
-  passing_next _ (stuck z e F et ew) =
+  passing_next _ (stuck z between et ew) =
       rw (et, ew)
       (record {
         skew = R.skew;
-        state = rw add-one (state_pass modulus n A S modulus_prime.odd R.state (λ _ k l' lk o l. alone F.between k (omega arith) lk o l));
+        state = rw add-one (state_pass modulus n A S modulus_prime.odd R.state (λ _ k l' lk o l. alone between k (omega arith) lk o l));
         within = R.within;
         outer = R.outer;
       })
-  passing_next {t'} {waiting'} {r} size (paired z F h X ew) = record {
+  passing_next {t'} {waiting'} size (paired {r} z F X ew) = record {
     skew = R.skew;
     state =
         rw add-one
-        (state_pair modulus n A S modulus_prime.odd R.state (index c hc z) (lowest size z F h ew) (sets size z F h ew) X.exchanged);
-    within = λ i m. within size z F h ew i m (ℕ_discrete i c) (ℕ_discrete i r);
+        (state_pair modulus n A S modulus_prime.odd R.state (index c hc z) (lowest size z F ew) (sets size z F ew) X.exchanged);
+    within = λ i m. within size z F ew i m (ℕ_discrete i c) (ℕ_discrete i r);
     outer = λ i j hi hj o.
-        exchanged_zero X.exchanged hc h i hi (λ e. clash (index c hc z).inside (ap S (sym e) ∙ o))
-        (λ e. clash (index r h (F.found h).0).inside (ap S (sym e) ∙ o)) (λ k hk. R.outer i k hi hk o) j hj;
+        exchanged_zero X.exchanged hc F.below i hi (λ e. clash (index c hc z).inside (ap S (sym e) ∙ o))
+        (λ e. clash (index r F.below F.waits).inside (ap S (sym e) ∙ o)) (λ k hk. R.outer i k hi hk o) j hj;
   }
 
   -- if c has no partner, it has this witness
@@ -328,28 +336,30 @@ module _ {n : ℕ} {A : Matrix} {S : Subset} {c : ℕ} {t waiting : List ℕ} (R
           ⨾ linear ((mirror_skew modulus_prime.odd (table n t) n).turn c k hc hk ⊖ R.outer k c hk hc o) (omega arith))
 
 module _ {n : ℕ} {A : Matrix} {S : Subset} {c : ℕ} {t waiting : List ℕ} (R : Running n A S c t waiting) (hc : c < n) (size : length waiting ≡ n)
-    {t' waiting' : List ℕ} {r : ℕ} (T : Turned n c t waiting t' waiting' r) where
-  pub running_next : r ≢ n → Running n A S (c + 1) t' waiting'
-  running_next d = record { passing = passing_next R.passing hc size T; full = full T }
+    {t' waiting' : List ℕ} where
+  pub running_next : {r : Option ℕ} → Turned n c t waiting t' waiting' r → is_some r ≡ true → Running n A S (c + 1) t' waiting'
+  running_next T e = record { passing = passing_next R.passing hc size T; full = full T e }
     where
-      full : Turned n c t waiting t' waiting' r → Full S (done S waiting') (c + 1)
-      full (skipped e _ et ew) = rw (ew, add-one) (full_next R.full (λ _ _ m. m) (λ s. done_in S waiting c s (marked_out waiting c e)))
-      full (stuck _ e _ _ _) = absurd (d e)
-      full (paired z F h X ew) =
-          let s = sets R.passing hc size z F h ew in
+      full : {r : Option ℕ} → Turned n c t waiting t' waiting' r → is_some r ≡ true → Full S (done S waiting') (c + 1)
+      full (skipped e et ew) _ = rw (ew, add-one) (full_next R.full (λ _ _ m. m) (λ s. done_in S waiting c s (marked_out waiting c e)))
+      full (stuck _ _ _ _) e = cc
+      full (paired z F X ew) _ =
+          let s = sets R.passing hc size z F ew in
           rw add-one (full_next R.full (λ i l m. sym (s.others i (λ e. omega arith) (λ e. omega (arith, F.after))) ∙ m) (λ _. s.a_in))
 
-  pub running_stuck : r ≡ n → Bounded n (c + 1) t' waiting' → Ended n A S t' waiting' (Column c)
-  running_stuck q B = ended T
-    where
-      ended : Turned n c t waiting t' waiting' r → Ended n A S t' waiting' (Column c)
-      ended (skipped _ e _ _) = absurd (omega arith)
-      ended (paired _ _ h _ _) = absurd (omega arith)
-      ended (stuck z e F et ew) =
-          let W = stuck_witness R.passing hc z (λ k l h. F.between k l (omega arith)) in
-          (state_first modulus n A S modulus_prime R.passing.skew R.passing.state R.full W, rw (et, ew) W, passing_next R.passing hc size T, B)
+  pub running_stuck : {r : Option ℕ} → Turned n c t waiting t' waiting' r → is_some r ≡ false → Bounded n (c + 1) t' waiting'
+      → Ended n A S t' waiting' (Some c)
+  running_stuck (skipped _ _ _) e B = cc
+  running_stuck (paired _ _ _ _) e B = cc
+  running_stuck (stuck z between et ew) _ B =
+      let W = stuck_witness R.passing hc z between in (
+        state_first modulus n A S modulus_prime R.passing.skew R.passing.state R.full W,
+        rw (et, ew) W,
+        passing_next R.passing hc size (stuck z between et ew),
+        B,
+      )
 
-pub running_end : {n : ℕ} {A : Matrix} {S : Subset} {c : ℕ} {t waiting : List ℕ} → Running n A S c t waiting → c ≡ n → Ended n A S t waiting ended.Inverse
+pub running_end : {n : ℕ} {A : Matrix} {S : Subset} {c : ℕ} {t waiting : List ℕ} → Running n A S c t waiting → c ≡ n → Ended n A S t waiting None
 running_end {n} {A} {S} {c} {t} {waiting} R e = (
   exchange_whole modulus n A S R.passing.state.exchange (λ i li. R.full i (omega (arith, li.below)) li.inside) (λ i j _ _. equals refl)
       R.passing.outer

@@ -11,13 +11,6 @@ ghost use Rattle.exchange.specs.Run.{Weight, TurnReady, Found, Turned, Holds, Bo
 
 use residue::Residue;
 
-// How the exchanges end: with the inverse, or at the first dependent column.
-#[derive(Clone, Copy)]
-pub enum Outcome {
-    Inverse,
-    Column(usize),
-}
-
 // Returns the residue of w if the index waits, else 0.
 fn weight(waits: u8, w: u64) -> u64
     ensures { Weight waits w result }
@@ -28,23 +21,20 @@ fn weight(waits: u8, w: u64) -> u64
     Residue::make(w).value as u64
 }
 
-// Finds the lowest partner of c: an index after c that waits and whose entry in row c is not 0. Returns n if there is none.
-fn partner(t: &[u64], n: usize, c: usize, waiting: &[u8]) -> usize
+// Finds the lowest partner of c: an index after c that waits and whose entry in row c is not 0.
+fn partner(t: &[u64], n: usize, c: usize, waiting: &[u8]) -> Option<usize>
     requires { TurnReady n c t.now waiting.now }
     ensures { Found n c t.now waiting.now result }
 {
-    let mut r = c + 1;
-    while r < n {
-        let at = c * n + r;
-        if weight(waiting[r], t[at]) != 0 {
-            return r;
+    for r in c + 1..n {
+        if weight(waiting[r], t[c * n + r]) != 0 {
+            return Some(r);
         }
-        r += 1;
     }
-    r
+    None
 }
 
-// Exchanges c with its lowest partner and returns the partner; then neither waits. Returns n if c has no partner, and c if it does not
+// Exchanges c with its lowest partner and returns the partner; then neither waits. Returns None if c has no partner, and c if it does not
 // wait. x and y are room for two columns.
 fn turn(
     t: &mut [u64],
@@ -53,55 +43,46 @@ fn turn(
     waiting: &mut [u8],
     x: &mut [u64],
     y: &mut [u64],
-) -> usize
+) -> Option<usize>
     requires { TurnReady n c t.old waiting.old × (length x.old ≡ n) × (length y.old ≡ n) }
     ensures { Turned n c t.old waiting.old t.new waiting.new result }
 {
     if waiting[c] == 0 {
-        return c;
+        return Some(c);
     }
-    let r = partner(t, n, c, waiting);
-    if r == n {
-        return r;
-    }
+    let r = partner(t, n, c, waiting)?;
     pivot::exchange(t, n, c, r, x, y);
     waiting[c] = 0;
     waiting[r] = 0;
-    r
+    Some(r)
 }
 
-// Exchanges the indices that wait, from index first on, up to one that has no partner, and returns that one. Returns n if every one has a
+// Exchanges the indices that wait, from index first on, up to one that has no partner, and returns that one; None if every one has a
 // partner. The only caller of turn, so that the compiler can inline it.
-fn advance(t: &mut [u64], n: usize, first: usize, waiting: &mut [u8]) -> usize
+fn advance(t: &mut [u64], n: usize, first: usize, waiting: &mut [u8]) -> Option<usize>
     requires { Bounded n first t.old waiting.old }
     ensures { Advanced n first t.old waiting.old t.new waiting.new result }
 {
     let mut x = [0u64; 96];
     let mut y = [0u64; 96];
-    let mut c = first;
+    let (x, y) = (&mut x[..n], &mut y[..n]);
     // No index from first up to c waits.
-    while c < n {
-        let r = turn(t, n, c, waiting, &mut x[..n], &mut y[..n]);
-        if r == n {
-            return c;
+    for c in first..n {
+        if turn(t, n, c, waiting, x, y).is_none() {
+            return Some(c);
         }
-        c += 1;
     }
-    c
+    None
 }
 
-// Exchanges the indices that wait, to the end or to the first dependent column. The contract is about any skew matrix that the table holds
-// on the set of these indices; outside the set the table holds 0.
-pub fn run(t: &mut [u64], n: usize, waiting: &mut [u8]) -> Outcome
+// Exchanges the indices that wait, to the end, or to the first dependent column, and returns that one. The contract is about any skew matrix
+// that the table holds on the set of these indices; outside the set the table holds 0.
+pub fn run(t: &mut [u64], n: usize, waiting: &mut [u8]) -> Option<usize>
     requires { Square n t.old × Small 65536 n t.old × (length waiting.old ≡ n) }
     ensures { (A : Matrix) → Holds n A (marked waiting.old) t.old
         → Ended n A (marked waiting.old) t.new waiting.new result }
 {
-    let f = advance(t, n, 0, waiting);
-    if f == n {
-        return Outcome::Inverse;
-    }
-    Outcome::Column(f)
+    advance(t, n, 0, waiting)
 }
 
 // Goes on after a dependent column: exchanges the indices that wait, from index first on, and passes those that have no partner. Then the
@@ -113,11 +94,7 @@ pub fn rest(t: &mut [u64], n: usize, first: usize, waiting: &mut [u8])
 {
     let mut i = first;
     // An index below i that waits has no partner.
-    while i < n {
-        let f = advance(t, n, i, waiting);
-        if f == n {
-            return;
-        }
+    while let Some(f) = advance(t, n, i, waiting) {
         i = f + 1;
     }
 }
