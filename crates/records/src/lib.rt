@@ -1,8 +1,6 @@
 // The records of a sheet: what stands at an offset of its bytes.
 #![tactic(auto)]
 
-ghost use Rattle.std.specs.Prelude.{◌≡◌};
-ghost use Rattle.matching.specs.Records.{four};
 ghost use Rattle.records.specs.Stands.{Stands};
 
 // Two vertices as a record has them, in either order.
@@ -21,31 +19,26 @@ pub enum Record {
     End,
 }
 
+// A kind of record, without a body.
+#[derive(Clone, Copy)]
+pub enum Kind {
+    Size,
+    Share,
+    Seed,
+    End,
+}
+
 // What stands at an offset.
 #[derive(Clone, Copy)]
 pub enum Next {
     // A whole record.
     Whole(Record),
     // A record-kind whose body is cut.
-    Cut(u8),
+    Cut(Kind),
     // A byte that is not a record-kind.
     Unknown,
     // No byte.
     Nothing,
-}
-
-// Widens byte x to a number of vertices, or to a vertex.
-fn wide(x: u8) -> usize
-    ensures { result ≡ x }
-{
-    x as usize
-}
-
-// Joins four bytes into one number, a lowest.
-fn joined(a: u8, b: u8, c: u8, d: u8) -> u32
-    ensures { result ≡ four a b c d }
-{
-    (a as u32) + 256 * ((b as u32) + 256 * ((c as u32) + 256 * (d as u32)))
 }
 
 // Reads what stands at offset at of bytes.
@@ -55,32 +48,24 @@ pub fn next_at(bytes: &[u8], at: usize) -> Next
     if bytes.len() <= at {
         return Next::Nothing;
     }
-    let left = bytes.len() - at;
-    let kind = bytes[at];
-    if kind == 1 {
-        if left < 2 {
-            return Next::Cut(1);
-        }
-        let n = wide(bytes[at + 1]);
-        return Next::Whole(Record::Size(n));
+    let body = &bytes[at + 1..];
+    match bytes[at] {
+        1 => match *body {
+            [n, ..] => Next::Whole(Record::Size(usize::from(n))),
+            _ => Next::Cut(Kind::Size),
+        },
+        2 => match *body {
+            [a, b, ..] => Next::Whole(Record::Share(Ends {
+                a: usize::from(a),
+                b: usize::from(b),
+            })),
+            _ => Next::Cut(Kind::Share),
+        },
+        3 => match *body {
+            [a, b, c, d, ..] => Next::Whole(Record::Seed(u32::from_le_bytes([a, b, c, d]))),
+            _ => Next::Cut(Kind::Seed),
+        },
+        4 => Next::Whole(Record::End),
+        _ => Next::Unknown,
     }
-    if kind == 2 {
-        if left < 3 {
-            return Next::Cut(2);
-        }
-        let a = wide(bytes[at + 1]);
-        let b = wide(bytes[at + 2]);
-        return Next::Whole(Record::Share(Ends { a, b }));
-    }
-    if kind == 3 {
-        if left < 5 {
-            return Next::Cut(3);
-        }
-        let seed = joined(bytes[at + 1], bytes[at + 2], bytes[at + 3], bytes[at + 4]);
-        return Next::Whole(Record::Seed(seed));
-    }
-    if kind == 4 {
-        return Next::Whole(Record::End);
-    }
-    Next::Unknown
 }
