@@ -1,4 +1,4 @@
--- `buffers::fill` meets its contract: the items before the index are v.
+-- `buffers::fill` meets its contract: the items before the index are v. Assumes nothing.
 use Rattle.std.proofs.Common.{◌≡◌, ◌++◌, ◌∷◌, [], List, ℕ, zero, suc, ◌<◌, length, drop, take, replicate, slice_set, refl, ap, add-one, arith}
 use Rattle.buffers.proofs.fill.Goals as goal
 

@@ -1,4 +1,4 @@
--- `buffers::fill` meets its contract: the items before the index are v.
+-- `buffers::fill` meets its contract: the items before the index are v. Assumes nothing.
 use Rattle.std.proofs.Common.{◌≡◌, ◌++◌, drop, replicate}
 use Rattle.buffers.proofs.fill.Given as goal
 
