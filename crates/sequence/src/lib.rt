@@ -2,7 +2,7 @@
 // unmatched: a byte for each vertex, not 0 if it is unmatched.
 #![tactic(auto)]
 
-ghost use Rattle.std.specs.Prelude.{◌≡◌, ◌+◌, ◌≤◌, ◌<◌, length, set};
+ghost use Rattle.std.specs.Prelude.{◌≡◌, ◌+◌, ◌≤◌, length};
 ghost use Rattle.skew.specs.Subset.{marked};
 ghost use Rattle.sequence.specs.Formed.{AdjacencyFits, Tells, PairFits, Taken, UnusedFrom, Bits, Formed};
 
@@ -14,31 +14,7 @@ fn fits(n: usize, adjacency: &[u8], marks: &[u8], a: usize, b: usize) -> bool
     requires { AdjacencyFits n adjacency.now × (length marks.now ≡ n) }
     ensures { Tells (PairFits n adjacency.now marks.now a b) result }
 {
-    if b <= a {
-        return false;
-    }
-    if n <= b {
-        return false;
-    }
-    if adjacency[a * n + b] != 1 {
-        return false;
-    }
-    if marks[a] == 0 {
-        return false;
-    }
-    if marks[b] == 0 {
-        return false;
-    }
-    true
-}
-
-// Removes the marks of a and b.
-fn unmark(marks: &mut [u8], a: usize, b: usize)
-    requires { (a < length marks.old) × (b < length marks.old) }
-    ensures { marks.new ≡ set (set marks.old a 0) b 0 }
-{
-    marks[a] = 0;
-    marks[b] = 0;
+    a < b && b < n && adjacency[a * n + b] == 1 && marks[a] != 0 && marks[b] != 0
 }
 
 // Removes the marks of the first made pairs, as long as the pairs are in order, and tells whether all of them are.
@@ -46,18 +22,15 @@ fn take_pairs(n: usize, adjacency: &[u8], sequence: &[u8], made: usize, marks: &
     requires { AdjacencyFits n adjacency.now × (made + made ≤ n) × (n ≤ length sequence.now) × (length marks.old ≡ n) }
     ensures { Taken n (marked marks.old) adjacency.now sequence.now made marks.new result }
 {
-    let mut k = 0;
-    // The first k pairs are in order, and the marks are those of the vertices that they leave unmatched.
-    while k < made {
-        let at = k + k;
-        let a = sequence[at] as usize;
-        let b = sequence[at + 1] as usize;
-        let fit = fits(n, adjacency, marks, a, b);
-        if !fit {
+    // The pairs so far are in order, and the marks are those of the vertices that they leave unmatched.
+    for pair in sequence[..made + made].chunks_exact(2) {
+        let a = pair[0] as usize;
+        let b = pair[1] as usize;
+        if !fits(n, adjacency, marks, a, b) {
             return false;
         }
-        unmark(marks, a, b);
-        k += 1;
+        marks[a] = 0;
+        marks[b] = 0;
     }
     true
 }
@@ -67,28 +40,14 @@ fn unused_from(sequence: &[u8], start: usize, n: usize) -> bool
     requires { n ≤ length sequence.now }
     ensures { Tells (UnusedFrom sequence.now start n) result }
 {
-    let mut i = start;
-    while i < n {
-        if sequence[i] != UNUSED {
-            return false;
-        }
-        i += 1;
-    }
-    true
+    sequence[..n].iter().skip(start).all(|byte| *byte == UNUSED)
 }
 
 // Tells whether every byte of row is 0 or 1.
 fn only_bits(row: &[u8]) -> bool
     ensures { Tells (Bits row.now) result }
 {
-    let mut i = 0;
-    while i < row.len() {
-        if 1 < row[i] {
-            return false;
-        }
-        i += 1;
-    }
-    true
+    row.iter().all(|byte| *byte <= 1)
 }
 
 // Tells whether a sequence with made pairs is well formed, and the first n bytes of the kept row are 0 or 1, and 1 for each matched vertex; if
@@ -104,17 +63,9 @@ pub fn formed(
     requires { AdjacencyFits n adjacency.now × (n ≤ length sequence.now) × (n ≤ length kept.now) × (length marks.old ≡ n) }
     ensures { Formed n adjacency.now sequence.now made kept.now marks.new result }
 {
-    if n / 2 < made {
+    if n / 2 < made || !only_bits(&kept[..n]) {
         return false;
     }
-    let bits = only_bits(&kept[..n]);
-    if !bits {
-        return false;
-    }
-    buffers::copy_bytes(&kept[..n], marks);
-    let taken = take_pairs(n, adjacency, sequence, made, marks);
-    if !taken {
-        return false;
-    }
-    unused_from(sequence, made + made, n)
+    marks.copy_from_slice(&kept[..n]);
+    take_pairs(n, adjacency, sequence, made, marks) && unused_from(sequence, made + made, n)
 }
