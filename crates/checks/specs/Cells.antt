@@ -1,5 +1,5 @@
 -- Laws of the faults of the adjacency table's cells, and of the first fault. Assumes nothing.
-use Rattle.std.specs.Prelude.{◌≡◌, ◌≢◌, List, [], ℕ, suc, ◌+◌, ◌*◌, ◌/◌, ◌%◌, ◌≤◌, ◌<◌, get_or}
+use Rattle.std.specs.Prelude.{◌≡◌, ◌≢◌, List, [], ℕ, suc, ◌+◌, ◌*◌, ◌/◌, ◌%◌, ◌≤◌, ◌<◌, get_or, Option, None, Some}
 use Rattle.std.proofs.Common.{sym, ap, ap₂, ◌∙◌, div-lt_iff_lt-mul, arith}
 use Rattle.std.proofs.Math.Decide.{ℕ_discrete, dec_lt}
 use Rattle.lists.specs.Table.{index_positive, row_below, column_below, index_of, index_row, index_column, index_below}
@@ -10,8 +10,6 @@ use Rattle.laws.specs.Faults.{fault_of_cell, fault_mirror, bad_cell_at}
 use Rattle.laws.specs.Judge.{found_absent}
 use Rattle.refusals.specs.declared.FaultyCell.{FaultyCell}
 use Rattle.checks.specs.Meaning.{FaultInRow, Located}
-use Rattle.checks.specs.declared.Cells.{Cells}
-use Rattle.checks.specs.declared.Cells.TheVariants as variants
 
 -- the fault by the indices of the cell and of its mirror
 pub fault_by_index : (g : Graph) (i j x y : ℕ) → x ≡ i * g.n + j → y ≡ j * g.n + i → cell_fault (get_or g.adjacency x 0) (get_or g.adjacency y 0) i j ≡ fault g i j
@@ -63,7 +61,7 @@ module _ (g : Graph) where
   cells_absent rows = (found_absent (cell_at g) (first_faulty g)).1 (λ x l. passed g.n 0 (omega arith) (omega arith) rows (λ l a b. absurd (omega arith)) x (omega arith))
 
   -- a fault that is the first of its row is the first of all, if the rows before have none
-  pub first_in_row : (i : ℕ) → i < g.n → RowsPassed i → (f : FaultyCell) → FaultInRow g i f → Located g (variants.Faulty f)
+  pub first_in_row : (i : ℕ) → i < g.n → RowsPassed i → (f : FaultyCell) → FaultInRow g i f → Located g (Some f)
   first_in_row i hi rows f s =
       rw (s.row, s.is) (cell_first i f.column hi s.column (λ e. s.faulty (s.is ∙ e)) rows s.before)
 
@@ -75,7 +73,7 @@ module _ (g : Graph) where
       go (no d) = rows k (omega arith) l b c
 
 -- the weights do not matter
-pub whatever_weights : (n : ℕ) (adjacency : List ℕ) (r : Cells) → Located (over n adjacency []) r → (weights : List ℕ) → Located (over n adjacency weights) r
+pub whatever_weights : (n : ℕ) (adjacency : List ℕ) (r : Option FaultyCell) → Located (over n adjacency []) r → (weights : List ℕ) → Located (over n adjacency weights) r
 unfolding bad_cell fault
-whatever_weights n adjacency variants.Faultless h weights = h
-whatever_weights n adjacency (variants.Faulty f) h weights = h
+whatever_weights n adjacency None h weights = h
+whatever_weights n adjacency (Some f) h weights = h

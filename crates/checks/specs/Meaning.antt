@@ -1,12 +1,13 @@
 -- The answers of this crate in the terms of the definitions: what the contracts of `src/` cite. Assumes nothing.
-use Rattle.std.specs.Prelude.{◌≡◌, ◌≢◌, ℕ, ◌≤◌, ◌<◌}
+use Rattle.std.specs.Prelude.{◌≡◌, ◌≢◌, List, ℕ, ◌≤◌, ◌<◌, Option, None, Some}
 use Rattle.matching.specs.Decision as decision
 use Rattle.matching.specs.Decision.{faulty_cell, absent, at, accepted, refused}
-use Rattle.matching.specs.Graph.{Graph, fault}
+use Rattle.matching.specs.Graph.{Graph, fault, over}
 use Rattle.matching.specs.Causes.{bad_cell}
 use Rattle.refusals.specs.declared.FaultyCell.{FaultyCell}
-use Rattle.checks.specs.declared.Cells.{Cells}
-use Rattle.checks.specs.declared.Cells.TheVariants.{Faultless, Faulty}
+use Rattle.refusals.specs.Meaning.{fault_number}
+use Rattle.graph.specs.declared.Graph as lent
+use Rattle.graph.specs.Meaning.{graph_of}
 
 -- the first of two rulings that is a refusal
 abbrev pub then : decision.Ruling → decision.Ruling → decision.Ruling
@@ -18,15 +19,24 @@ pub record FaultInRow (g : Graph) (i : ℕ) (f : FaultyCell) : Type 0 where
   pub row : f.row ≡ i
   pub from_diagonal : i ≤ f.column
   pub column : f.column < g.n
-  pub is : f.fault ≡ fault g i f.column
-  pub faulty : f.fault ≢ 0
+  pub is : fault_number f.fault ≡ fault g i f.column
+  pub faulty : fault_number f.fault ≢ 0
   pub before : (l : ℕ) → i ≤ l → l < f.column → fault g i l ≡ 0
 
-abbrev pub InRow : Graph → ℕ → Cells → Type 0
-InRow g i Faultless = (l : ℕ) → i ≤ l → l < g.n → fault g i l ≡ 0
-InRow g i (Faulty f) = FaultInRow g i f
+abbrev pub InRow : Graph → ℕ → Option FaultyCell → Type 0
+InRow g i None = (l : ℕ) → i ≤ l → l < g.n → fault g i l ≡ 0
+InRow g i (Some f) = FaultInRow g i f
 
 -- where cause 3 is found
-abbrev pub Located : Graph → Cells → Type 0
-Located g Faultless = (bad_cell g).finding ≡ absent
-Located g (Faulty f) = (bad_cell g).finding ≡ at (faulty_cell f.row f.column f.fault)
+abbrev pub Located : Graph → Option FaultyCell → Type 0
+Located g None = (bad_cell g).finding ≡ absent
+Located g (Some f) = (bad_cell g).finding ≡ at (faulty_cell f.row f.column (fault_number f.fault))
+
+-- the graph that an accepting check returns is the one that was lent
+pub record Lent (n : ℕ) (a : List ℕ) (w : List ℕ) (g : lent.Graph) : Type 0 where
+  pub size : g.size ≡ n
+  pub adjacency : g.adjacency.now ≡ a
+  pub weights : g.weights.now ≡ w
+
+pub lent_graph : {n : ℕ} {a w : List ℕ} {g : lent.Graph} → Lent n a w g → graph_of g ≡ over n a w
+lent_graph L = rw (L.size, L.adjacency, L.weights)

@@ -1,12 +1,14 @@
 -- How many weights a graph needs, and laws of the first weight out of range. Assumes nothing.
-use Rattle.std.specs.Prelude.{◌≡◌, ℕ, ◌*◌, ◌-◌, ◌≤◌, ◌<◌}
-use Rattle.std.proofs.Common.{mul-le-mul, arith}
+use Rattle.std.specs.Prelude.{◌≡◌, ℕ, ◌*◌, ◌-◌, ◌≤◌, ◌<◌, length, get_or, take, Option, None, Some}
+use Rattle.std.proofs.Common.{sym, mul-le-mul, arith}
+use Rattle.std.proofs.Math.Seq.{length-take-le, get_or-take}
 use Rattle.std.proofs.Math.Decide.{dec_lt}
 use Rattle.lists.specs.Choose.{choose, choose_yes, choose_no}
 use Rattle.matching.specs.Decision.{Every, index, absent, at}
 use Rattle.matching.specs.Graph.{Graph, largest, pair_count, InRange}
-use Rattle.matching.specs.Causes.{first_outside, bad_weight}
-use Rattle.laws.specs.Judge.{found_at, found_absent}
+use Rattle.matching.specs.Causes.{in_range?, first_outside, bad_weight}
+use Rattle.laws.specs.Judge.{stable, found_at, found_absent}
+use Rattle.refusals.specs.Meaning.{finding_of, Finds}
 
 module _ (p : ℕ) (g : Graph) where
   pub weight_found : (x : ℕ) → x < pair_count g.n → ¬ InRange g p x → Every x (InRange g p) → (bad_weight p g).finding ≡ at (index x)
@@ -16,6 +18,25 @@ module _ (p : ℕ) (g : Graph) where
   pub weights_absent : Every (pair_count g.n) (InRange g p) → (bad_weight p g).finding ≡ absent
   unfolding bad_weight
   weights_absent h = (found_absent index (first_outside p g)).1 (λ k m d. d (h k m))
+
+  -- the first weight out of range, of those that n vertices need, is where cause 4 is found
+  module _ {count : ℕ} (same : count ≡ pair_count g.n) (lent : count ≤ length g.weights) where
+    abbrev pub Within : ℕ → Type 0
+    Within x = (0 < get_or (take count g.weights) x 0) × (get_or (take count g.weights) x 0 < p)
+
+    within : (x : ℕ) → x < count → ¬ ¬ Within x → InRange g p x
+    within x l d =
+        let taken = get_or-take count g.weights x 0 l in
+        stable (in_range? p g x) (λ e. d (λ h. e (omega arith, omega arith)))
+
+    pub weight_finding : (r : Option ℕ) → Finds (length (take count g.weights)) (λ x. ¬ Within x) r → finding_of r ≡ (bad_weight p g).finding
+    weight_finding None h =
+        let n = length-take-le count g.weights lent in
+        sym (weights_absent (λ x l. within x (omega arith) (h x (omega arith))))
+    weight_finding (Some x) h =
+        let n = length-take-le count g.weights lent in
+        let taken = get_or-take count g.weights x 0 (omega arith) in
+        sym (weight_found x (omega arith) (λ e. h.holds (omega arith, omega arith)) (λ k l. within k (omega arith) (h.none_before k l)))
 
 pub pair_count_most : (n m : ℕ) → n ≤ m → pair_count n ≤ pair_count m
 pair_count_most n m l =

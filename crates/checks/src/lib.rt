@@ -2,28 +2,31 @@
 // request 2, asks for.
 #![tactic(auto)]
 
-ghost use Rattle.std.specs.Prelude.{◌≡◌, true, List, [], ◌∷◌, ◌++◌, ℕ, ◌+◌, ◌*◌, ◌≤◌, ◌<◌, length, get_or};
+ghost use Rattle.std.specs.Prelude.{◌≡◌, List, [], ◌∷◌, ◌++◌, ℕ, ◌+◌, ◌*◌, ◌≤◌, ◌<◌, ◌↔◌, IfOk, IsTrue, length, get_or};
 ghost use Rattle.residue.specs.Modulus.{modulus};
 ghost use Rattle.matching.specs.Decision.{judge, Every};
 ghost use Rattle.matching.specs.Graph.{largest, pair_count, over};
 ghost use Rattle.matching.specs.Causes.{lent_always, lent_besides, lent_kept, first_short, opening_causes, opening_ruling};
 ghost use Rattle.matching.specs.Causes.{too_large, too_short, bad_cell, bad_weight};
+ghost use Rattle.refusals.specs.Meaning.{fault_number, finding_of, ruling_of, Finds};
+ghost use Rattle.graph.specs.Meaning.{graph_of};
 ghost use Rattle.checks.specs.Weights.{needed};
-ghost use Rattle.refusals.specs.Meaning.{finding_of, ruling_of};
-ghost use Rattle.checks.specs.Meaning.{then, InRow, Located};
-ghost use Rattle.checks.specs.declared.Cells.TheVariants.{Faulty};
+ghost use Rattle.checks.specs.Meaning.{InRow, Lent, Located};
 
-use refusals::{FaultyCell, Finding, Refusal, Ruling};
+use graph::Graph;
+use refusals::{Cause, Fault, FaultyCell, Refusal};
 use residue::Residue;
 
 // The most vertices that a graph may have.
 pub const LARGEST: usize = 96;
 
-// The first faulty cell, or none.
+// The lengths of the buffers that opening and every session call are lent.
 #[derive(Clone, Copy)]
-pub enum Cells {
-    Faultless,
-    Faulty(FaultyCell),
+pub struct Lengths {
+    pub adjacency: usize,
+    pub weights: usize,
+    pub inverse: usize,
+    pub sequence: usize,
 }
 
 // Returns n (n - 1) / 2, one for each two vertices.
@@ -31,304 +34,238 @@ fn pair_count(n: usize) -> usize
     requires { n ≤ largest }
     ensures { result ≡ pair_count n }
 {
-    if n == 0 {
-        return 0;
-    }
-    n * (n - 1) / 2
+    if n == 0 { 0 } else { n * (n - 1) / 2 }
 }
 
 // Returns how many weights a graph of n vertices needs: one for each two vertices, and 0 if n is above 96.
 pub fn weights_needed(n: usize) -> usize
     ensures { result ≡ needed n }
 {
-    if LARGEST < n {
-        return 0;
-    }
-    pair_count(n)
+    if LARGEST < n { 0 } else { pair_count(n) }
 }
 
 // Finds the first buffer that is too short for n vertices, of those that opening and every session call are lent: 1 adjacency, 2 weights, 3
-// inverse, 4 sequence. The arguments are their lengths.
-fn first_short(
-    n: usize,
-    adjacency: usize,
-    weights: usize,
-    inverse: usize,
-    sequence: usize,
-) -> Finding
+// inverse, 4 sequence.
+fn first_short(n: usize, lengths: Lengths) -> Option<usize>
     requires { n ≤ largest }
-    ensures { finding_of result ≡ first_short (lent_always n adjacency weights inverse sequence) }
+    ensures { finding_of result ≡ first_short (lent_always n lengths.adjacency lengths.weights lengths.inverse lengths.sequence) }
 {
     let cells = n * n;
-    if adjacency < cells {
-        return Finding::At(1);
+    if lengths.adjacency < cells {
+        return Some(1);
     }
-    if weights < pair_count(n) {
-        return Finding::At(2);
+    if lengths.weights < pair_count(n) {
+        return Some(2);
     }
-    if inverse < cells {
-        return Finding::At(3);
+    if lengths.inverse < cells {
+        return Some(3);
     }
-    if sequence < n {
-        return Finding::At(4);
+    if lengths.sequence < n {
+        return Some(4);
     }
-    Finding::Absent
+    None
 }
 
 // Judges causes 1 and 2 by n and the lengths of buffers 1 to 4.
-pub fn judge_lengths(
-    n: usize,
-    adjacency: usize,
-    weights: usize,
-    inverse: usize,
-    sequence: usize,
-) -> Ruling
-    ensures { ruling_of result ≡ judge (too_large n ∷ too_short (lent_always n adjacency weights inverse sequence) ∷ []) }
+pub fn judge_lengths(n: usize, lengths: Lengths) -> Result<(), Refusal>
+    ensures { ruling_of result ≡ judge (too_large n ∷ too_short (lent_always n lengths.adjacency lengths.weights lengths.inverse lengths.sequence) ∷ []) }
 {
     if LARGEST < n {
-        return refusals::refuse(1, 0);
+        return Err(refusals::because(Cause::SizeTooLarge, 0));
     }
-    match first_short(n, adjacency, weights, inverse, sequence) {
-        Finding::Absent => Ruling::Accepted,
-        Finding::At(place) => refusals::refuse(2, place),
+    match first_short(n, lengths) {
+        None => Ok(()),
+        Some(buffer) => Err(refusals::because(Cause::BufferTooShort, buffer)),
     }
 }
 
 // Returns the cell in this row and column, with its fault.
-fn faulty(row: usize, column: usize, fault: u8) -> Cells
+fn faulty(row: usize, column: usize, fault: Fault) -> FaultyCell
     requires { (row < largest) × (column < largest) }
-    ensures { result ≡ Faulty (record { row = row; column = column; fault = fault }) }
+    ensures { result ≡ record { row = row; column = column; fault = fault } }
 {
     let row = row as u8;
     let column = column as u8;
-    Cells::Faulty(FaultyCell { row, column, fault })
+    FaultyCell { row, column, fault }
 }
 
-// Finds the first fault of a row from the diagonal on; start is the index of the diagonal cell.
-fn row_fault(n: usize, adjacency: &[u8], row: usize, start: usize) -> Cells
-    requires { (n ≤ largest) × (n * n ≤ length adjacency.now) × (row < n) × (start ≡ row * n + row) }
-    ensures { InRow (over n adjacency.now []) row result }
+// Finds the first fault of a row from the diagonal on. A cell's mirror is the cell with its row and its column exchanged.
+fn row_fault(graph: Graph, row: usize) -> Option<FaultyCell>
+    requires { row < graph.size }
+    ensures { InRow (graph_of graph.entry) row result }
 {
-    let diagonal = adjacency[start];
+    let n = graph.size;
+    let diagonal = graph.adjacency[row * n + row];
     if 1 < diagonal {
-        return faulty(row, row, 1);
+        return Some(faulty(row, row, Fault::NotBit));
     }
     if diagonal != 0 {
-        return faulty(row, row, 2);
+        return Some(faulty(row, row, Fault::OnDiagonal));
     }
-    let mut column = row + 1;
-    let mut index = start + 1;
-    let mut mirror = start + n;
-    // index is the cell at row and column, and mirror the cell at column and row.
-    while column < n {
-        let cell = adjacency[index];
+    for column in row + 1..n {
+        let cell = graph.adjacency[row * n + column];
+        let mirror = graph.adjacency[column * n + row];
         if 1 < cell {
-            return faulty(row, column, 1);
+            return Some(faulty(row, column, Fault::NotBit));
         }
-        if cell != adjacency[mirror] {
-            return faulty(row, column, 3);
+        if cell != mirror {
+            return Some(faulty(row, column, Fault::Unequal));
         }
-        column += 1;
-        index += 1;
-        mirror += n;
     }
-    Cells::Faultless
+    None
 }
 
 // Finds the first fault, row by row. A cell below the diagonal has a fault only if its mirror, which comes earlier, has one.
-fn first_fault(n: usize, adjacency: &[u8]) -> Cells
-    requires { (n ≤ largest) × (n * n ≤ length adjacency.now) }
-    ensures { (weights : List ℕ) → Located (over n adjacency.now weights) result }
+fn first_fault(graph: Graph) -> Option<FaultyCell>
+    ensures { Located (graph_of graph.entry) result }
 {
-    let mut row = 0;
-    let mut start = 0;
-    // start is the index of the diagonal cell of row.
-    while row < n {
-        if let Cells::Faulty(cell) = row_fault(n, adjacency, row, start) {
-            return Cells::Faulty(cell);
+    for row in 0..graph.size {
+        if let Some(cell) = row_fault(graph, row) {
+            return Some(cell);
         }
-        row += 1;
-        start += n + 1;
     }
-    Cells::Faultless
+    None
 }
 
-// Returns 1 if weight is 0 or not below the modulus, else 0.
-fn outside(weight: u16) -> u16
-    ensures { (result ≤ 1) × (result ≡ 0 → (0 < weight) × (weight < modulus)) }
+// Tells whether weight is 0 or not below the modulus.
+fn is_outside(weight: u16) -> bool
+    ensures { IsTrue result ↔ ((0 < weight) × (weight < modulus) → ⊥) }
 {
-    let w = weight as u64;
-    if w == 0 {
-        return 1;
-    }
-    if Residue::MODULUS <= w {
-        return 1;
-    }
-    0
+    weight == 0 || Residue::MODULUS <= u64::from(weight)
 }
 
 // Tells whether every weight is in range. Counts instead of stopping early, so that the loop vectorizes.
 fn none_outside(weights: &[u16]) -> bool
     requires { length weights.now ≤ 4560 }
-    ensures { result ≡ true
+    ensures { IsTrue result
         → Every (length weights.now)
         (λ x. (0 < get_or weights.now x 0) × (get_or weights.now x 0 < modulus)) }
 {
     let mut found: u16 = 0;
-    let mut i = 0;
-    while i < weights.len() {
-        found += outside(weights[i]);
-        i += 1;
+    for weight in weights {
+        found += u16::from(is_outside(*weight));
     }
-    if found == 0 {
-        return true;
-    }
-    false
+    found == 0
 }
 
-// Finds the first weight of n vertices that is 0 or not below the modulus.
-fn find_outside(n: usize, weights: &[u16]) -> Finding
-    requires { (n ≤ largest) × (pair_count n ≤ length weights.now) }
-    ensures { (adjacency : List ℕ) → finding_of result ≡ (bad_weight modulus (over n adjacency weights.now)).finding }
+// Finds the first weight that is out of range.
+fn find_outside(weights: &[u16]) -> Option<usize>
+    ensures { Finds (length weights.now) (λ x. (0 < get_or weights.now x 0) × (get_or weights.now x 0 < modulus) → ⊥) result }
 {
-    let count = pair_count(n);
-    let mut i = 0;
-    while i < count {
-        let weight = weights[i] as u64;
-        if weight == 0 {
-            return Finding::At(i);
-        }
-        if Residue::MODULUS <= weight {
-            return Finding::At(i);
-        }
-        i += 1;
-    }
-    Finding::Absent
+    weights.iter().position(|weight| is_outside(*weight))
 }
 
-// find_outside, with a shortcut if every weight is in range.
-fn first_outside(n: usize, weights: &[u16]) -> Finding
-    requires { (n ≤ largest) × (pair_count n ≤ length weights.now) }
-    ensures { (adjacency : List ℕ) → finding_of result ≡ (bad_weight modulus (over n adjacency weights.now)).finding }
+// Finds the first weight that is 0 or not below the modulus, with a shortcut if every weight is in range.
+fn first_outside(graph: Graph) -> Option<usize>
+    ensures { finding_of result ≡ (bad_weight modulus (graph_of graph.entry)).finding }
 {
-    let count = pair_count(n);
-    let none = none_outside(&weights[..count]);
-    if none {
-        return Finding::Absent;
+    let weights = &graph.weights[..pair_count(graph.size)];
+    if none_outside(weights) {
+        None
+    } else {
+        find_outside(weights)
     }
-    find_outside(n, weights)
 }
 
-// Judges causes 3 and 4, for tables that are long enough.
-fn judge_graph(n: usize, adjacency: &[u8], weights: &[u16]) -> Ruling
-    requires { (n ≤ largest) × (n * n ≤ length adjacency.now) × (pair_count n ≤ length weights.now) }
-    ensures { let g = over n adjacency.now weights.now in
+// Judges causes 3 and 4.
+fn judge_graph(graph: Graph) -> Result<(), Refusal>
+    ensures { let g = graph_of graph.entry in
         ruling_of result ≡ judge (bad_cell g ∷ bad_weight modulus g ∷ []) }
 {
-    if let Cells::Faulty(cell) = first_fault(n, adjacency) {
-        return refusals::refuse_cell(cell);
+    if let Some(cell) = first_fault(graph) {
+        return Err(refusals::because_cell(cell));
     }
-    if let Finding::At(place) = first_outside(n, weights) {
-        return refusals::refuse(4, place);
+    match first_outside(graph) {
+        None => Ok(()),
+        Some(index) => Err(refusals::because(Cause::WeightOutOfRange, index)),
     }
-    Ruling::Accepted
 }
 
 // Judges cause 2 by the lengths of buffers 5 and 6, which only opening is lent.
-fn judge_besides(n: usize, witness: usize, work: usize) -> Ruling
+fn judge_besides(n: usize, witness: usize, work: usize) -> Result<(), Refusal>
     requires { n ≤ largest }
     ensures { ruling_of result ≡ judge (too_short (lent_besides n witness work) ∷ []) }
 {
     if witness < n {
-        return refusals::refuse(2, 5);
+        return Err(refusals::because(Cause::BufferTooShort, 5));
     }
     if work < n * n {
-        return refusals::refuse(2, 6);
+        return Err(refusals::because(Cause::BufferTooShort, 6));
     }
-    Ruling::Accepted
+    Ok(())
 }
 
 // Judges causes 1 and 2 for opening, by n and the lengths of buffers 1 to 6.
-pub fn judge_room(
-    n: usize,
-    adjacency: usize,
-    weights: usize,
-    inverse: usize,
-    sequence: usize,
-    witness: usize,
-    work: usize,
-) -> Ruling
+pub fn judge_room(n: usize, lengths: Lengths, witness: usize, work: usize) -> Result<(), Refusal>
     ensures { ruling_of result ≡ judge
-        (too_large n ∷ too_short (lent_always n adjacency weights inverse sequence ++ lent_besides n witness work) ∷ []) }
+        (too_large n ∷ too_short (lent_always n lengths.adjacency lengths.weights lengths.inverse lengths.sequence ++ lent_besides n witness work) ∷ []) }
 {
-    if let Ruling::Refused(refusal) = judge_lengths(n, adjacency, weights, inverse, sequence) {
-        return Ruling::Refused(refusal);
-    }
+    judge_lengths(n, lengths)?;
     judge_besides(n, witness, work)
 }
 
-// Returns a if it is a refusal, else b.
-fn earlier(a: Ruling, b: Ruling) -> Ruling
-    ensures { ruling_of result ≡ then (ruling_of a) (ruling_of b) }
-{
-    match a {
-        Ruling::Accepted => b,
-        Ruling::Refused(refusal) => Ruling::Refused(refusal),
-    }
-}
-
 // Judges causes 1 to 4 for a session call; inverse, sequence and kept are the lengths of these buffers.
-pub fn judge_session(
+pub fn judge_session<'a>(
     n: usize,
-    adjacency: &[u8],
-    weights: &[u16],
+    adjacency: &'a [u8],
+    weights: &'a [u16],
     inverse: usize,
     sequence: usize,
     kept: usize,
-) -> Ruling
-    ensures { let g = over n adjacency.now weights.now in
+) -> Result<Graph<'a>, Refusal>
+    ensures ruling { let g = over n adjacency.now weights.now in
         ruling_of result ≡ judge
         (opening_causes modulus g
         (lent_always n (length adjacency.now) (length weights.now) inverse sequence ++ lent_kept n kept ∷ [])) }
+    ensures lent { IfOk result (λ g. Lent n adjacency.now weights.now g) }
 {
-    if let Ruling::Refused(refusal) = judge_lengths(
-        n,
-        adjacency.len(),
-        weights.len(),
+    let lengths = Lengths {
+        adjacency: adjacency.len(),
+        weights: weights.len(),
         inverse,
         sequence,
-    ) {
-        return Ruling::Refused(refusal);
-    }
+    };
+    judge_lengths(n, lengths)?;
     if kept < n {
-        return refusals::refuse(2, 8);
+        return Err(refusals::because(Cause::BufferTooShort, 8));
     }
-    judge_graph(n, adjacency, weights)
+    let graph = Graph {
+        size: n,
+        adjacency,
+        weights,
+    };
+    judge_graph(graph)?;
+    Ok(graph)
 }
 
 // Judges causes 1 to 4 for opening; inverse, sequence, witness and work are the lengths of these buffers.
-pub fn judge_opening(
+#[tactic(auto, unfolding(matching::specs::Causes::opening_ruling))]
+pub fn judge_opening<'a>(
     n: usize,
-    adjacency: &[u8],
-    weights: &[u16],
+    adjacency: &'a [u8],
+    weights: &'a [u16],
     inverse: usize,
     sequence: usize,
     witness: usize,
     work: usize,
-) -> Ruling
-    ensures { let g = over n adjacency.now weights.now in
+) -> Result<Graph<'a>, Refusal>
+    ensures ruling { let g = over n adjacency.now weights.now in
         ruling_of result ≡ opening_ruling modulus g inverse sequence witness work }
+    ensures lent { IfOk result (λ g. Lent n adjacency.now weights.now g) }
 {
-    if let Ruling::Refused(refusal) = judge_lengths(
-        n,
-        adjacency.len(),
-        weights.len(),
+    let lengths = Lengths {
+        adjacency: adjacency.len(),
+        weights: weights.len(),
         inverse,
         sequence,
-    ) {
-        return Ruling::Refused(refusal);
-    }
-    let besides = judge_besides(n, witness, work);
-    let graph = judge_graph(n, adjacency, weights);
-    earlier(besides, graph)
+    };
+    judge_lengths(n, lengths)?;
+    judge_besides(n, witness, work)?;
+    let graph = Graph {
+        size: n,
+        adjacency,
+        weights,
+    };
+    judge_graph(graph)?;
+    Ok(graph)
 }

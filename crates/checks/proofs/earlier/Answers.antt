@@ -1,6 +1,0 @@
--- `checks::earlier` meets its contract. Assumes nothing.
-use mathlib.Core.Path.{refl}
-use Rattle.checks.proofs.earlier.Goals as goal
-
-pub returns-in-Refused : goal.returns-in-Refused
-returns-in-Refused c = rw c.in-Refused.is refl
