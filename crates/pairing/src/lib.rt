@@ -2,16 +2,16 @@
 // marks of the unmatched vertices.
 #![tactic(auto)]
 
-ghost use Rattle.std.specs.Prelude.{◌≡◌, ◌<◌, length};
+ghost use Rattle.std.specs.Prelude.{◌≡◌, ◌<◌, length, min, max};
 ghost use Rattle.lists.specs.Values.{list_of};
 ghost use Rattle.lists.specs.Table.{table, Square};
 ghost use Rattle.residue.specs.Modulus.{modulus};
 ghost use Rattle.matching.specs.Pairs.{pair_of};
-ghost use Rattle.matching.specs.Graph.{over};
-ghost use Rattle.tutte.specs.Table.{Complete};
+ghost use Rattle.graph.specs.Meaning.{graph_of};
 ghost use Rattle.pairing.specs.Appended.{pair_is, Shrunk, AppendRoom, Appended};
 ghost use Rattle.pairing.specs.Removed.{Grows, Removed};
 
+use graph::Graph;
 use residue::Residue;
 use sequence::UNUSED;
 
@@ -24,18 +24,13 @@ pub struct Pair {
 
 // Returns the pair of a and b, which are named in either order.
 fn ordered(a: usize, b: usize) -> Pair
-    ensures { pair_is result ≡ pair_of a b }
+    ensures pair { pair_is result ≡ pair_of a b }
+    ensures least { result.smaller ≡ min a b }
+    ensures greatest { result.larger ≡ max a b }
 {
-    if a < b {
-        Pair {
-            smaller: a,
-            larger: b,
-        }
-    } else {
-        Pair {
-            smaller: b,
-            larger: a,
-        }
+    Pair {
+        smaller: a.min(b),
+        larger: a.max(b),
     }
 }
 
@@ -44,10 +39,8 @@ fn column(t: &[u16], n: usize, c: usize, x: &mut [u16])
     requires { Square n t.now × (c < n) × (length x.old ≡ n) }
     ensures { x.new ≡ list_of (length x.old) (λ k. table n t.now k c) }
 {
-    let mut k = 0;
-    while k < x.len() {
-        x[k] = t[k * n + c];
-        k += 1;
+    for (k, word) in x.iter_mut().enumerate() {
+        *word = t[k * n + c];
     }
 }
 
@@ -88,23 +81,19 @@ pub fn append(
 {
     let cells = n * n;
     shrink(&mut inverse[..cells], n, a, b);
-    let e = ordered(a, b);
-    let smaller = e.smaller;
-    let larger = e.larger;
+    let pair = ordered(a, b);
     let at = made + made;
-    sequence[at] = smaller as u8;
-    sequence[at + 1] = larger as u8;
-    marks[smaller] = 0;
-    marks[larger] = 0;
-    e
+    sequence[at] = pair.smaller as u8;
+    sequence[at + 1] = pair.larger as u8;
+    marks[pair.smaller] = 0;
+    marks[pair.larger] = 0;
+    pair
 }
 
 // Updates t by the columns that border it, with room for both and for a column of the matrix. Tells whether the set with a and b has an
 // inverse; if it has none, t stays as it is.
 fn grow_over(
-    n: usize,
-    adjacency: &[u8],
-    weights: &[u16],
+    graph: Graph,
     t: &mut [u16],
     a: usize,
     b: usize,
@@ -112,13 +101,14 @@ fn grow_over(
     x: &mut [u16],
     y: &mut [u16],
 ) -> bool
-    requires complete { Complete n adjacency.now weights.now × Square n t.old × (a < n) × (b < n) }
-    requires column_len { (length column.old ≡ n) × (length x.old ≡ n) × (length y.old ≡ n) }
-    ensures { Grows modulus (over n adjacency.now weights.now) a b t.old result t.new }
+    requires square { Square graph.size t.old × (a < graph.size) × (b < graph.size) }
+    requires column_len { (length column.old ≡ graph.size) × (length x.old ≡ graph.size) × (length y.old ≡ graph.size) }
+    ensures { Grows modulus (graph_of graph.entry) a b t.old result t.new }
 {
-    tutte::column(n, adjacency, weights, a, column);
+    let n = graph.size;
+    tutte::column(graph, a, column);
     border::border(t, n, column, a, x);
-    tutte::column(n, adjacency, weights, b, column);
+    tutte::column(graph, b, column);
     border::border(t, n, column, b, y);
     // The matrix is skew, so column b against x is minus row b against x.
     let d = border::dot(column, x);
@@ -131,47 +121,34 @@ fn grow_over(
 }
 
 // Turns t, the inverse for a set of vertices, into the inverse for the set with a and b. Tells whether there is one.
-fn grow(n: usize, adjacency: &[u8], weights: &[u16], t: &mut [u16], a: usize, b: usize) -> bool
-    requires { Complete n adjacency.now weights.now × Square n t.old × (a < n) × (b < n) }
-    ensures { Grows modulus (over n adjacency.now weights.now) a b t.old result t.new }
+fn grow(graph: Graph, t: &mut [u16], a: usize, b: usize) -> bool
+    requires { Square graph.size t.old × (a < graph.size) × (b < graph.size) }
+    ensures { Grows modulus (graph_of graph.entry) a b t.old result t.new }
 {
+    let n = graph.size;
     let mut column = [0u16; 96];
     let mut x = [0u16; 96];
     let mut y = [0u16; 96];
-    grow_over(
-        n,
-        adjacency,
-        weights,
-        t,
-        a,
-        b,
-        &mut column[..n],
-        &mut x[..n],
-        &mut y[..n],
-    )
+    grow_over(graph, t, a, b, &mut column[..n], &mut x[..n], &mut y[..n])
 }
 
 // Removes the newest pair a, b, which leaves made pairs. Tells whether the vertices then unmatched have an inverse; if they have none,
 // writes nothing.
 pub fn remove(
-    n: usize,
+    graph: Graph,
     made: usize,
-    adjacency: &[u8],
-    weights: &[u16],
     inverse: &mut [u16],
     sequence: &mut [u8],
     marks: &mut [u8],
     a: usize,
     b: usize,
 ) -> bool
-    requires { Complete n adjacency.now weights.now × AppendRoom n made inverse.old sequence.old marks.old a b }
-    ensures { let g = over n adjacency.now weights.now in
-        Removed modulus g made a b inverse.old sequence.old marks.old result
+    requires { AppendRoom graph.size made inverse.old sequence.old marks.old a b }
+    ensures { Removed modulus (graph_of graph.entry) made a b inverse.old sequence.old marks.old result
         inverse.new sequence.new marks.new }
 {
-    let cells = n * n;
-    let grown = grow(n, adjacency, weights, &mut inverse[..cells], a, b);
-    if !grown {
+    let cells = graph.size * graph.size;
+    if !grow(graph, &mut inverse[..cells], a, b) {
         return false;
     }
     let at = made + made;

@@ -1,49 +1,31 @@
 -- `pairing::grow_over` meets its contract: the update by the columns that border the inverse. Assumes nothing.
-use mathlib.Core.Path.{◌≡◌, sym, ap, ◌∙◌}
+use mathlib.Core.Path.{◌≡◌, ap, ◌∙◌}
+use mathlib.Core.List.{List}
+use Prim.Native.Nat.{ℕ}
 use native.Mathlib.Nat.{mod-lt}
 use lib.Dec.{lit<}
 use lib.ListN.{length}
 use Rattle.lists.specs.Values.{length_list_of, list_of}
-use Rattle.residue.specs.Modulus.{modulus, modulus_prime}
-use Rattle.matching.specs.Graph.{Graph, over, tutte}
+use Rattle.residue.specs.Modulus.{modulus_prime}
 use Rattle.pairing.specs.Removed.{grows_not, grows_so}
 use Rattle.pairing.proofs.grow_over.Goals as goal
 
-pub dot-d-requires : goal.dot-d-requires
-dot-d-requires c =
-    let graph : Graph = let a = c.args in over a.n a.adjacency.now a.weights.now in
-    let first : c.column.new.x ≡ list_of c.args.n (λ k. tutte graph modulus k c.args.a) = rw c.requires.column_len.0 at c.column.ensures in
-    let second : c.column-2.new.x ≡ list_of c.args.n (λ k. tutte graph modulus k c.args.b) = rw (ap length first ∙ length_list_of c.args.n _) at c.column-2.ensures in
-    let column_length : length c.column-2.new.x ≡ c.args.n = ap length second ∙ length_list_of c.args.n _ in
-    (column_length ∙ sym c.border.ensures.size, rw column_length c.requires.complete.1.small)
+-- a column that is written over a buffer of n words
+column_of : {n : ℕ} (f : ℕ → ℕ) (old : List ℕ) {new : List ℕ} → length old ≡ n → new ≡ list_of (length old) f → (new ≡ list_of n f) × (length new ≡ n)
+column_of {n} f old e q = (rw e at q, ap length q ∙ length_list_of _ f ∙ e)
 
 pub returns-then-d-eq0 : goal.returns-then-d-eq0
 returns-then-d-eq0 c =
-    let graph : Graph = let a = c.args in over a.n a.adjacency.now a.weights.now in
-    let first : c.column.new.x ≡ list_of c.args.n (λ k. tutte graph modulus k c.args.a) = rw c.requires.column_len.0 at c.column.ensures in
-    let second : c.column-2.new.x ≡ list_of c.args.n (λ k. tutte graph modulus k c.args.b) = rw (ap length first ∙ length_list_of c.args.n _) at c.column-2.ensures in
-    let column_length : length c.column-2.new.x ≡ c.args.n = ap length second ∙ length_list_of c.args.n _ in
-    grows_not modulus_prime graph c.requires.complete.2 c.requires.complete.3 first second c.border.ensures c.border-2.ensures
-    (rw column_length at c.dot-d.ensures) c.if-d-eq0.true
-
-pub update-requires : goal.update-requires
-update-requires c = (c.requires.complete.1, c.border.ensures.size, c.border-2.ensures.size, rw c.negate-g.ensures (mod-lt _ (lit< tt)))
-
-pub shape_of-column : goal.shape_of-column
-shape_of-column c =
-    let graph : Graph = let a = c.args in over a.n a.adjacency.now a.weights.now in
-    let first : c.column.new.x ≡ list_of c.args.n (λ k. tutte graph modulus k c.args.a) = rw c.requires.column_len.0 at c.column.ensures in
-    let second : c.column-2.new.x ≡ list_of c.args.n (λ k. tutte graph modulus k c.args.b) = rw (ap length first ∙ length_list_of c.args.n _) at c.column-2.ensures in
-    let column_length : length c.column-2.new.x ≡ c.args.n = ap length second ∙ length_list_of c.args.n _ in
-    column_length ∙ sym c.requires.column_len.0
+    let first = column_of _ _ c.requires.column_len.0 c.column.ensures in
+    let second = column_of _ _ first.1 c.column-2.ensures in
+    grows_not modulus_prime _ c.requires.square.1 c.requires.square.2 first.0 second.0 c.border.ensures c.border-2.ensures
+    (rw second.1 at c.dot-d.ensures) c.if-d-eq0.true
 
 pub returns : goal.returns
 returns c =
-    let graph : Graph = let a = c.args in over a.n a.adjacency.now a.weights.now in
-    let first : c.column.new.x ≡ list_of c.args.n (λ k. tutte graph modulus k c.args.a) = rw c.requires.column_len.0 at c.column.ensures in
-    let second : c.column-2.new.x ≡ list_of c.args.n (λ k. tutte graph modulus k c.args.b) = rw (ap length first ∙ length_list_of c.args.n _) at c.column-2.ensures in
-    let column_length : length c.column-2.new.x ≡ c.args.n = ap length second ∙ length_list_of c.args.n _ in
+    let first = column_of _ _ c.requires.column_len.0 c.column.ensures in
+    let second = column_of _ _ first.1 c.column-2.ensures in
     let dot = c.dot-d in
-    grows_so modulus_prime graph c.requires.complete.2 c.requires.complete.3 first second c.border.ensures c.border-2.ensures
-    (rw column_length at dot.ensures) c.if-d-eq0.false (rw dot.ensures (mod-lt _ (lit< tt)))
+    grows_so modulus_prime _ c.requires.square.1 c.requires.square.2 first.0 second.0 c.border.ensures c.border-2.ensures
+    (rw second.1 at dot.ensures) c.if-d-eq0.false (rw dot.ensures (mod-lt _ (lit< tt)))
     (rw c.make.ensures at c.invert.ensures.reciprocal) (rw c.negate-g.ensures at c.update.ensures)
