@@ -34,10 +34,8 @@ fn take_column(t: &mut [u64], n: usize, c: usize, x: &mut [u64])
     ensures { Taken n n c t.old t.new
         × Words (λ k. residue k c (get_or t.old (place n k c) 0)) x.new }
 {
-    let mut k = 0;
-    while k < n {
-        x[k] = take(t, n, k, c);
-        k += 1;
+    for (k, word) in x.iter_mut().enumerate() {
+        *word = take(t, n, k, c);
     }
 }
 
@@ -47,10 +45,8 @@ fn scale(x: &mut [u64], h: u16)
     requires { Below modulus x.old × (h < modulus) }
     ensures { Words (scaled h (vector x.old)) x.new }
 {
-    let mut k = 0;
-    while k < x.len() {
-        x[k] = Residue::make(x[k] % 65536 * (h as u64)).value as u64;
-        k += 1;
+    for word in x.iter_mut() {
+        *word = Residue::make(*word % 65536 * h as u64).value as u64;
     }
 }
 
@@ -61,14 +57,12 @@ fn add(row: &mut [u64], lo: usize, x: &[u64], y: &[u64], a: u32, b: u32)
         × Below modulus x.now × Below modulus y.now × (a < modulus) × (b < modulus) }
     ensures { Words (plus_two (vector row.old) lo (vector x.now) (vector y.now) a b) row.new }
 {
-    if a + b == 0 {
+    if a == 0 && b == 0 {
         return;
     }
-    let mut j = 0;
-    while j < row.len() {
+    for (j, word) in row.iter_mut().enumerate() {
         let k = lo + j;
-        row[j] += a as u64 * (x[k] % 4294967296) + b as u64 * (y[k] % 4294967296);
-        j += 1;
+        *word += a as u64 * (x[k] % 4294967296) + b as u64 * (y[k] % 4294967296);
     }
 }
 
@@ -78,15 +72,13 @@ fn update(t: &mut [u64], n: usize, x: &[u64], y: &[u64])
     requires { Updating n t.old x.now y.now }
     ensures { UpdatedTo n n x.now y.now t.old t.new }
 {
-    let mut i = 0;
-    while i < n {
+    for i in 0..n {
         let lo = (i + 1) / 2 * 2;
         let at = i * n + lo;
         let end = i * n + n;
         let a = residue::negative(y[i] as u32);
         let b = x[i] as u32;
         add(&mut t[at..end], lo, x, y, a, b);
-        i += 1;
     }
 }
 
@@ -95,8 +87,7 @@ fn reciprocal(k: u64) -> u16
     requires { k < modulus }
     ensures { (result < modulus) × Reciprocal modulus k result }
 {
-    let h = Residue::make(k).invert();
-    h.value
+    Residue::make(k).invert().value
 }
 
 // Moves columns c and r to x and y, each with -1 at its own index and 0 at the other, and returns the reciprocal of entry (r, c).

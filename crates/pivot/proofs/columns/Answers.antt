@@ -3,21 +3,14 @@
 use mathlib.Core.Path.{refl, ◌∙◌}
 use Prim.Native.Nat.{◌<◌}
 use native.Mathlib.Omega.{arith}
-use lib.ListN.{length-set}
 use Rattle.pivot.specs.Words.{residue_small}
 use Rattle.pivot.specs.Step.{taken_clear, taken_both, first_bordered, second_bordered, first_below, second_below, column_unit}
 use Rattle.pivot.proofs.columns.Goals as goal
 
 pub reciprocal-h-requires : goal.reciprocal-h-requires
 reciprocal-h-requires c =
-    let k = c.take_column in
-    let l = k.auto.x in
-    rw (k.ensures.1.at c.args.r (omega arith)) (residue_small _ _ _)
-
-pub bounds-x-r-2 : goal.bounds-x-r-2
-bounds-x-r-2 c =
     let l = c.take_column.auto.x in
-    simp length-set (omega arith)
+    rw (c.take_column.ensures.1.at c.args.r (omega arith)) (residue_small _ _ _)
 
 pub returns : goal.returns
 returns c =
