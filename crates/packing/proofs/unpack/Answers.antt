@@ -1,7 +1,5 @@
--- `packing::unpack` meets its contract. Its loop writes one word after another. Assumes nothing.
-use mathlib.Core.Path.{sym, ◌∙◌}
-use native.Mathlib.Omega.{arith}
-use lib.ListN.{length}
+-- `packing::unpack` meets its contract: the words before the index are those of the bytes. Assumes nothing.
+use Rattle.std.proofs.Common.{length, ◌∙◌, arith}
 use Rattle.lists.specs.Values.{list_of_front}
 use Rattle.lists.specs.Written.{written_start, written_all}
 use Rattle.lists.proofs.Written.{written_more}
@@ -14,10 +12,7 @@ loop-i-init c = written_start _ _
 
 pub loop-i-preserved : goal.loop-i-preserved
 loop-i-preserved c =
-    written_more _ c.loop-i.invariant (omega arith) (c.word.ensures ∙ sym (words_at_two c.args.bytes.now c.loop-i.i (omega (arith, c.requires))))
-
-pub shape_of-target : goal.shape_of-target
-shape_of-target c = c.loop-i.invariant.size
+    written_more _ c.loop-i.invariant (omega arith) (c.from_le_bytes.ensures ∙ omega (arith, words_at_two c.args.bytes.now c.loop-i.i (omega (arith, c.requires))))
 
 pub returns : goal.returns
 returns c =
