@@ -22,10 +22,8 @@ fn multiples(x: &[u16], g: u16, u: &mut [u16])
     requires { length u.old ≡ length x.now }
     ensures { u.new ≡ list_of (length u.old) (multiple modulus g (vector x.now)) }
 {
-    let mut j = 0;
-    while j < u.len() {
-        u[j] = combine(x[j], g, 0, 0, 0);
-        j += 1;
+    for (j, word) in u.iter_mut().enumerate() {
+        *word = combine(x[j], g, 0, 0, 0);
     }
 }
 
@@ -33,10 +31,8 @@ fn multiples(x: &[u16], g: u16, u: &mut [u16])
 fn reduce_row(row: &mut [u16])
     ensures { row.new ≡ list_of (length row.old) (λ j. combined modulus 0 0 0 0 (vector row.old j)) }
 {
-    let mut j = 0;
-    while j < row.len() {
-        row[j] = combine(0, 0, 0, 0, row[j]);
-        j += 1;
+    for word in row.iter_mut() {
+        *word = combine(0, 0, 0, 0, *word);
     }
 }
 
@@ -46,10 +42,8 @@ fn combine_row(row: &mut [u16], u: &[u16], v: &[u16], f: u16, h: u16)
     ensures { row.new ≡ list_of (length row.old)
         (λ j. combined modulus f (vector u.now j) h (vector v.now j) (vector row.old j)) }
 {
-    let mut j = 0;
-    while j < row.len() {
-        row[j] = combine(f, u[j], h, v[j], row[j]);
-        j += 1;
+    for (j, word) in row.iter_mut().enumerate() {
+        *word = combine(f, u[j], h, v[j], *word);
     }
 }
 
@@ -59,11 +53,11 @@ fn update_row(row: &mut [u16], u: &[u16], v: &[u16], f: u16, h: u16)
     ensures { row.new ≡ list_of (length row.old)
         (λ j. combined modulus f (vector u.now j) h (vector v.now j) (vector row.old j)) }
 {
-    if f as u32 + h as u32 == 0 {
+    if f == 0 && h == 0 {
         reduce_row(row);
-        return;
+    } else {
+        combine_row(row, u, v, f, h);
     }
-    combine_row(row, u, v, f, h);
 }
 
 // Adds y(i) times u and x(i) times v to each row i.
@@ -72,12 +66,10 @@ fn update_rows(t: &mut [u16], n: usize, x: &[u16], y: &[u16], u: &[u16], v: &[u1
     ensures { UpdatedTo modulus n n x.now y.now u.now v.now
         t.old t.new }
 {
-    let mut i = 0;
-    while i < n {
+    for i in 0..n {
         let at = i * n;
         let end = at + n;
         update_row(&mut t[at..end], u, v, y[i], x[i]);
-        i += 1;
     }
 }
 

@@ -1,6 +1,4 @@
 -- `update::combine_row` meets its contract: the words before j are done, the others as they were. Assumes nothing.
-use Prim.Native.Nat.{◌-◌}
-use lib.ListN.{length}
 use Rattle.lists.specs.Table.{vector}
 use Rattle.lists.specs.Written.{Written}
 use Rattle.residue.specs.Modulus.{modulus}
@@ -9,6 +7,3 @@ use Rattle.update.proofs.combine_row.Given as goal
 
 abbrev pub invariant-loop-j : goal.invariant-loop-j
 invariant-loop-j l = Written (λ k. combined modulus l.f (vector l.u k) l.h (vector l.v k) (vector l.initial.row k)) l.initial.row l.row l.j
-
-abbrev pub decreases-loop-j : goal.decreases-loop-j
-decreases-loop-j l = length l.initial.row - l.j

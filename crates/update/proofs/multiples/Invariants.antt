@@ -1,6 +1,4 @@
 -- `update::multiples` meets its contract: the words before j are multiplied and reduced. Assumes nothing.
-use Prim.Native.Nat.{◌-◌}
-use lib.ListN.{length}
 use Rattle.lists.specs.Table.{vector}
 use Rattle.lists.specs.Written.{Written}
 use Rattle.residue.specs.Modulus.{modulus}
@@ -9,6 +7,3 @@ use Rattle.update.proofs.multiples.Given as goal
 
 abbrev pub invariant-loop-j : goal.invariant-loop-j
 invariant-loop-j l = Written (multiple modulus l.g (vector l.x)) l.initial.u l.u l.j
-
-abbrev pub decreases-loop-j : goal.decreases-loop-j
-decreases-loop-j l = length l.initial.u - l.j
