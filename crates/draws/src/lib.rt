@@ -1,16 +1,23 @@
 // The draw roll of document 01: states of 32 bits, each computed from the one before, and the draw of each state, which serves as a weight.
 #![tactic(auto)]
 
-ghost use Rattle.std.specs.Prelude.{◌≡◌, length};
+ghost use Rattle.std.specs.Prelude.{◌≡◌, ◌*◌, ◌%◌, ◌^◌, length};
 ghost use Rattle.draws.specs.Draws.{next, draw, draws};
 
 use residue::Residue;
+
+// Multiplies a and b modulo 2^32.
+fn wrapping_mul(a: u32, b: u32) -> u32
+    ensures { result ≡ (a * b) % 2 ^ 32 }
+{
+    a.wrapping_mul(b)
+}
 
 // Returns the state that follows state.
 pub fn next(state: u32) -> u32
     ensures { result ≡ next state }
 {
-    state.wrapping_mul(1664525).wrapping_add(1013904223)
+    wrapping_mul(1664525, state).wrapping_add(1013904223)
 }
 
 // Returns the draw of state: a number from 1 to the modulus less 1.
