@@ -17,10 +17,8 @@ pub fn dot(u: &[u16], v: &[u16]) -> u16
     ensures { result ≡ sum (length u.now) (λ k. vector u.now k * vector v.now k) % modulus }
 {
     let mut total: u64 = 0;
-    let mut k = 0;
-    while k < u.len() {
-        total += u[k] as u64 * v[k] as u64;
-        k += 1;
+    for (a, b) in u.iter().zip(v) {
+        total += *a as u64 * *b as u64;
     }
     Residue::make(total).value
 }
@@ -31,12 +29,10 @@ fn image(t: &[u16], n: usize, v: &[u16], x: &mut [u16])
     ensures { x.new ≡ list_of (length x.old)
         (λ k. apply n (table n t.now) (vector v.now) k % modulus) }
 {
-    let mut i = 0;
-    while i < x.len() {
+    for (i, word) in x.iter_mut().enumerate() {
         let at = i * n;
         let end = at + n;
-        x[i] = dot(&t[at..end], v);
-        i += 1;
+        *word = dot(&t[at..end], v);
     }
 }
 

@@ -1,44 +1,26 @@
--- `border::dot` meets its contract. The invariant of its loop: the total is the sum of the first k products, each below 2^32; 96 of them
+-- `border::dot` meets its contract. The invariant of its loop: the total is the sum of the products so far, each below 2^32; 96 of them
 -- fit 64 bits. Assumes nothing.
-use mathlib.Core.Path.{◌≡◌, sym, ap, ◌∙◌}
-use Prim.Native.Nat.{◌*◌, ◌%◌, ◌<◌}
-use native.Mathlib.Numerals.{add-one}
-use native.Mathlib.Omega.{arith}
-use lib.ListN.{length, get_or}
+use Rattle.std.proofs.Common.{◌+◌, ◌*◌, ◌<◌, length, get_or, ap, sym, add-one, arith}
+use Rattle.std.proofs.lemmas.List.{length_push}
+use Rattle.std.proofs.lemmas.Slice.Zip.{zip_turn}
 use Rattle.modular.specs.Sum.{sum_none, sum_suc}
 use Rattle.modular.specs.Product.{product_below}
-use Rattle.residue.specs.Modulus.{modulus}
 use Rattle.border.proofs.dot.Goals as goal
 
-pub loop-k-init : goal.loop-k-init
-loop-k-init c = (omega arith, sym (sum_none _), omega arith)
+pub loop-a-init : goal.loop-a-init
+loop-a-init c = record { sum = sym (sum_none _); fits = omega arith }
 
-pub overflow_cast-total : goal.overflow_cast-total
-overflow_cast-total c = omega (arith, c.type_inv.u c.loop-k.k)
-
-pub overflow_cast-total-in-loop-k : goal.overflow_cast-total-in-loop-k
-overflow_cast-total-in-loop-k c = omega (arith, c.type_inv.v c.loop-k.k)
-
-pub overflow_mul-total : goal.overflow_mul-total
-overflow_mul-total c =
-    let product : get_or c.args.u.now c.loop-k.k 0 * get_or c.args.v.now c.loop-k.k 0 < 4294967296 = let k = c.loop-k.k in
+pub loop-a-preserved : goal.loop-a-preserved
+loop-a-preserved c =
+    let at = c.loop-a in
+    let turn =
+    zip_turn c.args.u.now c.args.v.now at.yielded c.into_iter-a-iterator.result at.a-iterator c.next.new.self _ (cc) (cc)
+    at.yielded_by (c.in-Some.a, c.in-Some.b) c.in-Some.is c.next.ensures.steps in
+    let k = length at.yielded in
+    let product : get_or c.args.u.now k 0 * get_or c.args.v.now k 0 < 4294967296 =
     product_below 65536 (omega (arith, c.type_inv.u k)) (omega (arith, c.type_inv.v k)) in
-    omega arith
-
-pub overflow_add-total : goal.overflow_add-total
-overflow_add-total c =
-    let product : get_or c.args.u.now c.loop-k.k 0 * get_or c.args.v.now c.loop-k.k 0 < 4294967296 = let k = c.loop-k.k in
-    product_below 65536 (omega (arith, c.type_inv.u k)) (omega (arith, c.type_inv.v k)) in
-    omega arith
-
-pub loop-k-preserved : goal.loop-k-preserved
-loop-k-preserved c =
-    let product : get_or c.args.u.now c.loop-k.k 0 * get_or c.args.v.now c.loop-k.k 0 < 4294967296 = let k = c.loop-k.k in
-    product_below 65536 (omega (arith, c.type_inv.u k)) (omega (arith, c.type_inv.v k)) in
-    (omega arith, rw (add-one, sum_suc) (omega arith), omega arith)
-
-pub returns : goal.returns
-returns c =
-    let at = c.loop-k in
-    let e : at.k ≡ length c.args.u.now = omega arith in
-    c.make.ensures ∙ ap (λ w. w % modulus) (rw e at at.invariant.1)
+    rw (length_push at.yielded (c.in-Some.a, c.in-Some.b), turn.2 0, turn.3 0)
+    (record {
+      sum = rw (add-one, sum_suc) (ap (λ z. z + get_or c.args.u.now k 0 * get_or c.args.v.now k 0) at.invariant.sum);
+      fits = omega (arith, at.invariant.fits);
+    })

@@ -1,14 +1,12 @@
--- `border::dot` meets its contract. The invariant of its loop: the total is the sum of the first k products, each below 2^32; 96 of them
+-- `border::dot` meets its contract. The invariant of its loop: the total is the sum of the products so far, each below 2^32; 96 of them
 -- fit 64 bits. Assumes nothing.
-use mathlib.Core.Path.{◌≡◌}
-use Prim.Native.Nat.{◌*◌, ◌-◌, ◌≤◌}
-use lib.ListN.{length}
+use Rattle.std.proofs.Common.{◌≡◌, ◌*◌, ◌≤◌, length}
 use Rattle.lists.specs.Table.{vector}
 use Rattle.modular.specs.Sum.{sum}
 use Rattle.border.proofs.dot.Given as goal
 
-abbrev pub invariant-loop-k : goal.invariant-loop-k
-invariant-loop-k l = (l.k ≤ length l.u) × (l.total ≡ sum l.k (λ m. vector l.u m * vector l.v m)) × (l.total ≤ 4294967296 * l.k)
-
-abbrev pub decreases-loop-k : goal.decreases-loop-k
-decreases-loop-k l = length l.u - l.k
+abbrev pub invariant-loop-a : goal.invariant-loop-a
+invariant-loop-a l = record {
+  sum : l.total ≡ sum (length l.yielded) (λ m. vector l.u m * vector l.v m);
+  fits : l.total ≤ 4294967296 * length l.yielded;
+}

@@ -1,7 +1,5 @@
 -- `border::image` meets its contract. The invariant of its loop: the first i words are those of T v, the others as they came.
 -- Assumes nothing.
-use Prim.Native.Nat.{◌-◌}
-use lib.ListN.{length}
 use Rattle.lists.specs.Written.{Written}
 use Rattle.residue.specs.Modulus.{modulus}
 use Rattle.border.specs.Column.{reduced}
@@ -9,6 +7,3 @@ use Rattle.border.proofs.image.Given as goal
 
 abbrev pub invariant-loop-i : goal.invariant-loop-i
 invariant-loop-i l = Written (reduced modulus l.n l.t l.v) l.initial.x l.x l.i
-
-abbrev pub decreases-loop-i : goal.decreases-loop-i
-decreases-loop-i l = length l.initial.x - l.i
