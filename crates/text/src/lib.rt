@@ -13,21 +13,9 @@ pub fn put(text: &mut [u8], at: usize, bytes: &[u8]) -> usize
     requires { at + length bytes.now ≤ length text.old }
     ensures { Puts at bytes.now text.old text.new result }
 {
-    let mut i = 0;
-    while i < bytes.len() {
-        text[at + i] = bytes[i];
-        i += 1;
-    }
-    at + i
-}
-
-// Writes the digit x.
-fn put_digit(text: &mut [u8], at: usize, x: usize) -> usize
-    requires { (x < 10) × (at < length text.old) }
-    ensures { Puts at ((48 + x) ∷ []) text.old text.new result }
-{
-    text[at] = 48 + x as u8;
-    at + 1
+    let end = at + bytes.len();
+    text[at..end].copy_from_slice(bytes);
+    end
 }
 
 // Writes the decimal digits of x.
@@ -35,11 +23,12 @@ pub fn put_decimal(text: &mut [u8], at: usize, x: usize) -> usize
     requires { at + length (decimal x) ≤ length text.old }
     ensures { Puts at (decimal x) text.old text.new result }
 {
-    if x < 10 {
-        return put_digit(text, at, x);
-    }
-    let next = put_decimal(text, at, x / 10);
-    put_digit(text, next, x % 10)
+    let last = if x < 10 {
+        at
+    } else {
+        put_decimal(text, at, x / 10)
+    };
+    put(text, last, &[b'0' + (x % 10) as u8])
 }
 
 // Writes a line of x and y, each after its word.
@@ -47,11 +36,11 @@ fn line(text: &mut [u8], at: usize, first: &[u8], x: usize, second: &[u8], y: us
     requires { at + length (line_of first.now x second.now y) ≤ length text.old }
     ensures { Puts at (line_of first.now x second.now y) text.old text.new result }
 {
-    let a = put(text, at, first);
-    let b = put_decimal(text, a, x);
-    let c = put(text, b, second);
-    let d = put_decimal(text, c, y);
-    put(text, d, b"\n")
+    let at = put(text, at, first);
+    let at = put_decimal(text, at, x);
+    let at = put(text, at, second);
+    let at = put_decimal(text, at, y);
+    put(text, at, b"\n")
 }
 
 // Writes the line of size, the number of vertices, and the number of edges.
@@ -92,9 +81,10 @@ pub fn witness_verdict(text: &mut [u8], at: usize, count: usize) -> usize
     ensures { Puts at (verdict_line (witness_letter count)) text.old text.new result }
 {
     if count % 2 == 1 {
-        return put(text, at, b"verdict O\n");
+        put(text, at, b"verdict O\n")
+    } else {
+        put(text, at, b"verdict U\n")
     }
-    put(text, at, b"verdict U\n")
 }
 
 // Writes the line of the witness's word w at index i, or nothing if w is 0.
@@ -115,12 +105,8 @@ pub fn pair_lines(text: &mut [u8], at: usize, sequence: &[u8], made: usize) -> u
     ensures bound { result ≤ at + 13 * made }
 {
     let mut next = at;
-    let mut k = 0;
-    while k < made {
-        let smaller = sequence[k + k] as usize;
-        let larger = sequence[k + k + 1] as usize;
-        next = pair_line(text, next, smaller, larger);
-        k += 1;
+    for pair in sequence[..2 * made].chunks_exact(2) {
+        next = pair_line(text, next, pair[0] as usize, pair[1] as usize);
     }
     next
 }
@@ -132,11 +118,8 @@ pub fn witness_lines(text: &mut [u8], at: usize, words: &[u16]) -> usize
     ensures bound { result ≤ at + 17 * length words.now }
 {
     let mut next = at;
-    let mut i = 0;
-    while i < words.len() {
-        let w = words[i] as usize;
-        next = witness_line(text, next, i, w);
-        i += 1;
+    for (i, word) in words.iter().enumerate() {
+        next = witness_line(text, next, i, *word as usize);
     }
     next
 }

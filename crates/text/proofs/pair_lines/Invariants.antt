@@ -1,12 +1,15 @@
--- `text::pair_lines` meets its contract. The invariant of its loop: the lines of the first k pairs are written. The measure is the number of
-use Prim.Native.Nat.{◌+◌, ◌*◌, ◌-◌, ◌≤◌}
+-- `text::pair_lines` meets its contract: the lines of the pairs so far are written, and the other pairs are left. Assumes nothing.
+use Rattle.std.proofs.Common.{◌≡◌, ◌+◌, ◌*◌, ◌≤◌, length, take, drop}
 use Rattle.matching.specs.Pairs.{pairs_on}
 use Rattle.matching.specs.Listing.{pair_lines}
 use Rattle.text.specs.Puts.{Puts}
 use Rattle.text.proofs.pair_lines.Given as goal
 
-abbrev pub invariant-loop-k : goal.invariant-loop-k
-invariant-loop-k l = (l.k ≤ l.made) × (l.next ≤ l.at + 13 * l.k) × Puts l.at (pair_lines (pairs_on l.sequence l.k)) l.initial.text l.text l.next
-
-abbrev pub decreases-loop-k : goal.decreases-loop-k
-decreases-loop-k l = l.made - l.k
+abbrev pub invariant-loop-pair : goal.invariant-loop-pair
+invariant-loop-pair l = record {
+  within : length l.yielded ≤ l.made;
+  by_two : l.pair-iterator.size ≡ 2;
+  left : l.pair-iterator.rest.now ≡ drop (2 * length l.yielded) (take (2 * l.made) l.sequence);
+  bound : l.next ≤ l.at + 13 * length l.yielded;
+  lines : Puts l.at (pair_lines (pairs_on l.sequence (length l.yielded))) l.initial.text l.text l.next;
+}
