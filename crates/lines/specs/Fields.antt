@@ -1,19 +1,16 @@
 -- Fields at an offset: what the contracts of `src/` cite, with laws for the proofs. Assumes nothing.
-use Rattle.std.specs.Prelude.{◌≡◌, refl, Bool, true, false, ◌≢◌, List, [], ◌∷◌, ◌++◌, ℕ, ◌+◌, ◌*◌, ◌-◌, ◌≤◌, ◌<◌, length, get_or, drop}
-use Rattle.std.proofs.Common.{sym, ap, ◌∙◌, add-one, arith, length-append, length-drop, drop_of_length-le, drop-cons, get_or-drop}
-use Rattle.std.proofs.Math.ListN.{get_or-append}
+use Rattle.std.specs.Prelude.{◌≡◌, refl, Option, None, Some, MatchOption, Bool, true, false, ◌≢◌, List, [], ◌∷◌, ◌++◌, ℕ, zero, suc, eqb, ◌+◌, ◌*◌, ◌-◌, ◌≤◌, ◌<◌, length, get_or, drop}
+use Rattle.std.specs.List.{AllWithin, HoldsAt, slice_range, starts_with}
+use Rattle.std.proofs.lemmas.Bool.Decides.{Decides-eqb}
+use Rattle.std.proofs.lemmas.List.{take_all, drop-drop}
+use Rattle.std.proofs.lemmas.Slice.Eq.{starts_is}
+use Rattle.std.proofs.Common.{ap, add-one, arith, length-append, length-drop, drop_of_length-le, drop-cons, get_or-take, get_or-drop}
 use Rattle.matching.specs.Dimacs as paper
 use Rattle.matching.specs.Dimacs.{line_feed, space, Digit, append, last, more, Skips, ends, skips}
-use Rattle.matching.specs.DimacsComputed.{first_digit, nothing_left, no_line_feed, none_behind, problem_start, edge_start}
+use Rattle.matching.specs.DimacsComputed.{first_digit, nothing_left, no_line_feed, none_behind}
 use Rattle.lines.specs.Near.{Near, equal}
 use Rattle.lines.specs.declared.Number.{Number}
-use Rattle.lines.specs.declared.Field.{Field}
-use Rattle.lines.specs.declared.Field.TheVariants as field
 use Rattle.lines.specs.declared.Two.{Two}
-use Rattle.lines.specs.declared.Fields.{Fields}
-use Rattle.lines.specs.declared.Fields.TheVariants as fields
-use Rattle.lines.specs.declared.Skip.{Skip}
-use Rattle.lines.specs.declared.Skip.TheVariants as skip
 
 -- the bytes from an offset on, one after the other
 pub next_byte : (bytes : List ℕ) (at next : ℕ) → at < length bytes → next ≡ at + 1 → drop at bytes ≡ get_or bytes at 0 ∷ drop next bytes
@@ -54,9 +51,9 @@ pub record Ended (bytes : List ℕ) (from z x : ℕ) (n : Number) : Type 0 where
   pub after : from < n.next
   pub within : n.next ≤ length bytes
 
-abbrev pub DigitsAt : List ℕ → (from z x : ℕ) → Field → Type 0
-DigitsAt bytes from z x (field.Number n) = Ended bytes from z x n
-DigitsAt bytes from z x field.Nothing = (y : ℕ) (rest : List ℕ) → ¬ Digits z x (drop from bytes) y rest
+abbrev pub DigitsAt : List ℕ → (from z x : ℕ) → Option Number → Type 0
+DigitsAt bytes from z x (Some n) = Ended bytes from z x n
+DigitsAt bytes from z x None = (y : ℕ) (rest : List ℕ) → ¬ Digits z x (drop from bytes) y rest
 
 -- digits have been passed from one offset to another
 pub record Passed (bytes : List ℕ) (from z x at value : ℕ) : Type 0 where
@@ -105,9 +102,9 @@ pub record Found (bytes : List ℕ) (at z : ℕ) (n : Number) : Type 0 where
 pub record NoField (bytes : List ℕ) (at z : ℕ) : Type 0 where
   pub none : (y : ℕ) (rest : List ℕ) → ¬ paper.Field z 0 (drop at bytes) y rest
 
-abbrev pub FieldAt : List ℕ → (at z : ℕ) → Field → Type 0
-FieldAt bytes at z (field.Number n) = Found bytes at z n
-FieldAt bytes at z field.Nothing = NoField bytes at z
+abbrev pub FieldAt : List ℕ → (at z : ℕ) → Option Number → Type 0
+FieldAt bytes at z (Some n) = Found bytes at z n
+FieldAt bytes at z None = NoField bytes at z
 
 module _ {bytes : List ℕ} {at z : ℕ} where
   pub field_none : length bytes ≤ at → NoField bytes at z
@@ -117,15 +114,15 @@ module _ {bytes : List ℕ} {at z : ℕ} where
   field_other l n = record { none = λ y rest f. n (first_digit (rw (next_byte bytes at (at + 1) l refl) at f)) }
 
 module _ (bytes : List ℕ) (at z : ℕ) where
-  pub field_digits : (r : Field) → z < 48 → at < length bytes → Digit (get_or bytes at 0) → DigitsAt bytes (at + 1) z (append 0 (get_or bytes at 0)) r → FieldAt bytes at z r
-  field_digits (field.Number n) h l d E = record {
+  pub field_digits : (r : Option Number) → z < 48 → at < length bytes → Digit (get_or bytes at 0) → DigitsAt bytes (at + 1) z (append 0 (get_or bytes at 0)) r → FieldAt bytes at z r
+  field_digits (Some n) h l d E = record {
     exact = E.exact;
     near = E.near;
     field = rw (next_byte bytes at (at + 1) l refl) (to_field d E.digits);
     after = omega (arith, E.after);
     within = E.within;
   }
-  field_digits field.Nothing h l d E = record {
+  field_digits None h l d E = record {
     none = λ y rest f. E y rest (after_first (λ k. omega (arith, k.0)) d (rw (next_byte bytes at (at + 1) l refl) at (from_field f)));
   }
 
@@ -134,9 +131,15 @@ pub record Short (bytes : List ℕ) (at z : ℕ) (n : Number) : Type 0 where
   pub found : Found bytes at z n
   pub close : n.next ≤ at + 3
 
-abbrev pub ShortAt : List ℕ → (at z : ℕ) → Field → Type 0
-ShortAt bytes at z (field.Number n) = Short bytes at z n
-ShortAt bytes at z field.Nothing = Unit {0}
+abbrev pub ShortAt : List ℕ → (at z : ℕ) → Option Number → Type 0
+ShortAt bytes at z (Some n) = Short bytes at z n
+ShortAt bytes at z None = Unit {0}
+
+-- a byte of the three at an offset
+pub part_byte : (bytes : List ℕ) (at i k : ℕ) → k ≡ at + i → i < 3 → at + 3 ≤ length bytes → get_or (slice_range bytes at (at + 3)) i 0 ≡ get_or bytes k 0
+part_byte bytes at i k e few l =
+    let inside : i < at + 3 - at = omega arith in
+    rw (e, get_or-take (at + 3 - at) (drop at bytes) i 0 inside) (get_or-drop at bytes i 0)
 
 module _ {bytes : List ℕ} {at z : ℕ} (l : at + 3 ≤ length bytes) (d : Digit (get_or bytes at 0)) where
   pub short_one : {value : ℕ} → get_or bytes (at + 1) 0 ≡ z → value ≡ get_or bytes at 0 - 48 → Short bytes at z (record { value = value; next = at + 2 })
@@ -182,14 +185,14 @@ pub record Pair (bytes : List ℕ) (at : ℕ) (t : Two) : Type 0 where
 pub record NoTwo (bytes : List ℕ) (at : ℕ) : Type 0 where
   pub none : (u v : ℕ) (between rest : List ℕ) → paper.Field space 0 (drop at bytes) u between → ¬ paper.Field line_feed 0 between v rest
 
-abbrev pub TwoAt : List ℕ → ℕ → Fields → Type 0
-TwoAt bytes at (fields.Both t) = Pair bytes at t
-TwoAt bytes at fields.Nothing = NoTwo bytes at
+abbrev pub TwoAt : List ℕ → ℕ → Option Two → Type 0
+TwoAt bytes at (Some t) = Pair bytes at t
+TwoAt bytes at None = NoTwo bytes at
 
 -- both of one or two digits
-abbrev pub ShortTwoAt : List ℕ → ℕ → Fields → Type 0
-ShortTwoAt bytes at (fields.Both t) = Pair bytes at t
-ShortTwoAt bytes at fields.Nothing = Unit {0}
+abbrev pub ShortTwoAt : List ℕ → ℕ → Option Two → Type 0
+ShortTwoAt bytes at (Some t) = Pair bytes at t
+ShortTwoAt bytes at None = Unit {0}
 
 module _ {bytes : List ℕ} {at : ℕ} where
   pub two_found : {u v : Number} → Found bytes at 32 u → Found bytes u.next 10 v
@@ -218,38 +221,47 @@ pub record Skipped (bytes : List ℕ) (from next : ℕ) : Type 0 where
   pub after : from < next
   pub within : next ≤ length bytes
 
-abbrev pub SkipAt : List ℕ → ℕ → Skip → Type 0
-SkipAt bytes from (skip.After next) = Skipped bytes from next
-SkipAt bytes from skip.Nothing = (rest : List ℕ) → ¬ Skips (drop from bytes) rest
-
-pub record Skipping (bytes : List ℕ) (from at : ℕ) : Type 0 where
-  pub on : (rest : List ℕ) → Skips (drop at bytes) rest → Skips (drop from bytes) rest
-  pub back : (rest : List ℕ) → Skips (drop from bytes) rest → Skips (drop at bytes) rest
+abbrev pub SkipAt : List ℕ → ℕ → Option ℕ → Type 0
+SkipAt bytes from (Some next) = Skipped bytes from next
+SkipAt bytes from None = (rest : List ℕ) → ¬ Skips (drop from bytes) rest
 
 after_other : {c : ℕ} {bytes rest : List ℕ} → c ≢ line_feed → Skips (c ∷ bytes) rest → Skips bytes rest
 after_other d ends = absurd (d refl)
 after_other d (skips _ s) = s
 
+skips_to : (bytes : List ℕ) (k : ℕ) → AllWithin (λ c. c ≢ line_feed) bytes 0 k → k < length bytes → get_or bytes k 0 ≡ line_feed → Skips bytes (drop (suc k) bytes)
+skips_to [] k others l e = absurd (omega arith)
+skips_to (c ∷ bytes) zero others l e = rw e ends
+skips_to (c ∷ bytes) (suc k) others l e = skips (others 0 0 (omega arith) (omega arith)) (skips_to bytes k (λ j d o h. others (suc j) d (omega arith) (omega arith)) (omega arith) e)
+
+no_skips : (bytes : List ℕ) → AllWithin (λ c. c ≢ line_feed) bytes 0 (length bytes) → (rest : List ℕ) → ¬ Skips bytes rest
+no_skips [] others rest s = no_line_feed s
+no_skips (c ∷ bytes) others rest s =
+    no_skips bytes (λ j d o h. others (suc j) d (omega arith) (omega arith)) rest (after_other (others 0 0 (omega arith) (omega arith)) s)
+
+-- the index of the first line feed of the bytes from an offset on, or none
+abbrev pub FirstFeed : List ℕ → Option ℕ → Type 0
+FirstFeed bytes r =
+    MatchOption r (AllWithin (λ c. c ≢ line_feed) bytes 0 (length bytes))
+    (λ k. (k < length bytes) × HoldsAt (λ c. c ≡ line_feed) bytes k × AllWithin (λ c. c ≢ line_feed) bytes 0 k)
+
+-- the bytes from an offset on, as the code takes them
+part_all : (bytes : List ℕ) (from : ℕ) → slice_range bytes from (length bytes) ≡ drop from bytes
+part_all bytes from = take_all (length bytes - from) (drop from bytes) (omega (arith, length-drop from bytes))
+
 module _ {bytes : List ℕ} {from : ℕ} where
-  pub skipping_none : Skipping bytes from from
-  skipping_none = record { on = λ rest s. s; back = λ rest s. s }
+  pub skip_found : (k : ℕ) → from ≤ length bytes → FirstFeed (slice_range bytes from (length bytes)) (Some k) → Skipped bytes from (from + k + 1)
+  skip_found k o F =
+      let G = rw (part_all bytes from) at F in
+      let same : from + k + 1 ≡ from + suc k = omega arith in
+      record {
+        skips = rw (same, ← drop-drop (suc k) from bytes) (skips_to (drop from bytes) k G.2 G.0 (G.1 0));
+        after = omega arith;
+        within = omega (arith, G.0, length-drop from bytes);
+      }
 
-  module _ {at : ℕ} (S : Skipping bytes from at) where
-    pub skipping_more : at < length bytes → get_or bytes at 0 ≢ 10 → Skipping bytes from (at + 1)
-    skipping_more l d = record {
-      on = λ rest s. S.on rest (rw (next_byte bytes at (at + 1) l refl) (skips d s));
-      back = λ rest s. after_other d (rw (next_byte bytes at (at + 1) l refl) at (S.back rest s));
-    }
-
-    pub skipping_end : from ≤ at → at < length bytes → get_or bytes at 0 ≡ 10 → Skipped bytes from (at + 1)
-    skipping_end o l e = record {
-      skips = S.on (drop (at + 1) bytes) (rw (next_byte bytes at (at + 1) l refl, e) ends);
-      after = omega arith;
-      within = omega arith;
-    }
-
-    pub skipping_all : length bytes ≤ at → (rest : List ℕ) → ¬ Skips (drop from bytes) rest
-    skipping_all l rest s = no_line_feed (rw (drop_of_length-le bytes {i = at} l) at (S.back rest s))
+pub skip_none : (bytes : List ℕ) (from : ℕ) → FirstFeed (slice_range bytes from (length bytes)) None → (rest : List ℕ) → ¬ Skips (drop from bytes) rest
+skip_none bytes from F = no_skips (drop from bytes) (rw (part_all bytes from) at F)
 
 -- whether the bytes from an offset on start so
 pub record Starts (start bytes : List ℕ) (at : ℕ) : Type 0 where
@@ -263,27 +275,18 @@ abbrev pub StartsAt : List ℕ → List ℕ → ℕ → Bool → Type 0
 StartsAt start bytes at true = Starts start bytes at
 StartsAt start bytes at false = Differs start bytes at
 
--- a byte that differs, or too few
-module _ {start bytes : List ℕ} {at : ℕ} where
-  pub starts_few : length bytes - at < length start → Differs start bytes at
-  starts_few l = record { never = λ rest e. omega (arith, ap length e, length-append start rest, length-drop at bytes) }
+-- what `starts_with` answers of the bytes from an offset on
+pub starts_so : (start bytes : List ℕ) (at : ℕ) (r : Bool) → at ≤ length bytes → r ≡ starts_with eqb (slice_range bytes at (length bytes)) start → StartsAt start bytes at r
+starts_so start bytes at r l e = go r refl
+  where
+    is : (r ≡ true → drop at bytes ≡ start ++ drop (length start) (drop at bytes)) × ((rest : List ℕ) → drop at bytes ≡ start ++ rest → r ≡ true)
+    is = starts_is Decides-eqb (drop at bytes) start r (rw (part_all bytes at) at e)
 
-  pub starts_other : (k : ℕ) → get_or bytes (at + k) 0 ≢ get_or start k 0 → k < length start → Differs start bytes at
-  starts_other k d l = record { never = λ rest e. d (sym (get_or-drop at bytes k 0) ∙ ap (λ b. get_or b k 0) e ∙ get_or-append start rest 0 k l) }
-
-  pub starts_first : get_or bytes at 0 ≢ get_or start 0 0 → 0 < length start → Differs start bytes at
-  starts_first d l = starts_other 0 (λ e. d (ap (λ k. get_or bytes k 0) (omega arith) ∙ e)) l
-
-module _ {bytes : List ℕ} {at : ℕ} where
-  pub starts_edge_so : at + 2 ≤ length bytes → get_or bytes at 0 ≡ 101 → get_or bytes (at + 1) 0 ≡ 32 → Starts edge_start bytes at
-  starts_edge_so l a b = record { same = rw (next_byte bytes at (at + 1) (omega arith) refl, next_byte bytes (at + 1) (at + 2) (omega arith) (omega arith), a, b) refl; within = l }
-
-  pub starts_problem_so : at + 7 ≤ length bytes → get_or bytes at 0 ≡ 112 → get_or bytes (at + 1) 0 ≡ 32 → get_or bytes (at + 2) 0 ≡ 101 → get_or bytes (at + 3) 0 ≡ 100
-      → get_or bytes (at + 4) 0 ≡ 103 → get_or bytes (at + 5) 0 ≡ 101 → get_or bytes (at + 6) 0 ≡ 32 → Starts problem_start bytes at
-  starts_problem_so l a b c d e f g = record {
-    same =
-        rw
-        (next_byte bytes at (at + 1) (omega arith) refl, next_byte bytes (at + 1) (at + 2) (omega arith) (omega arith), next_byte bytes (at + 2) (at + 3) (omega arith) (omega arith), next_byte bytes (at + 3) (at + 4) (omega arith) (omega arith), next_byte bytes (at + 4) (at + 5) (omega arith) (omega arith), next_byte bytes (at + 5) (at + 6) (omega arith) (omega arith), next_byte bytes (at + 6) (at + 7) (omega arith) (omega arith), a, b, c, d, e, f, g)
-        refl;
-    within = l;
-  }
+    go : (q : Bool) → r ≡ q → StartsAt start bytes at q
+    go true t =
+        let f = is.0 t in
+        record {
+          same = rw (← drop-drop (length start) at bytes) f;
+          within = omega (arith, ap length f, length-append start (drop (length start) (drop at bytes)), length-drop at bytes);
+        }
+    go false t = record { never = λ rest d. let x = is.1 rest d in absurd (cc) }

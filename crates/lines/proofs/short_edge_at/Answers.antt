@@ -2,5 +2,5 @@
 use Rattle.lines.specs.Lines.{short_edge}
 use Rattle.lines.proofs.short_edge_at.Goals as goal
 
-pub returns-then-starts_edge : goal.returns-then-starts_edge
-returns-then-starts_edge c = short_edge c.short_two_at.result (rw c.if-starts_edge.true at c.starts_edge.ensures) c.short_two_at.ensures
+pub returns : goal.returns
+returns c = short_edge c.short_two_at.result c.if-not-starts_edge.ensures c.short_two_at.ensures
