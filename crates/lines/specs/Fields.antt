@@ -4,7 +4,7 @@ use Rattle.std.specs.List.{AllWithin, HoldsAt, slice_range, starts_with}
 use Rattle.std.proofs.lemmas.Bool.Decides.{Decides-eqb}
 use Rattle.std.proofs.lemmas.List.{take_all, drop-drop}
 use Rattle.std.proofs.lemmas.Slice.Eq.{starts_is}
-use Rattle.std.proofs.Common.{ap, add-one, arith, length-append, length-drop, drop_of_length-le, drop-cons, get_or-take, get_or-drop}
+use Rattle.std.proofs.Common.{ap, add-one, arith, length-append, length-drop, drop_of_length-le, drop-cons}
 use Rattle.matching.specs.Dimacs as paper
 use Rattle.matching.specs.Dimacs.{line_feed, space, Digit, append, last, more, Skips, ends, skips}
 use Rattle.matching.specs.DimacsComputed.{first_digit, nothing_left, no_line_feed, none_behind}
@@ -134,12 +134,6 @@ pub record Short (bytes : List ℕ) (at z : ℕ) (n : Number) : Type 0 where
 abbrev pub ShortAt : List ℕ → (at z : ℕ) → Option Number → Type 0
 ShortAt bytes at z (Some n) = Short bytes at z n
 ShortAt bytes at z None = Unit {0}
-
--- a byte of the three at an offset
-pub part_byte : (bytes : List ℕ) (at i k : ℕ) → k ≡ at + i → i < 3 → at + 3 ≤ length bytes → get_or (slice_range bytes at (at + 3)) i 0 ≡ get_or bytes k 0
-part_byte bytes at i k e few l =
-    let inside : i < at + 3 - at = omega arith in
-    rw (e, get_or-take (at + 3 - at) (drop at bytes) i 0 inside) (get_or-drop at bytes i 0)
 
 module _ {bytes : List ℕ} {at z : ℕ} (l : at + 3 ≤ length bytes) (d : Digit (get_or bytes at 0)) where
   pub short_one : {value : ℕ} → get_or bytes (at + 1) 0 ≡ z → value ≡ get_or bytes at 0 - 48 → Short bytes at z (record { value = value; next = at + 2 })

@@ -77,23 +77,29 @@ fn field_at(bytes: &[u8], at: usize, end: u8) -> Option<Number>
     digits_at(bytes, at + 1, usize::from(c - b'0'), end)
 }
 
-// Reads the field at offset at of bytes if it has one or two digits. None does not say that no longer
-// one stands there.
+// Reads the field at offset at of bytes if it has one or two digits. None does not say that no longer one stands there.
 fn short_at(bytes: &[u8], at: usize, end: u8) -> Option<Number>
     requires { at + 3 ≤ length bytes.now }
     ensures { ShortAt bytes.now at end result }
 {
-    match &bytes[at..at + 3] {
-        [c @ b'0'..=b'9', z, _] if *z == end => Some(Number {
-            value: usize::from(*c - b'0'),
-            next: at + 2,
-        }),
-        [c @ b'0'..=b'9', d @ b'0'..=b'9', z] if *z == end => Some(Number {
-            value: 10 * usize::from(*c - b'0') + usize::from(*d - b'0'),
-            next: at + 3,
-        }),
-        _ => None,
+    let c = bytes[at];
+    if !c.is_ascii_digit() {
+        return None;
     }
+    let d = bytes[at + 1];
+    if d == end {
+        return Some(Number {
+            value: usize::from(c - b'0'),
+            next: at + 2,
+        });
+    }
+    if !d.is_ascii_digit() || bytes[at + 2] != end {
+        return None;
+    }
+    Some(Number {
+        value: 10 * usize::from(c - b'0') + usize::from(d - b'0'),
+        next: at + 3,
+    })
 }
 
 // Reads two fields at offset at of bytes, parted by a space, up to a line feed.
@@ -138,7 +144,7 @@ fn starts_edge(bytes: &[u8], at: usize) -> bool
     requires { at ≤ length bytes.now }
     ensures { StartsAt edge_start bytes.now at result }
 {
-    bytes[at..].starts_with(b"e ")
+    matches!(&bytes[at..], [b'e', b' ', ..])
 }
 
 // Tells whether `p edge ` stands at offset at of bytes.
