@@ -1,5 +1,5 @@
 -- A session that is known to be sound, and what a call makes of it. Assumes nothing.
-use Rattle.std.specs.Prelude.{◌≡◌, List, [], ◌∷◌, ◌++◌, ℕ, suc, ◌+◌, ◌*◌, ◌≤◌, ◌<◌, length, take, drop, set}
+use Rattle.std.specs.Prelude.{◌≡◌, List, [], ◌∷◌, ◌++◌, ℕ, suc, ◌+◌, ◌*◌, ◌≤◌, ◌<◌, length, take, drop, set, Result, Ok, Err}
 use Rattle.std.proofs.Math.Path.{refl}
 use Rattle.std.proofs.Common.{sym, ap, ◌∙◌, arith, take-append-drop, length-take-le, get_or-take}
 use Rattle.std.proofs.Math.ListN.{length-set}
@@ -23,13 +23,12 @@ use Rattle.laws.specs.Sound.{SessionFits, Sound, session_accepted}
 use Rattle.laws.specs.Sequence.{length_pairs_on, length_sequence, sequence_on, pairs_on_sequence, well_formed_sequence, matching_on}
 use Rattle.laws.specs.OpeningOutcome.{table_over}
 use Rattle.laws.specs.Demand.{handles_sound}
-use Rattle.refusals.specs.declared.Ruling.{Ruling}
-use Rattle.refusals.specs.declared.Ruling.TheVariants.{Accepted, Refused}
+use Rattle.refusals.specs.declared.Refusal as declared
 use Rattle.refusals.specs.Meaning.{refusal_of, ruling_of}
 use Rattle.sequence.specs.Formed.{Left, unmarked}
 use Rattle.soundness.specs.Sound.{Confirmed}
 use Rattle.soundness.specs.Besides.{ConfirmedLent}
-use Rattle.tutte.specs.Table.{Complete}
+use Rattle.graph.specs.Complete.{Complete}
 use Rattle.partners.specs.Standing.{Tables, Standing, Marked}
 use Rattle.pairing.specs.Appended.{pair_below, shrunk_inverse, AppendRoom, Appended}
 use Rattle.calls.specs.Meaning.{answer_of}
@@ -78,16 +77,18 @@ pub same_state : (n : ℕ) (adjacency weights kept : List ℕ) {m m' : ℕ} {i i
 same_state n adjacency weights kept em ei eq = rw (em, ei, eq)
 
 -- a confirmation makes the session known, or refuses every call
-module _ {n made : ℕ} {adjacency weights inverse sequence kept marks : List ℕ} {v : Ruling} (C : Confirmed n made adjacency weights inverse sequence kept marks v) where
-  pub known : v ≡ Accepted → Known n made adjacency weights inverse sequence kept marks
+module _ {n made : ℕ} {adjacency weights inverse sequence kept marks : List ℕ} {A : Type 0} {v : Result A declared.Refusal}
+    (C : Confirmed n made adjacency weights inverse sequence kept marks v) where
+  pub known : {x : A} → v ≡ Ok x → Known n made adjacency weights inverse sequence kept marks
   known e = let ok : ruling_of v ≡ accepted = ap ruling_of e in record { sound = sym C.ruled ∙ ok; left = C.left ok }
 
-  pub not_sound : (c : Call) {r : _} → v ≡ Refused r
+  pub not_sound : (c : Call) {r : declared.Refusal} → v ≡ Err r
       → Handles modulus_prime (state n made adjacency weights inverse sequence kept) c (denied (refusal_of r)) (state n made adjacency weights inverse sequence kept)
   not_sound c e = unsound _ (sym C.ruled ∙ ap ruling_of e)
 
-pub known_lent : {before after : List Lent} {n made : ℕ} {adjacency weights inverse sequence kept marks : List ℕ} {v : Ruling} → ConfirmedLent before after n made adjacency weights inverse sequence kept marks v
-    → v ≡ Accepted → Known n made adjacency weights inverse sequence kept marks
+pub known_lent : {before after : List Lent} {n made : ℕ} {adjacency weights inverse sequence kept marks : List ℕ} {A : Type 0} {v : Result A declared.Refusal} {x : A}
+    → ConfirmedLent before after n made adjacency weights inverse sequence kept marks v
+    → v ≡ Ok x → Known n made adjacency weights inverse sequence kept marks
 known_lent C e = known (C.confirmed (ap ruling_of e)) e
 
 module _ {n made : ℕ} {adjacency weights inverse sequence kept marks : List ℕ} (K : Known n made adjacency weights inverse sequence kept marks) where

@@ -6,11 +6,14 @@ ghost use Rattle.std.specs.Prelude.{◌≡◌, ℕ};
 ghost use Rattle.matching.specs.Decision.{because};
 ghost use Rattle.matching.specs.Model.{pick, automatic, undo, denied};
 ghost use Rattle.matching.specs.Host.{answer_number};
+ghost use Rattle.refusals.specs.Meaning.{cause_number};
 ghost use Rattle.calls.specs.Meaning.{call_is, answer_of, AnswerFits};
 ghost use Rattle.calls.specs.Known.{KnownWith, CalledWith, KnownFor, CalledFor};
 
+use graph::Graph;
+use numbers::AnswerKind;
 use pairing::Pair;
-use refusals::{Finding, Refusal, Ruling};
+use refusals::{Cause, Refusal};
 
 // A session call that changes the pairs: a pick of two vertices, an automatic pick, or an undo.
 #[derive(Clone, Copy)]
@@ -21,11 +24,7 @@ pub enum Call {
 }
 
 // What a call answers: the pair appended or removed, or a refusal.
-#[derive(Clone, Copy)]
-pub enum Answer {
-    Done(Pair),
-    Denied(Refusal),
-}
+pub type Answer = Result<Pair, Refusal>;
 
 // An answer, and the pairs made after it.
 #[derive(Clone, Copy)]
@@ -40,22 +39,21 @@ pub fn number(answer: Answer, made: usize) -> u64
     ensures { (n : ℕ) → result ≡ answer_number (answer_of answer) (record { size = n; made = made }) }
 {
     match answer {
-        Answer::Done(e) => {
-            let value = e.smaller as u64 + 256 * (e.larger as u64);
-            numbers::carried(3, value, made as u64)
+        Ok(pair) => {
+            let value = pair.smaller as u64 + 256 * (pair.larger as u64);
+            numbers::carried(AnswerKind::Pair, value, made as u64)
         }
-        Answer::Denied(r) => numbers::refused(r),
+        Err(refusal) => numbers::refused(refusal),
     }
 }
 
 // Refuses a call for a cause, and leaves the pairs made as they are.
-fn deny(cause: u8, made: usize) -> Reply
-    ensures { (result.made ≡ made) × (answer_of result.answer ≡ denied (because cause 0)) }
+fn deny(cause: Cause, made: usize) -> Reply
+    ensures { (result.made ≡ made) × (answer_of result.answer ≡ denied (because (cause_number cause) 0)) }
 {
-    let refusal = refusals::because(cause, 0);
     Reply {
         made,
-        answer: Answer::Denied(refusal),
+        answer: Err(refusals::because(cause, 0)),
     }
 }
 
@@ -74,18 +72,16 @@ pub fn pick(
     ensures { CalledFor (pick a b) n made adjacency.now inverse.old sequence.old marks.old result
         inverse.new sequence.new marks.new }
 {
-    let ruling = partners::judge(n, adjacency, inverse, marks, a, b);
-    if let Ruling::Refused(refusal) = ruling {
+    if let Err(refusal) = partners::judge(n, adjacency, inverse, marks, a, b) {
         return Reply {
             made,
-            answer: Answer::Denied(refusal),
+            answer: Err(refusal),
         };
     }
-    let e = pairing::append(n, made, inverse, sequence, marks, a, b);
-    let more = made + 1;
+    let pair = pairing::append(n, made, inverse, sequence, marks, a, b);
     Reply {
-        made: more,
-        answer: Answer::Done(e),
+        made: made + 1,
+        answer: Ok(pair),
     }
 }
 
@@ -102,76 +98,70 @@ pub fn automatic(
     ensures { CalledFor automatic n made adjacency.now inverse.old sequence.old marks.old result
         inverse.new sequence.new marks.new }
 {
-    let lowest = partners::lowest(marks);
-    if let Finding::At(c) = lowest {
-        let partner = partners::partner(n, adjacency, inverse, marks, c);
-        if let Finding::At(r) = partner {
-            let e = pairing::append(n, made, inverse, sequence, marks, c, r);
-            let more = made + 1;
-            return Reply {
-                made: more,
-                answer: Answer::Done(e),
-            };
-        }
-        // Not reached: if the vertices left have an inverse, the lowest has a partner.
-        return deny(11, made);
+    let Some(c) = partners::lowest(marks) else {
+        return deny(Cause::NothingLeft, made);
+    };
+    // The vertices left have an inverse, so the lowest has a partner.
+    let Some(r) = partners::partner(n, adjacency, inverse, marks, c) else {
+        unreachable!()
+    };
+    let pair = pairing::append(n, made, inverse, sequence, marks, c, r);
+    Reply {
+        made: made + 1,
+        answer: Ok(pair),
     }
-    deny(11, made)
 }
 
 // Removes the newest pair.
 pub fn undo(
-    n: usize,
+    graph: Graph,
     made: usize,
-    adjacency: &[u8],
-    weights: &[u16],
     inverse: &mut [u16],
     sequence: &mut [u8],
     marks: &mut [u8],
 ) -> Reply
-    requires { KnownWith n made adjacency.now weights.now inverse.old sequence.old marks.old }
-    ensures { CalledWith undo n made adjacency.now weights.now inverse.old sequence.old
+    requires { KnownWith graph.size made graph.adjacency.now graph.weights.now inverse.old sequence.old marks.old }
+    ensures { let g = graph.entry in
+        CalledWith undo g.size made g.adjacency.now g.weights.now inverse.old sequence.old
         marks.old result inverse.new sequence.new marks.new }
 {
     if made == 0 {
-        return deny(11, made);
+        return deny(Cause::NothingLeft, made);
     }
     let less = made - 1;
     let at = less + less;
     let a = sequence[at] as usize;
     let b = sequence[at + 1] as usize;
-    let removed = pairing::remove(n, less, adjacency, weights, inverse, sequence, marks, a, b);
-    if !removed {
-        return deny(10, made);
+    if !pairing::remove(graph, less, inverse, sequence, marks, a, b) {
+        return deny(Cause::RestSingular, made);
     }
-    let e = Pair {
-        smaller: a,
-        larger: b,
-    };
     Reply {
         made: less,
-        answer: Answer::Done(e),
+        answer: Ok(Pair {
+            smaller: a,
+            larger: b,
+        }),
     }
 }
 
 // Makes a call.
 pub fn make(
     call: Call,
-    n: usize,
+    graph: Graph,
     made: usize,
-    adjacency: &[u8],
-    weights: &[u16],
     inverse: &mut [u16],
     sequence: &mut [u8],
     marks: &mut [u8],
 ) -> Reply
-    requires { KnownWith n made adjacency.now weights.now inverse.old sequence.old marks.old }
-    ensures { CalledWith (call_is call) n made adjacency.now weights.now inverse.old
+    requires { KnownWith graph.size made graph.adjacency.now graph.weights.now inverse.old sequence.old marks.old }
+    ensures { let g = graph.entry in
+        CalledWith (call_is call) g.size made g.adjacency.now g.weights.now inverse.old
         sequence.old marks.old result inverse.new sequence.new marks.new }
 {
+    let n = graph.size;
     match call {
-        Call::Pick(a, b) => pick(n, made, adjacency, inverse, sequence, marks, a, b),
-        Call::Automatic => automatic(n, made, adjacency, inverse, sequence, marks),
-        Call::Undo => undo(n, made, adjacency, weights, inverse, sequence, marks),
+        Call::Pick(a, b) => pick(n, made, graph.adjacency, inverse, sequence, marks, a, b),
+        Call::Automatic => automatic(n, made, graph.adjacency, inverse, sequence, marks),
+        Call::Undo => undo(graph, made, inverse, sequence, marks),
     }
 }

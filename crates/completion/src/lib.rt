@@ -6,8 +6,6 @@ ghost use Rattle.matching.specs.Session.{state};
 ghost use Rattle.calls.specs.Known.{Known, KnownFor};
 ghost use Rattle.completion.specs.Completed.{CompletedFrom};
 
-use calls::Answer;
-
 // Makes automatic picks until one is refused, and returns how many were accepted.
 pub fn complete(
     n: usize,
@@ -26,10 +24,9 @@ pub fn complete(
     // made picks were accepted so far; each matches two more vertices, so the loop ends.
     loop {
         let reply = calls::automatic(n, made, adjacency, inverse, sequence, marks);
-        let answer = reply.answer;
-        if let Answer::Denied(_) = answer {
-            return made;
+        match reply.answer {
+            Ok(_) => made = reply.made,
+            Err(_) => return made,
         }
-        made = reply.made;
     }
 }

@@ -1,20 +1,14 @@
 -- `call_list::judge` meets its contract: each return is a cause of the list. Assumes nothing.
-use mathlib.Core.Path.{sym, ap, ◌∙◌}
-use Rattle.matching.specs.Decision.{because, refused}
+use mathlib.Core.Path.{sym}
 use Rattle.call_list.specs.List.{kind_unknown, list_cut, list_whole}
 use Rattle.call_list.proofs.judge.Goals as goal
 
-pub returns-in-At : goal.returns-in-At
-returns-in-At c =
-    c.refuse.ensures
-    ∙ ap (λ p. refused (because 12 p)) c.short_index-at.ensures
-    ∙ sym (kind_unknown _ (c.in-At.ensures))
+pub returns-in-Some : goal.returns-in-Some
+returns-in-Some c = rw (c.because.ensures, c.short_index.ensures) (sym (kind_unknown _ c.in-Some.ensures))
 
 pub returns-then-list-ne0 : goal.returns-then-list-ne0
 returns-then-list-ne0 c =
-    c.refuse-then-list-ne0.ensures
-    ∙ ap (λ p. refused (because 13 p)) c.short_index-at-then-list-ne0.ensures
-    ∙ sym (list_cut _ (c.in_default.ensures) c.if-list-ne0.true)
+    rw (c.because-then-list-ne0.ensures, c.short_index-then-list-ne0.ensures) (sym (list_cut _ c.in_default.ensures c.if-list-ne0.true))
 
 pub returns : goal.returns
-returns c = sym (list_whole _ (c.in_default.ensures) c.if-list-ne0.false)
+returns c = sym (list_whole _ c.in_default.ensures c.if-list-ne0.false)

@@ -3,33 +3,28 @@ use Rattle.calls.specs.Known.{called_denied, few, tables, standing, append_room,
 use native.Mathlib.Omega.{arith}
 use Rattle.calls.proofs.automatic.Goals as goal
 
-pub partner-partner-requires : goal.partner-partner-requires
-partner-partner-requires c = tables c.requires.2
+pub returns-in_default : goal.returns-in_default
+returns-in_default c = λ weights kept K. called_denied c.deny.ensures (automatic_denied K c.in_default.ensures) K.left
 
-pub append-e-requires : goal.append-e-requires
-append-e-requires c =
+pub partner-requires : goal.partner-requires
+partner-requires c = tables c.requires.2
+
+pub unreachable-requires : goal.unreachable-requires
+unreachable-requires c =
     let K = c.requires.2 in
-    append_room K _ _ (automatic_allowed K (c.in-At-partner.ensures _ _ _ (standing K)))
+    automatic_partner K c.in-Some.ensures (c.in_default-partner.ensures _ _ _ (standing K))
 
-pub overflow_add-more : goal.overflow_add-more
-overflow_add-more c = let K = c.requires.2 in omega (arith, few K, (tables K).size)
+pub append-pair-requires : goal.append-pair-requires
+append-pair-requires c =
+    let K = c.requires.2 in
+    append_room K _ _ (automatic_allowed K (c.in-Some-partner.ensures _ _ _ (standing K)))
 
-pub returns-in-At-partner : goal.returns-in-At-partner
-returns-in-At-partner c =
-    λ weights kept K.
-    let C = c.in-At.ensures in
-    let R = c.in-At-partner.ensures weights _ _ (standing K) in
-    let A = automatic_allowed K R in
-    record { handled = appends K _ _ A c.append-e.ensures _ (automatic_step K C R); left = appends_left K _ _ A c.append-e.ensures }
-
-pub returns-in-At : goal.returns-in-At
-returns-in-At c =
-    λ weights kept K.
-    let C = c.in-At.ensures in
-    absurd (automatic_partner K C (c.in_default-partner.ensures weights _ _ (standing K)))
+pub overflow_add-result : goal.overflow_add-result
+overflow_add-result c = let K = c.requires.2 in omega (arith, few K, (tables K).size)
 
 pub returns : goal.returns
 returns c =
     λ weights kept K.
-    let none = automatic_denied K (c.in_default.ensures) in
-    called_denied c.deny-2.ensures none K.left
+    let R = c.in-Some-partner.ensures weights _ _ (standing K) in
+    let A = automatic_allowed K R in
+    record { handled = appends K _ _ A c.append-pair.ensures _ (automatic_step K c.in-Some.ensures R); left = appends_left K _ _ A c.append-pair.ensures }

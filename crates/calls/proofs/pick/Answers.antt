@@ -3,25 +3,25 @@ use Rattle.calls.specs.Known.{few, tables, standing, append_room, appends, appen
 use native.Mathlib.Omega.{arith}
 use Rattle.calls.proofs.pick.Goals as goal
 
-pub judge-ruling-requires : goal.judge-ruling-requires
-judge-ruling-requires c = tables c.requires.2
+pub judge-requires : goal.judge-requires
+judge-requires c = tables c.requires.2
 
-pub returns-in-Refused : goal.returns-in-Refused
-returns-in-Refused c =
+pub returns-in-Err : goal.returns-in-Err
+returns-in-Err c =
     λ weights kept K.
-    record { handled = pick_denied K (c.in-Refused.ensures weights _ _ (standing K)); left = K.left }
+    record { handled = pick_denied K (c.in-Err.ensures weights _ _ (standing K)); left = K.left }
 
-pub append-e-requires : goal.append-e-requires
-append-e-requires c =
+pub append-pair-requires : goal.append-pair-requires
+append-pair-requires c =
     let K = c.requires.2 in
     append_room K _ _ (pick_allowed K (c.in_default.ensures _ _ _ (standing K)))
 
-pub overflow_add-more : goal.overflow_add-more
-overflow_add-more c = let K = c.requires.2 in omega (arith, few K, (tables K).size)
+pub overflow_add-result : goal.overflow_add-result
+overflow_add-result c = let K = c.requires.2 in omega (arith, few K, (tables K).size)
 
 pub returns : goal.returns
 returns c =
     λ weights kept K.
     let q = c.in_default.ensures weights _ _ (standing K) in
     let A = pick_allowed K q in
-    record { handled = appends K _ _ A c.append-e.ensures _ (pick_step K _ _ q); left = appends_left K _ _ A c.append-e.ensures }
+    record { handled = appends K _ _ A c.append-pair.ensures _ (pick_step K _ _ q); left = appends_left K _ _ A c.append-pair.ensures }
