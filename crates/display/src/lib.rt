@@ -11,14 +11,7 @@ use checks::LARGEST;
 fn any_nonzero(words: &[u16]) -> bool
     ensures { Tells words.now result }
 {
-    let mut i = 0;
-    while i < words.len() {
-        if words[i] != 0 {
-            return true;
-        }
-        i += 1;
-    }
-    false
+    words.iter().any(|word| *word != 0)
 }
 
 // Returns the first n words of witness if one of them is not 0, else the first n * n of inverse. If n is above 96 or a buffer is too short,
@@ -27,18 +20,11 @@ pub fn part<'a>(n: usize, inverse: &'a [u16], witness: &'a [u16]) -> &'a [u16]
     ensures words { result.now ≡ words_of (display n inverse.now witness.now) inverse.now witness.now }
     ensures start { result.ref_ptr ≡ start_of (display n inverse.now witness.now) inverse.entry.ref_ptr witness.entry.ref_ptr }
 {
-    if LARGEST < n {
-        return &inverse[..0];
-    }
-    let cells = n * n;
-    if inverse.len() < cells {
-        return &inverse[..0];
-    }
-    if witness.len() < n {
+    if LARGEST < n || inverse.len() < n * n || witness.len() < n {
         return &inverse[..0];
     }
     if any_nonzero(&witness[..n]) {
         return &witness[..n];
     }
-    &inverse[..cells]
+    &inverse[..n * n]
 }
