@@ -7,7 +7,8 @@ use Rattle.matching.specs.Pairs.{Pair}
 use Rattle.matching.specs.Records as paper
 use Rattle.matching.specs.Records.{kind, Begins, begins_size, begins_share, begins_seed, begins_end, Progress, ended, Due, size_due, seed_due, share_due, end_due, Takes, Rejects, Reading, sheet, unread, Reads, whole, not_due, stops, cut, rejected, goes_on}
 use Rattle.matching.specs.Computed.{nothing_due, begins_width}
-use Rattle.records.specs.Stands.{record_of, width_of, Stands, stands_whole, stands_cut, stands_unknown, stands_nothing}
+use Rattle.records.specs.declared.Kind as records
+use Rattle.records.specs.Stands.{kind_number, record_of, width_of, Stands, stands_whole, stands_cut, stands_unknown, stands_nothing}
 use Rattle.records.specs.declared.Record.{Record}
 use Rattle.records.specs.declared.Next.TheVariants.{Whole, Cut, Unknown, Nothing}
 
@@ -63,11 +64,11 @@ module _ {E : Edition} {bytes : List ℕ} {at : ℕ} where
   pub undue_here : {r : Record} {q : Progress} → Stands bytes at (Whole r) → ¬ Due q (kind (record_of r)) → ReadsOn E bytes q at (unread (because 12 at))
   undue_here (stands_whole b) d = rw (begins_first b).begin (not_due d)
 
-  pub cut_here : {k : ℕ} {q : Progress} → Stands bytes at (Cut k) → Due q k → ReadsOn E bytes q at (unread (because 13 (length bytes)))
-  cut_here (stands_cut r e none) d = rw e (cut d none)
+  pub cut_here : {k : records.Kind} {q : Progress} → Stands bytes at (Cut k) → Due q (kind_number k) → ReadsOn E bytes q at (unread (because 13 (length bytes)))
+  cut_here (stands_cut e none) d = rw e (cut d none)
 
-  pub undue_cut : {k : ℕ} {q : Progress} → Stands bytes at (Cut k) → ¬ Due q k → ReadsOn E bytes q at (unread (because 12 at))
-  undue_cut (stands_cut r e none) d = rw e (not_due d)
+  pub undue_cut : {k : records.Kind} {q : Progress} → Stands bytes at (Cut k) → ¬ Due q (kind_number k) → ReadsOn E bytes q at (unread (because 12 at))
+  undue_cut (stands_cut e none) d = rw e (not_due d)
 
   pub unknown_here : {q : Progress} → Stands bytes at Unknown → ReadsOn E bytes q at (unread (because 12 at))
   unknown_here (stands_unknown e none) = rw e (not_due (λ d. let k = due_kind d in none k.of k.same))

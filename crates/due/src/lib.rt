@@ -3,8 +3,8 @@
 
 ghost use Rattle.due.specs.Found.{Admits, FoundAt};
 
-use records::{Next, Record};
-use refusals::Refusal;
+use records::{Kind, Next, Record};
+use refusals::{Cause, Refusal};
 
 // What is due: the size; the seed; a share record or the end.
 #[derive(Clone, Copy)]
@@ -14,45 +14,29 @@ pub enum Due {
     Edges,
 }
 
-// A whole record, of any kind, or the refusal for what is not a whole record.
-#[derive(Clone, Copy)]
-pub enum Found {
-    Whole(Record),
-    Refused(Refusal),
-}
-
 // Tells whether due admits records of kind.
-fn admits(due: Due, kind: u8) -> bool
+fn admits(due: Due, kind: Kind) -> bool
     ensures { Admits due kind result }
 {
     match due {
-        Due::Size => kind == 1,
-        Due::Seed => kind == 3,
-        Due::Edges => {
-            if kind == 2 {
-                return true;
-            }
-            kind == 4
-        }
+        Due::Size => matches!(kind, Kind::Size),
+        Due::Seed => matches!(kind, Kind::Seed),
+        Due::Edges => matches!(kind, Kind::Share | Kind::End),
     }
 }
 
-// Finds what stands at offset at of bytes; due says which record-kinds may. A whole record is left to the caller, whatever its kind.
-pub fn found_at(bytes: &[u8], at: usize, due: Due) -> Found
+// Finds what stands at offset at of bytes: a whole record, whatever its kind, which is left to the caller; or the refusal for what is no
+// whole record, where due says which record-kinds may stand there.
+pub fn found_at(bytes: &[u8], at: usize, due: Due) -> Result<Record, Refusal>
     ensures { FoundAt bytes.now at due result }
 {
-    let undue = refusals::because(12, at);
-    let stopped = refusals::because(13, bytes.len());
-    let next = records::next_at(bytes, at);
-    match next {
-        Next::Whole(record) => Found::Whole(record),
-        Next::Cut(kind) => {
-            if admits(due, kind) {
-                return Found::Refused(stopped);
-            }
-            Found::Refused(undue)
-        }
-        Next::Unknown => Found::Refused(undue),
-        Next::Nothing => Found::Refused(stopped),
+    let undue = refusals::because(Cause::KindNotDue, at);
+    let stopped = refusals::because(Cause::CutShort, bytes.len());
+    match records::next_at(bytes, at) {
+        Next::Whole(record) => Ok(record),
+        Next::Cut(kind) if admits(due, kind) => Err(stopped),
+        Next::Cut(_) => Err(undue),
+        Next::Unknown => Err(undue),
+        Next::Nothing => Err(stopped),
     }
 }
