@@ -1,9 +1,10 @@
 -- The answers of this crate in the terms of the definitions: what the contracts of `src/` cite. Assumes nothing.
+use Rattle.std.specs.Prelude.{Result, Ok, Err}
 use Rattle.matching.specs.Filling as definition
 use Rattle.refusals.specs.Meaning.{refusal_of}
-use Rattle.filling.specs.declared.Read.{Read}
-use Rattle.filling.specs.declared.Read.TheVariants.{Graph, Refused}
+use Rattle.refusals.specs.declared.Refusal.{Refusal}
+use Rattle.filling.specs.declared.Extent.{Extent}
 
-abbrev pub read_of : Read → definition.Read
-read_of (Graph e) = definition.graph_read e.size e.edges
-read_of (Refused r) = definition.not_read (refusal_of r)
+abbrev pub read_of : Result Extent Refusal → definition.Read
+read_of (Ok e) = definition.graph_read e.size e.edges
+read_of (Err r) = definition.not_read (refusal_of r)

@@ -7,20 +7,13 @@ ghost use Rattle.filling.specs.Marked.{Marked};
 ghost use Rattle.filling.specs.Meaning.{read_of};
 ghost use Rattle.filling.specs.Written.{Writes};
 
-use refusals::Refusal;
+use refusals::{Cause, Refusal};
 
 // The number of vertices of a graph, and of its edges.
 #[derive(Clone, Copy)]
 pub struct Extent {
     pub size: usize,
     pub edges: usize,
-}
-
-// What a reader answers.
-#[derive(Clone, Copy)]
-pub enum Read {
-    Graph(Extent),
-    Refused(Refusal),
 }
 
 // An edge is marked, was marked before, or is not one of two vertices.
@@ -36,13 +29,7 @@ pub fn mark_edge(n: usize, a: usize, b: usize, table: &mut [u8]) -> Mark
     requires { Square n table.old }
     ensures { Marked n a b table.old result table.new }
 {
-    if n <= a {
-        return Mark::Refused;
-    }
-    if n <= b {
-        return Mark::Refused;
-    }
-    if a == b {
+    if n <= a || n <= b || a == b {
         return Mark::Refused;
     }
     let cell = a * n + b;
@@ -63,22 +50,22 @@ pub fn write_graph(
     table: &[u8],
     adjacency: &mut [u8],
     weights: &mut [u16],
-) -> Read
+) -> Result<Extent, Refusal>
     requires { Square n table.now }
     ensures { Writes first_edition n seed count table.now adjacency.old weights.old (read_of result)
         adjacency.new weights.new }
 {
     let cells = n * n;
     if adjacency.len() < cells {
-        return Read::Refused(refusals::because(2, 1));
+        return Err(refusals::because(Cause::BufferTooShort, 1));
     }
     let pairs = checks::weights_needed(n);
     if weights.len() < pairs {
-        return Read::Refused(refusals::because(2, 2));
+        return Err(refusals::because(Cause::BufferTooShort, 2));
     }
-    buffers::copy_bytes(table, &mut adjacency[..cells]);
+    adjacency[..cells].copy_from_slice(table);
     draws::fill(&mut weights[..pairs], seed);
-    Read::Graph(Extent {
+    Ok(Extent {
         size: n,
         edges: count,
     })

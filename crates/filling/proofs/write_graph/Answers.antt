@@ -1,5 +1,5 @@
 -- `filling::write_graph` meets its contract: cause 2 case by case, and the first part of each buffer is written. Assumes nothing.
-use mathlib.Core.Path.{refl, sym, ap, ◌∙◌}
+use mathlib.Core.Path.{refl, ap, ◌∙◌}
 use lib.Seq.{length-take-le}
 use Rattle.draws.specs.Draws.{draw, draws}
 use Rattle.matching.specs.Edition.{first_edition}
@@ -15,17 +15,8 @@ returns-then-weights-pairs c =
     rw c.because-then-weights-pairs.ensures
     (lacks_weights first_edition _ _ c.if-adjacency-cells.false (rw (c.weights_needed-pairs.ensures ∙ needed_all c.args.n c.requires.small) at c.if-weights-pairs.true))
 
-pub slice_bounds-copy_bytes-end-2 : goal.slice_bounds-copy_bytes-end-2
-slice_bounds-copy_bytes-end-2 c = sym (length-take-le _ c.args.adjacency.now c.if-adjacency-cells.false)
-
-pub copy_bytes-requires : goal.copy_bytes-requires
-copy_bytes-requires c = length-take-le _ c.args.adjacency.now c.if-adjacency-cells.false ∙ sym c.requires.size
-
-pub slice_bounds-fill-end-2 : goal.slice_bounds-fill-end-2
-slice_bounds-fill-end-2 c = sym (length-take-le _ c.args.weights.now c.if-weights-pairs.false)
-
 pub returns : goal.returns
 returns c =
     let e = c.weights_needed-pairs.ensures ∙ needed_all c.args.n c.requires.small in
-    written first_edition _ _ _ _ refl e c.if-adjacency-cells.false (rw e at c.if-weights-pairs.false) c.copy_bytes.ensures
+    written first_edition _ _ _ _ refl e c.if-adjacency-cells.false (rw e at c.if-weights-pairs.false) c.copy_from_slice.ensures.after
     (c.fill.ensures ∙ ap (draws draw c.args.seed) (length-take-le _ c.args.weights.now c.if-weights-pairs.false ∙ e))
