@@ -1,5 +1,5 @@
 -- What solving leaves, in the terms of the definitions. Assumes nothing.
-use Rattle.std.specs.Prelude.{◌≡◌, ◌≢◌, List, ℕ, ◌+◌, ◌*◌, ◌-◌, ◌/◌, ◌%◌, ◌≤◌, ◌<◌, length, get_or, set, replicate, take}
+use Rattle.std.specs.Prelude.{◌≡◌, ◌≢◌, List, Option, None, Some, ℕ, ◌+◌, ◌*◌, ◌-◌, ◌/◌, ◌%◌, ◌≤◌, ◌<◌, length, get_or, set, replicate, take}
 use Rattle.std.proofs.Math.Path.{refl}
 use Rattle.std.proofs.Common.{sym, ap, ◌∙◌, arith, length-set, get_or-take, get_or-set_same, get_or-set_other}
 use Rattle.std.proofs.Math.Decide.{ℕ_discrete, dec_lt}
@@ -24,27 +24,24 @@ use Rattle.matching.specs.Session.{InverseTable}
 use Rattle.matching.proofs.Model.{skew}
 use Rattle.matching.specs.Opening.{Singular}
 use Rattle.tutte.specs.Table.{restricted, Filled}
-use Rattle.exchange.specs.declared.Outcome.{Outcome}
-use Rattle.exchange.specs.declared.Outcome.TheVariants as ended
-use Rattle.exchange.specs.declared.Outcome.TheVariants.{Column}
 use Rattle.pivot.specs.Words.{Small, matrix, place_above, place_below, residue, residue_above, residue_below}
 use Rattle.exchange.specs.Run.{Holds, only, done, done_in, done_out, Passing, passing_kept, passing_inverse, word, word_diagonal, word_other, word_small, word_matrix, witness_word, witness_small}
 
 -- all of S is kept and the witness is as it was, or f is the first dependent column and its witness is written
-abbrev pub Ends : Graph → Subset → Outcome → (set' witness witness' : List ℕ) → Type 0
-Ends g S ended.Inverse set' witness witness' = Full S (done S set') g.n × (witness' ≡ witness)
-Ends g S (Column f) set' witness witness' = Singular modulus g S f witness'
+abbrev pub Ends : Graph → Subset → Option ℕ → (set' witness witness' : List ℕ) → Type 0
+Ends g S None set' witness witness' = Full S (done S set') g.n × (witness' ≡ witness)
+Ends g S (Some f) set' witness witness' = Singular modulus g S f witness'
 
 -- the bytes that are left mark vertices of S; the other vertices of S, done S set', are exactly the kept ones, whose rows of the Tutte matrix
 -- are not combinations of the rows of S before them; and the inverse on them is written
-pub record Solved (g : Graph) (S : Subset) (o : Outcome) (set' witness inverse' witness' : List ℕ) : Type 0 where
+pub record Solved (g : Graph) (S : Subset) (o : Option ℕ) (set' witness inverse' witness' : List ℕ) : Type 0 where
   pub within : (i : ℕ) → i < g.n → i ∈ marked set' → i ∈ S
   pub keeps : Keeps modulus g.n (tutte g modulus) S (done S set')
   pub inverse : InverseTable modulus g (done S set') inverse'
   pub ends : Ends g S o set' witness witness'
 
 -- if all of S is kept, the inverse is the one for S
-pub solved_whole : {g : Graph} {S : Subset} {set' witness inverse' witness' : List ℕ} → Solved g S ended.Inverse set' witness inverse' witness'
+pub solved_whole : {g : Graph} {S : Subset} {set' witness inverse' witness' : List ℕ} → Solved g S None set' witness inverse' witness'
     → InverseTable modulus g S inverse'
 solved_whole {g} {S} {set'} K = record {
   small = K.inverse.small;
@@ -330,7 +327,7 @@ module _ (g : Graph) {S L : Subset} (agree : (i : ℕ) → i < g.n → L i ≡ S
             ⨾ kept_cases n t waiting i j (λ x. Congruent modulus x 0)
             (λ _ e. word_matrix n t i j ⨾ linear ((mirror_skew modulus_prime.odd (table n t) n).turn i j hi hj ⊖ R.outer j i hj hi (outer_of j e o)) (omega arith)) (equals refl)
 
-    pub solved : {o : Outcome} {witness witness' : List ℕ} → Ends g L o waiting witness witness' → Solved g L o waiting witness words witness'
+    pub solved : {o : Option ℕ} {witness witness' : List ℕ} → Ends g L o waiting witness witness' → Solved g L o waiting witness words witness'
     solved e = record {
       within = λ i l m. agree i l ∙ R.within i m;
       keeps = keeps_same agree (same_done waiting) (passing_kept R);

@@ -1,11 +1,7 @@
 -- `solve::write_inverse` meets its contract: the rows and columns before m are written.
 -- Assumes nothing.
-use Prim.Native.Nat.{◌-◌, ◌≤◌}
 use Rattle.solve.specs.Solved.{kept_word, Copied}
 use Rattle.solve.proofs.write_inverse.Given as goal
 
 abbrev pub invariant-loop-m : goal.invariant-loop-m
-invariant-loop-m l = (l.m ≤ l.n) × Copied l.n l.m (kept_word l.n l.t l.waiting) l.inverse
-
-abbrev pub decreases-loop-m : goal.decreases-loop-m
-decreases-loop-m l = l.n - l.m
+invariant-loop-m l = Copied l.n l.m (kept_word l.n l.t l.waiting) l.inverse
