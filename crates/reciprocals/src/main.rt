@@ -6,7 +6,7 @@ use std::io;
 
 // Tells whether the reciprocal of word is below the modulus and its product with word is 1 modulo the modulus.
 fn holds(word: u16) -> bool {
-    let reciprocal = (Residue { value: word }).invert().value as u64;
+    let reciprocal = Residue { value: word }.invert().value as u64;
     reciprocal < Residue::MODULUS && word as u64 * reciprocal % Residue::MODULUS == 1
 }
 
