@@ -1,4 +1,4 @@
-// Fills the first items of a buffer with one value, and copies items.
+// Fills the first items of a buffer with one value.
 #![tactic(auto)]
 
 ghost use Rattle.std.specs.Prelude.{◌≡◌, ◌++◌, ◌≤◌, length, drop, replicate};
@@ -11,12 +11,4 @@ pub fn fill<T: Copy>(items: &mut [T], count: usize, v: T)
     for item in &mut items[..count] {
         *item = v;
     }
-}
-
-// Copies items to target, which has the same length.
-pub fn copy<T: Copy>(items: &[T], target: &mut [T])
-    requires { length target.old ≡ length items.now }
-    ensures { target.new ≡ items.now }
-{
-    target.copy_from_slice(items);
 }
