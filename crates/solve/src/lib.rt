@@ -95,7 +95,7 @@ fn write_witness(t: &[u64], n: usize, f: usize, waiting: &[u8], witness: &mut [u
     }
 }
 
-// Does nothing. It says of the weights of a graph what a proof knows only of a slice that is an argument.
+// Promises that the weights have 16 bits, and does nothing: a proof knows it of a slice that is an argument, and not of one in a struct.
 pub fn sixteen_bits(weights: &[u16])
     ensures { (x : ℕ) → slice_index weights.now x < 65536 }
 {}
@@ -108,7 +108,8 @@ fn solve_over(
     inverse: &mut [u16],
     witness: &mut [u16],
 ) -> Option<usize>
-    requires blank { (length set.old ≡ graph.size) × Blank graph.size t.old }
+    requires set_len { length set.old ≡ graph.size }
+    requires blank { Blank graph.size t.old }
     requires inverse_len { (length inverse.old ≡ graph.size * graph.size) × (length witness.old ≡ graph.size) }
     ensures { let g = graph_of graph.entry in
         ((S : Subset) → ((i : ℕ) → i < graph.entry.size → S i ≡ marked set.old i)
@@ -126,8 +127,8 @@ fn solve_over(
     column
 }
 
-// Solves in a table of CELLS words, of which it takes as many as it needs: a smaller table takes less time to clear. Each size is a function
-// of its own, so that the compiler can put the tables in the same place.
+// Solves in a table of CELLS words, of which it takes as many as it needs: a smaller table takes less time to clear. Never inlined, so that
+// the stack never holds the tables of two sizes.
 #[inline(never)]
 fn solve_in<const CELLS: usize>(
     graph: Graph,

@@ -13,41 +13,41 @@ use Rattle.solve.proofs.solve_over.Goals.{in-Some, in_default}
 pub run-column-requires : goal.run-column-requires
 run-column-requires c =
     let graph = graph_of c.args.graph in
-    let b = c.requires.blank.1 in
+    let b = c.requires.blank in
     let F = c.fill.ensures in (
       record { small = b.table_square.small; size = F.size ∙ b.table_square.size },
       filled_small graph (marked c.args.set.now) b F (λ i j _ _. upper_word graph c.sixteen_bits.ensures i j),
-      c.requires.blank.0,
+      c.requires.set_len,
     )
 
 pub write_witness-requires : goal.write_witness-requires
 write_witness-requires c =
     let graph = graph_of c.args.graph in
-    let b = c.requires.blank.1 in
+    let b = c.requires.blank in
     let E = c.in-Some.ensures (tutte graph modulus) (filled_holds graph (marked c.args.set.now) b c.fill.ensures) in (
       record { small = b.table_square.small; size = c.run-column.auto.t ∙ c.fill.ensures.size ∙ b.table_square.size },
       E.1.below,
-      c.run-column.auto.waiting ∙ c.requires.blank.0,
+      c.run-column.auto.waiting ∙ c.requires.set_len,
       c.requires.inverse_len.1,
     )
 
 pub overflow_add-f : goal.overflow_add-f
 overflow_add-f c =
     let graph = graph_of c.args.graph in
-    let b = c.requires.blank.1 in
+    let b = c.requires.blank in
     let E = c.in-Some.ensures (tutte graph modulus) (filled_holds graph (marked c.args.set.now) b c.fill.ensures) in
     omega (arith, E.1.below, b.table_square.small)
 
 pub rest-requires : goal.rest-requires
 rest-requires c =
     let graph = graph_of c.args.graph in
-    let E = c.in-Some.ensures (tutte graph modulus) (filled_holds graph (marked c.args.set.now) c.requires.blank.1 c.fill.ensures) in
+    let E = c.in-Some.ensures (tutte graph modulus) (filled_holds graph (marked c.args.set.now) c.requires.blank c.fill.ensures) in
     E.3
 
 pub returns : goal.returns
 returns c =
     let graph = graph_of c.args.graph in
-    let H = filled_holds graph (marked c.args.set.now) c.requires.blank.1 c.fill.ensures in
+    let H = filled_holds graph (marked c.args.set.now) c.requires.blank c.fill.ensures in
     let C = c.write_inverse.ensures in
     λ S agree.
     elim c.match-column.branch [
