@@ -7,14 +7,20 @@ ghost use Rattle.std.specs.Prelude.{◌≡◌, ℕ, ◌*◌, ◌-◌, ◌%◌, �
 ghost use Rattle.lists.specs.Table.{table};
 ghost use Rattle.residue.specs.Modulus.{modulus};
 ghost use Rattle.skew.specs.Subset.{Subset, marked};
-ghost use Rattle.matching.specs.Graph.{over};
 ghost use Rattle.matching.specs.Session.{InverseTable};
+ghost use Rattle.graph.specs.Meaning.{graph_of};
 ghost use Rattle.sequence.specs.Formed.{Tells};
-ghost use Rattle.tutte.specs.Table.{Complete};
 ghost use Rattle.solve.specs.Solved.{Blank};
 ghost use Rattle.compact.specs.Compared.{Listing, Numbered, Comparing, CrossEqual, AllEqual, Stray, RowClear, AllClear};
 
-use exchange::Outcome;
+use graph::Graph;
+
+// The words of a table for 32 vertices, for 64, and for 96.
+const SMALL_TABLE: usize = 32 * 32;
+
+const MEDIUM_TABLE: usize = 64 * 64;
+
+const LARGE_TABLE: usize = 96 * 96;
 
 // Lists the marked vertices in ascending order, and returns how many they are.
 fn list(marks: &[u8], vertices: &mut [u8]) -> usize
@@ -22,14 +28,12 @@ fn list(marks: &[u8], vertices: &mut [u8]) -> usize
     ensures { Listing (length marks.now) marks.now vertices.new result }
 {
     let mut k = 0;
-    let mut i = 0;
     // The first k of vertices are the marked vertices below i.
-    while i < marks.len() {
+    for (i, mark) in marks.iter().enumerate() {
         vertices[k] = i as u8;
-        if marks[i] != 0 {
+        if *mark != 0 {
             k += 1;
         }
-        i += 1;
     }
     k
 }
@@ -39,13 +43,7 @@ fn pair_equal(inverse: &[u16], n: usize, a: usize, b: usize, right: u16) -> bool
     requires { (n ≤ 96) × (n * n ≤ length inverse.now) × (a < n) × (b < n) × (right < modulus) }
     ensures { Tells ((table n inverse.now a b ≡ right) × (table n inverse.now b a ≡ (modulus - right) % modulus)) result }
 {
-    if inverse[a * n + b] != right {
-        return false;
-    }
-    if inverse[b * n + a] != residue::negative(right as u32) as u16 {
-        return false;
-    }
-    true
+    inverse[a * n + b] == right && inverse[b * n + a] == residue::negative(right as u32) as u16
 }
 
 // Tells whether row and column i of the matrix in t, from the diagonal on, are those of inverse at the listed vertices.
@@ -58,14 +56,11 @@ fn cross_equal(inverse: &[u16], n: usize, vertices: &[u8], t: &[u64], i: usize) 
     if inverse[a * n + a] != 0 {
         return false;
     }
-    let mut j = i + 1;
-    while j < count {
+    for j in i + 1..count {
         let right = solve::above(t, count, i, j);
-        let equal = pair_equal(inverse, n, a, vertices[j] as usize, right);
-        if !equal {
+        if !pair_equal(inverse, n, a, vertices[j] as usize, right) {
             return false;
         }
-        j += 1;
     }
     true
 }
@@ -75,31 +70,14 @@ fn all_equal(inverse: &[u16], n: usize, vertices: &[u8], t: &[u64]) -> bool
     requires { Comparing n inverse.now vertices.now t.now }
     ensures { Tells (AllEqual n inverse.now vertices.now t.now (length vertices.now)) result }
 {
-    let mut i = 0;
-    while i < vertices.len() {
-        let equal = cross_equal(inverse, n, vertices, t, i);
-        if !equal {
-            return false;
-        }
-        i += 1;
-    }
-    true
+    (0..vertices.len()).all(|i| cross_equal(inverse, n, vertices, t, i))
 }
 
 // Returns 1 if word is not 0 and the mark of its row or its column is 0, else 0.
 fn stray(row: u8, column: u8, word: u16) -> u16
     ensures { Stray row column word result }
 {
-    if word == 0 {
-        return 0;
-    }
-    if row == 0 {
-        return 1;
-    }
-    if column == 0 {
-        return 1;
-    }
-    0
+    u16::from(word != 0 && (row == 0 || column == 0))
 }
 
 // Tells whether a row whose vertex has this mark has no stray word. Counts instead of stopping early, so that the loop vectorizes.
@@ -107,16 +85,11 @@ fn row_clear(words: &[u16], mark: u8, marks: &[u8]) -> bool
     requires { (length marks.now ≤ 96) × (length words.now ≡ length marks.now) }
     ensures { Tells (RowClear words.now mark marks.now (length marks.now)) result }
 {
-    let mut strays: u16 = 0;
-    let mut b = 0;
-    while b < words.len() {
-        strays += stray(mark, marks[b], words[b]);
-        b += 1;
+    let mut strays = 0;
+    for (word, column) in words.iter().zip(marks) {
+        strays += stray(mark, *column, *word);
     }
-    if strays != 0 {
-        return false;
-    }
-    true
+    strays == 0
 }
 
 // Tells whether the rows and columns of the unmarked vertices are 0.
@@ -124,173 +97,81 @@ fn all_clear(inverse: &[u16], n: usize, marks: &[u8]) -> bool
     requires { (n ≤ 96) × (n * n ≤ length inverse.now) × (length marks.now ≡ n) }
     ensures { Tells (AllClear n inverse.now marks.now n) result }
 {
-    let mut a = 0;
-    while a < n {
+    for (a, mark) in marks.iter().enumerate() {
         let at = a * n;
-        let end = at + n;
-        let clear = row_clear(&inverse[at..end], marks[a], marks);
-        if !clear {
+        if !row_clear(&inverse[at..at + n], *mark, marks) {
             return false;
         }
-        a += 1;
     }
     true
 }
 
 // Tells whether inverse is the inverse for the marked vertices, which is computed in t, a table of zeros.
 fn is_inverse_over(
-    n: usize,
-    adjacency: &[u8],
-    weights: &[u16],
+    graph: Graph,
     marks: &[u8],
     inverse: &[u16],
     vertices: &[u8],
     t: &mut [u64],
 ) -> bool
-    requires complete { Complete n adjacency.now weights.now × (length marks.now ≡ n) × (n * n ≤ length inverse.now) }
-    requires numbered { Numbered n marks.now vertices.now × Blank (length vertices.now) t.old }
-    ensures { let g = over n adjacency.now weights.now in
-        Tells (InverseTable modulus g (marked marks.now) inverse.now) result }
+    requires sizes { (length marks.now ≡ graph.size) × (graph.size * graph.size ≤ length inverse.now) }
+    requires numbered { Numbered graph.size marks.now vertices.now × Blank (length vertices.now) t.old }
+    ensures { Tells (InverseTable modulus (graph_of graph.entry) (marked marks.now) inverse.now) result }
 {
     let count = vertices.len();
     let mut waiting = [1u8; 96];
-    tutte::fill_listed(n, adjacency, weights, vertices, t);
-    let outcome = exchange::run(t, count, &mut waiting[..count]);
-    match outcome {
-        Outcome::Inverse => {
-            let clear = all_clear(inverse, n, marks);
-            if !clear {
-                return false;
-            }
-            all_equal(inverse, n, vertices, t)
+    tutte::fill_listed(graph, vertices, t);
+    solve::sixteen_bits(graph.weights);
+    match exchange::run(t, count, &mut waiting[..count]) {
+        None => {
+            all_clear(inverse, graph.size, marks) && all_equal(inverse, graph.size, vertices, t)
         }
-        Outcome::Column(_) => false,
+        Some(_) => false,
     }
 }
 
-// Calls is_inverse_over with a table for at most 32 vertices. It and the next two are functions of their own, so that the compiler can put
-// their tables in the same place.
-fn is_inverse_small(
-    n: usize,
-    adjacency: &[u8],
-    weights: &[u16],
+// Calls is_inverse_over with a table of CELLS words. Each size is a function of its own, so that the compiler can put the tables in the same
+// place.
+#[inline(never)]
+fn is_inverse_within<const CELLS: usize>(
+    graph: Graph,
     marks: &[u8],
     inverse: &[u16],
     vertices: &[u8],
 ) -> bool
-    requires complete { Complete n adjacency.now weights.now × (length marks.now ≡ n) × (n * n ≤ length inverse.now) }
-    requires numbered { Numbered n marks.now vertices.now × (length vertices.now * length vertices.now ≤ 1024) }
-    ensures { let g = over n adjacency.now weights.now in
-        Tells (InverseTable modulus g (marked marks.now) inverse.now) result }
+    requires sizes { (length marks.now ≡ graph.size) × (graph.size * graph.size ≤ length inverse.now) }
+    requires numbered { Numbered graph.size marks.now vertices.now × (length vertices.now * length vertices.now ≤ CELLS) × (CELLS ≤ 9216) }
+    ensures { Tells (InverseTable modulus (graph_of graph.entry) (marked marks.now) inverse.now) result }
 {
     let cells = vertices.len() * vertices.len();
-    // 32 * 32 words.
-    let mut t = [0u64; 1024];
-    is_inverse_over(
-        n,
-        adjacency,
-        weights,
-        marks,
-        inverse,
-        vertices,
-        &mut t[..cells],
-    )
+    let mut t = [0u64; CELLS];
+    is_inverse_over(graph, marks, inverse, vertices, &mut t[..cells])
 }
 
-// Calls is_inverse_over with a table for at most 64 vertices.
-fn is_inverse_medium(
-    n: usize,
-    adjacency: &[u8],
-    weights: &[u16],
-    marks: &[u8],
-    inverse: &[u16],
-    vertices: &[u8],
-) -> bool
-    requires complete { Complete n adjacency.now weights.now × (length marks.now ≡ n) × (n * n ≤ length inverse.now) }
-    requires numbered { Numbered n marks.now vertices.now × (length vertices.now * length vertices.now ≤ 4096) }
-    ensures { let g = over n adjacency.now weights.now in
-        Tells (InverseTable modulus g (marked marks.now) inverse.now) result }
+// Calls is_inverse_within with the smallest table that is large enough: one for few vertices takes less time to clear.
+fn is_inverse_of(graph: Graph, marks: &[u8], inverse: &[u16], vertices: &[u8]) -> bool
+    requires sizes { (length marks.now ≡ graph.size) × (graph.size * graph.size ≤ length inverse.now) }
+    requires numbered { Numbered graph.size marks.now vertices.now }
+    ensures { Tells (InverseTable modulus (graph_of graph.entry) (marked marks.now) inverse.now) result }
 {
     let cells = vertices.len() * vertices.len();
-    // 64 * 64 words.
-    let mut t = [0u64; 4096];
-    is_inverse_over(
-        n,
-        adjacency,
-        weights,
-        marks,
-        inverse,
-        vertices,
-        &mut t[..cells],
-    )
-}
-
-// Calls is_inverse_over with a table for any number of vertices.
-fn is_inverse_large(
-    n: usize,
-    adjacency: &[u8],
-    weights: &[u16],
-    marks: &[u8],
-    inverse: &[u16],
-    vertices: &[u8],
-) -> bool
-    requires complete { Complete n adjacency.now weights.now × (length marks.now ≡ n) × (n * n ≤ length inverse.now) }
-    requires numbered { Numbered n marks.now vertices.now }
-    ensures { let g = over n adjacency.now weights.now in
-        Tells (InverseTable modulus g (marked marks.now) inverse.now) result }
-{
-    let cells = vertices.len() * vertices.len();
-    // 96 * 96 words.
-    let mut t = [0u64; 9216];
-    is_inverse_over(
-        n,
-        adjacency,
-        weights,
-        marks,
-        inverse,
-        vertices,
-        &mut t[..cells],
-    )
-}
-
-// Calls is_inverse_over with a table of its own; a table for few vertices takes less time to clear.
-fn is_inverse_of(
-    n: usize,
-    adjacency: &[u8],
-    weights: &[u16],
-    marks: &[u8],
-    inverse: &[u16],
-    vertices: &[u8],
-) -> bool
-    requires complete { Complete n adjacency.now weights.now × (length marks.now ≡ n) × (n * n ≤ length inverse.now) }
-    requires numbered { Numbered n marks.now vertices.now }
-    ensures { let g = over n adjacency.now weights.now in
-        Tells (InverseTable modulus g (marked marks.now) inverse.now) result }
-{
-    let cells = vertices.len() * vertices.len();
-    if cells <= 1024 {
-        return is_inverse_small(n, adjacency, weights, marks, inverse, vertices);
+    if cells <= SMALL_TABLE {
+        is_inverse_within::<SMALL_TABLE>(graph, marks, inverse, vertices)
+    } else if cells <= MEDIUM_TABLE {
+        is_inverse_within::<MEDIUM_TABLE>(graph, marks, inverse, vertices)
+    } else {
+        is_inverse_within::<LARGE_TABLE>(graph, marks, inverse, vertices)
     }
-    if cells <= 4096 {
-        return is_inverse_medium(n, adjacency, weights, marks, inverse, vertices);
-    }
-    is_inverse_large(n, adjacency, weights, marks, inverse, vertices)
 }
 
-// Tells whether inverse is the inverse for the marked vertices. The graph must already have been checked.
-pub fn is_inverse(
-    n: usize,
-    adjacency: &[u8],
-    weights: &[u16],
-    marks: &[u8],
-    inverse: &[u16],
-) -> bool
-    requires { Complete n adjacency.now weights.now × (length marks.now ≡ n) × (n * n ≤ length inverse.now) }
-    ensures { let g = over n adjacency.now weights.now in
-        ((S : Subset) → ((i : ℕ) → i < n → S i ≡ marked marks.now i)
+// Tells whether inverse is the inverse for the marked vertices.
+pub fn is_inverse(graph: Graph, marks: &[u8], inverse: &[u16]) -> bool
+    requires { (length marks.now ≡ graph.size) × (graph.size * graph.size ≤ length inverse.now) }
+    ensures { let g = graph_of graph.entry in
+        ((S : Subset) → ((i : ℕ) → i < g.n → S i ≡ marked marks.now i)
         → Tells (InverseTable modulus g S inverse.now) result) }
 {
     let mut vertices = [0u8; 96];
-    let k = list(marks, &mut vertices[..n]);
-    is_inverse_of(n, adjacency, weights, marks, inverse, &vertices[..k])
+    let k = list(marks, &mut vertices[..graph.size]);
+    is_inverse_of(graph, marks, inverse, &vertices[..k])
 }

@@ -1,13 +1,14 @@
--- `compact::is_inverse_of` meets its contract: it calls one of the three that lend a table.
--- Assumes nothing.
-use Prim.Native.Nat.{◌≤◌}
-use native.Mathlib.Omega.{arith}
-use lib.ListN.{length}
+-- `compact::is_inverse_of` meets its contract: the table that is lent has a word for each two vertices listed. Assumes nothing.
+use Rattle.std.proofs.Common.{length, arith}
 use Rattle.lists.specs.Table.{square_small}
 use Rattle.compact.specs.Compared.{numbered_most}
 use Rattle.compact.proofs.is_inverse_of.Goals as goal
 
 pub overflow_mul-cells : goal.overflow_mul-cells
 overflow_mul-cells c =
-    let most : length c.args.vertices.now ≤ 96 = let h = numbered_most c.requires.numbered in let l = c.requires.complete.0.size in omega arith in
-    let h = square_small _ most in omega arith
+    let h = square_small (length c.args.vertices.now) (omega (arith, numbered_most c.requires.numbered, c.args.graph.complete.size)) in
+    omega arith
+
+pub is_inverse_within-requires-else-cells-le-MEDIUM_TABLE-clause-numbered : goal.is_inverse_within-requires-else-cells-le-MEDIUM_TABLE-clause-numbered
+is_inverse_within-requires-else-cells-le-MEDIUM_TABLE-clause-numbered c =
+    (c.requires.numbered, square_small _ (omega (arith, numbered_most c.requires.numbered, c.args.graph.complete.size)), omega arith)

@@ -1,78 +1,74 @@
 -- `compact::is_inverse_over` meets its contract: the filled table holds the Tutte matrix at the listed vertices. What exchange leaves of it
 -- is the inverse, with which the buffer is compared, or shows that there is none. Assumes nothing.
-use mathlib.Core.Path.{sym, ◌∙◌}
-use Prim.Native.Nat.{ℕ, ◌<◌}
-use native.Mathlib.Omega.{arith}
-use lib.ListN.{length, take, replicate}
+use Rattle.std.proofs.Common.{ℕ, List, length, take, replicate, ◌∙◌}
 use Rattle.lists.specs.Part.{length_part}
 use Rattle.lists.specs.Table.{vector}
 use Rattle.residue.specs.Modulus.{modulus}
-use Rattle.skew.specs.Subset.{Subset, ◌∈◌, marked}
+use Rattle.skew.specs.Subset.{marked}
 use Rattle.skew.specs.Listing.{along}
-use Rattle.matching.specs.Graph.{Graph, over, tutte}
+use Rattle.matching.specs.Graph.{Graph, tutte}
+use Rattle.graph.specs.Meaning.{graph_of}
 use Rattle.sequence.specs.Formed.{tells_false}
-use Rattle.solve.specs.Solved.{all_in, upper_word}
-use Rattle.compact.specs.Compared.{numbered_ascending, listed_holds, listed_small, no_inverse, has_inverse, is_clear, is_equal}
+use Rattle.tutte.specs.Table.{Filled, listed}
+use Rattle.exchange.specs.Run.{Holds}
+use Rattle.solve.specs.Solved.{Blank, all_in, upper_word}
+use Rattle.compact.specs.Compared.{Numbered, numbered_ascending, listed_holds, listed_small, no_inverse, has_inverse, is_clear, is_equal}
 use Rattle.compact.proofs.is_inverse_over.Goals as goal
 
-pub fill_listed-requires : goal.fill_listed-requires
-fill_listed-requires c =
-    record { complete = (c.requires.complete.0, numbered_ascending c.requires.numbered.0); square = c.requires.numbered.1.table_square }
+-- the filled table holds the Tutte matrix at the listed vertices, all of which wait
+holds : (g : Graph) {marks vertices t t' : List ℕ} → Numbered g.n marks vertices → Blank (length vertices) t
+    → Filled (length vertices) (listed g vertices) (length vertices) t t'
+    → Holds (length vertices) (along (vector vertices) (tutte g modulus)) (marked (take (length vertices) (replicate 96 1))) t'
+holds g N B F = listed_holds g N F _ (all_in _ B.table_square.small)
 
-pub slice_bounds-run-end : goal.slice_bounds-run-end
-slice_bounds-run-end c = sym (length_part _ 96 1 c.requires.numbered.1.table_square.small)
+pub fill_listed-requires-clause-ascending : goal.fill_listed-requires-clause-ascending
+fill_listed-requires-clause-ascending c = numbered_ascending c.requires.numbered.0
 
-pub run-outcome-requires : goal.run-outcome-requires
-run-outcome-requires c =
-    let graph : Graph = over c.args.n c.args.adjacency.now c.args.weights.now in
-    let square = c.requires.numbered.1.table_square in
+pub run-requires : goal.run-requires
+run-requires c =
+    let g = graph_of c.args.graph in
+    let B = c.requires.numbered.1 in
     let F = c.fill_listed.ensures in (
-      record { small = square.small; size = F.size ∙ square.size },
-      listed_small graph c.requires.numbered.0 F c.requires.numbered.1 (λ i j. upper_word graph (λ x. let h = c.type_inv.weights x in omega arith) i j),
-      length_part _ 96 1 square.small,
+      record { small = B.table_square.small; size = F.size ∙ B.table_square.size },
+      listed_small g c.requires.numbered.0 F B (upper_word g c.sixteen_bits.ensures),
+      length_part _ 96 1 B.table_square.small,
     )
-
-pub all_clear-clear-requires : goal.all_clear-clear-requires
-all_clear-clear-requires c = (c.requires.complete.0.size, c.requires.complete.2, c.requires.complete.1)
-
-pub returns-then-not-clear : goal.returns-then-not-clear
-returns-then-not-clear c =
-    let graph : Graph = over c.args.n c.args.adjacency.now c.args.weights.now in
-    let waiting : Subset = marked (take (length c.args.vertices.now) (replicate 96 1)) in
-    let wait : (i : ℕ) → i < length c.args.vertices.now → i ∈ waiting = all_in _ c.requires.numbered.1.table_square.small in
-    let A = along (vector c.args.vertices.now) (tutte graph modulus) in
-    let E = c.in-Inverse.ensures A (listed_holds graph c.requires.numbered.0 c.fill_listed.ensures waiting wait) in
-    tells_false
-    (λ I. c.all_clear-clear.ensures.when_false c.if-not-clear.true (is_clear graph c.requires.numbered.0 wait c.args.inverse.now c.run-outcome.new.t E.0 I))
 
 pub all_equal-requires : goal.all_equal-requires
 all_equal-requires c =
     let square = c.requires.numbered.1.table_square in
     record {
-      small = c.requires.complete.0.size;
-      fits = c.requires.complete.2;
+      small = c.args.graph.complete.size;
+      fits = c.requires.sizes.1;
       below = (numbered_ascending c.requires.numbered.0).below;
-      table_square = record { small = square.small; size = c.run-outcome.auto.t ∙ c.fill_listed.ensures.size ∙ square.size };
+      table_square = record { small = square.small; size = c.run.auto.t ∙ c.fill_listed.ensures.size ∙ square.size };
     }
 
-pub returns-else-not-clear : goal.returns-else-not-clear
-returns-else-not-clear c =
-    let graph : Graph = over c.args.n c.args.adjacency.now c.args.weights.now in
-    let waiting : Subset = marked (take (length c.args.vertices.now) (replicate 96 1)) in
-    let wait : (i : ℕ) → i < length c.args.vertices.now → i ∈ waiting = all_in _ c.requires.numbered.1.table_square.small in
-    let A = along (vector c.args.vertices.now) (tutte graph modulus) in
-    let E = c.in-Inverse.ensures A (listed_holds graph c.requires.numbered.0 c.fill_listed.ensures waiting wait) in
-    let clear = c.all_clear-clear.ensures.when_true c.if-not-clear.false in
+pub returns-then-all_clear : goal.returns-then-all_clear
+returns-then-all_clear c =
+    let g = graph_of c.args.graph in
+    let N = c.requires.numbered.0 in
+    let B = c.requires.numbered.1 in
+    let wait = all_in _ B.table_square.small in
+    let E = c.in-None.ensures _ (holds g N B c.fill_listed.ensures) in
     record {
-      when_true = λ q. has_inverse graph c.requires.numbered.0 wait c.args.inverse.now c.run-outcome.new.t E.0 clear (c.all_equal.ensures.when_true q);
-      when_false = λ q I. c.all_equal.ensures.when_false q (is_equal graph c.requires.numbered.0 wait c.args.inverse.now c.run-outcome.new.t E.0 I);
+      when_true = λ q. has_inverse g N wait c.args.inverse.now c.run.new.t E.0 (c.all_clear.ensures.when_true c.if-all_clear.true) (c.all_equal.ensures.when_true q);
+      when_false = λ q I. c.all_equal.ensures.when_false q (is_equal g N wait c.args.inverse.now c.run.new.t E.0 I);
     }
 
-pub returns-in-Column : goal.returns-in-Column
-returns-in-Column c =
-    let graph : Graph = over c.args.n c.args.adjacency.now c.args.weights.now in
-    let waiting : Subset = marked (take (length c.args.vertices.now) (replicate 96 1)) in
-    let wait : (i : ℕ) → i < length c.args.vertices.now → i ∈ waiting = all_in _ c.requires.numbered.1.table_square.small in
-    let A = along (vector c.args.vertices.now) (tutte graph modulus) in
-    let E = c.in-Column.ensures A (listed_holds graph c.requires.numbered.0 c.fill_listed.ensures waiting wait) in
-    tells_false (no_inverse graph c.requires.numbered.0 wait c.args.inverse.now E.1)
+pub returns-else-all_clear : goal.returns-else-all_clear
+returns-else-all_clear c =
+    let g = graph_of c.args.graph in
+    let N = c.requires.numbered.0 in
+    let B = c.requires.numbered.1 in
+    let E = c.in-None.ensures _ (holds g N B c.fill_listed.ensures) in
+    rw c.if-all_clear.false
+    (tells_false (λ I. c.all_clear.ensures.when_false c.if-all_clear.false (is_clear g N (all_in _ B.table_square.small) c.args.inverse.now c.run.new.t E.0 I)))
+
+pub returns-in-Some : goal.returns-in-Some
+returns-in-Some c =
+    let g = graph_of c.args.graph in
+    let N = c.requires.numbered.0 in
+    let B = c.requires.numbered.1 in
+    let E = c.in-Some.ensures _ (holds g N B c.fill_listed.ensures) in
+    tells_false (no_inverse g N (all_in _ B.table_square.small) c.args.inverse.now E.1)

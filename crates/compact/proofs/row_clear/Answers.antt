@@ -1,46 +1,18 @@
--- `compact::row_clear` meets its contract. The invariant of its loop: the stray words before b are counted. The measure is what is left.
--- Assumes nothing.
-use mathlib.Core.Path.{◌≡◌}
-use native.Mathlib.Omega.{arith}
-use lib.ListN.{length}
-use Rattle.sequence.specs.Formed.{tells_true, tells_false}
-use Rattle.compact.specs.Compared.{strays_start, strays_next}
+-- `compact::row_clear` meets its contract. The invariant of its loop: the stray words so far are counted. Assumes nothing.
+use Rattle.std.proofs.Common.{◌≡◌, ◌<◌, length, get_or}
+use Rattle.std.proofs.lemmas.List.{length_push}
+use Rattle.std.proofs.lemmas.Slice.Zip.{zip_turn}
+use Rattle.compact.specs.Compared.{strays_next}
 use Rattle.compact.proofs.row_clear.Goals as goal
 
-pub loop-b-init : goal.loop-b-init
-loop-b-init c = (omega arith, strays_start _ _ _)
+-- the word and the mark of a turn are those at its index
+at_index : (c : goal.After-stray-strays) → let b = length c.loop-word.yielded in
+    (b < length c.args.words.now) × (c.in-Some.word.now ≡ get_or c.args.words.now b 0) × (c.in-Some.column.now ≡ get_or c.args.marks.now b 0)
+at_index c =
+    let t = zip_turn c.args.words.now c.args.marks.now c.loop-word.yielded c.into_iter-word-iterator.result c.loop-word.word-iterator c.next.new.self c.next.result (cc) (cc) c.loop-word.yielded_by _ c.in-Some.is c.next.ensures.steps in
+    (t.0, t.2 0, t.3 0)
 
-pub bounds-marks-b : goal.bounds-marks-b
-bounds-marks-b c = omega arith
-
-pub offset_bounds-words-b : goal.offset_bounds-words-b
-offset_bounds-words-b c = omega arith
-
-pub bounds-words-b : goal.bounds-words-b
-bounds-words-b c = omega arith
-
-pub overflow_add-strays : goal.overflow_add-strays
-overflow_add-strays c = let h = c.loop-b.invariant.1.small in omega (arith, c.stray-strays.ensures.small)
-
-pub overflow_add-b : goal.overflow_add-b
-overflow_add-b c = omega arith
-
-pub loop-b-smaller : goal.loop-b-smaller
-loop-b-smaller c = omega arith
-
-pub loop-b-preserved : goal.loop-b-preserved
-loop-b-preserved c =
-    let at = c.loop-b in
-    (omega arith, strays_next at.invariant.1 c.stray-strays.ensures)
-
-pub returns-then-strays-ne0 : goal.returns-then-strays-ne0
-returns-then-strays-ne0 c =
-    let at = c.loop-b in
-    let e : at.b ≡ length c.args.marks.now = omega arith in
-    tells_false (rw e at (at.invariant.1.some c.if-strays-ne0.true))
-
-pub returns : goal.returns
-returns c =
-    let at = c.loop-b in
-    let e : at.b ≡ length c.args.marks.now = omega arith in
-    tells_true (rw e at (at.invariant.1.none c.if-strays-ne0.false))
+pub loop-word-preserved : goal.loop-word-preserved
+loop-word-preserved c =
+    let t = at_index c in
+    rw (length_push c.loop-word.yielded (c.in-Some.word, c.in-Some.column)) (strays_next c.loop-word.invariant (rw (t.1, t.2) at c.stray-strays.ensures))
