@@ -121,7 +121,6 @@ fn is_inverse_over(
     let count = vertices.len();
     let mut waiting = [1u8; 96];
     tutte::fill_listed(graph, vertices, t);
-    solve::sixteen_bits(graph.weights);
     match exchange::run(t, count, &mut waiting[..count]) {
         None => {
             all_clear(inverse, graph.size, marks) && all_equal(inverse, graph.size, vertices, t)

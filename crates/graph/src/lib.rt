@@ -1,6 +1,7 @@
 // A graph as the algebra takes it: its tables are long enough for its vertices, of which there are at most 96.
 #![tactic(auto)]
 
+ghost use Rattle.std.specs.Prelude.{ℕ, ◌<◌, ◌^◌, slice_index};
 ghost use Rattle.graph.specs.Complete.{Complete};
 
 // The number of vertices; a byte for each two vertices in order, 1 if they are adjacent; and a weight for each two vertices.
@@ -10,6 +11,7 @@ pub struct Graph<'a> {
     pub adjacency: &'a [u8],
     pub weights: &'a [u16],
     pub ghost complete: { Complete size adjacency.now weights.now },
+    pub ghost words: { (x : ℕ) → slice_index weights.now x < 2 ^ 16 },
 }
 
 impl Graph<'_> {

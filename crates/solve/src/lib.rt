@@ -3,7 +3,7 @@
 // the set; solving makes the bytes of the kept vertices 0.
 #![tactic(auto)]
 
-ghost use Rattle.std.specs.Prelude.{◌≡◌, ℕ, ◌+◌, ◌*◌, ◌≤◌, ◌<◌, length, slice_index};
+ghost use Rattle.std.specs.Prelude.{◌≡◌, ℕ, ◌+◌, ◌*◌, ◌≤◌, ◌<◌, length};
 ghost use Rattle.lists.specs.Values.{list_of};
 ghost use Rattle.lists.specs.Table.{Square};
 ghost use Rattle.skew.specs.Subset.{Subset, marked};
@@ -95,11 +95,6 @@ fn write_witness(t: &[u64], n: usize, f: usize, waiting: &[u8], witness: &mut [u
     }
 }
 
-// Promises that the weights have 16 bits, and does nothing: a proof knows it of a slice that is an argument, and not of one in a struct.
-pub fn sixteen_bits(weights: &[u16])
-    ensures { (x : ℕ) → slice_index weights.now x < 65536 }
-{}
-
 // Solves in t, a table of zeros.
 fn solve_over(
     graph: Graph,
@@ -115,7 +110,6 @@ fn solve_over(
         ((S : Subset) → ((i : ℕ) → i < graph.entry.size → S i ≡ marked set.old i)
         → Solved g S result set.new witness.old inverse.new witness.new) }
 {
-    sixteen_bits(graph.weights);
     tutte::fill(graph, set, t);
     let column = exchange::run(t, graph.size, set);
     if let Some(f) = column {

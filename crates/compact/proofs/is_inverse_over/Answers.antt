@@ -30,7 +30,7 @@ run-requires c =
     let B = c.requires.numbered.1 in
     let F = c.fill_listed.ensures in (
       record { small = B.table_square.small; size = F.size ∙ B.table_square.size },
-      listed_small g c.requires.numbered.0 F B (upper_word g c.sixteen_bits.ensures),
+      listed_small g c.requires.numbered.0 F B (upper_word g c.args.graph.words),
       length_part _ 96 1 B.table_square.small,
     )
 

@@ -16,7 +16,7 @@ run-column-requires c =
     let b = c.requires.blank in
     let F = c.fill.ensures in (
       record { small = b.table_square.small; size = F.size ∙ b.table_square.size },
-      filled_small graph (marked c.args.set.now) b F (λ i j _ _. upper_word graph c.sixteen_bits.ensures i j),
+      filled_small graph (marked c.args.set.now) b F (λ i j _ _. upper_word graph c.args.graph.words i j),
       c.requires.set_len,
     )
 
