@@ -56,6 +56,7 @@ fn cross_equal(inverse: &[u16], n: usize, vertices: &[u8], t: &[u64], i: usize) 
     if inverse[a * n + a] != 0 {
         return false;
     }
+    // The words of row and column i up to j are the same.
     for j in i + 1..count {
         let right = solve::above(t, count, i, j);
         if !pair_equal(inverse, n, a, vertices[j] as usize, right) {
@@ -97,6 +98,7 @@ fn all_clear(inverse: &[u16], n: usize, marks: &[u8]) -> bool
     requires { (n ≤ 96) × (n * n ≤ length inverse.now) × (length marks.now ≡ n) }
     ensures { Tells (AllClear n inverse.now marks.now n) result }
 {
+    // The rows before a are clear.
     for (a, mark) in marks.iter().enumerate() {
         let at = a * n;
         if !row_clear(&inverse[at..at + n], *mark, marks) {
