@@ -1,5 +1,5 @@
 -- A session call that is lent more buffers, before or after the kept row, and looks at more causes after 1 to 6. Assumes nothing.
-use Rattle.std.specs.Prelude.{◌≡◌, refl, ℕ, ◌≤◌, ◌<◌, length}
+use Rattle.std.specs.Prelude.{◌≡◌, refl, ℕ, ◌≤◌, ◌<◌, length, Result, Ok}
 use Rattle.std.proofs.Math.Path.{sym, ap}
 use Rattle.std.proofs.Common.{◌∙◌, arith}
 use mathlib.Core.List.{List, [], ◌∷◌, ◌++◌}
@@ -11,8 +11,7 @@ use Rattle.matching.specs.Causes.{Lent, lent_always, lent_kept, session_causes, 
 use Rattle.laws.specs.Sound.{more_accepted}
 use Rattle.checks.specs.Meaning.{then}
 use Rattle.checks.specs.Lengths.{is_short, is_long, long_before, short_ruling, short_then, lengths_refused, lengths_accepted}
-use Rattle.refusals.specs.declared.Ruling as declared
-use Rattle.refusals.specs.declared.Ruling.TheVariants.{Accepted}
+use Rattle.refusals.specs.declared.Refusal as declared
 use Rattle.refusals.specs.Meaning.{ruling_of}
 use Rattle.soundness.specs.Sound.{Confirmed}
 
@@ -75,18 +74,18 @@ module _ (p : ℕ) (s : State) where
         ∙ ap (then (judge (too_short (before ++ after) ∷ []))) (judge_then rest later ∙ ap (λ v. then v (judge later)) (sym ruling_rest))
 
 -- the ruling of causes 1 to 6 with more buffers among the lent; if none applies, the session is confirmed
-pub record ConfirmedLent (before after : List Lent) (n made : ℕ) (adjacency weights inverse sequence kept marks : List ℕ) (r : declared.Ruling) : Type 0 where
+pub record ConfirmedLent {A : Type 0} (before after : List Lent) (n made : ℕ) (adjacency weights inverse sequence kept marks : List ℕ) (r : Result A declared.Refusal) : Type 0 where
   pub ruled : ruling_of r ≡ judge (session_causes modulus (state n made adjacency weights inverse sequence kept) before after)
   pub confirmed : ruling_of r ≡ accepted → Confirmed n made adjacency weights inverse sequence kept marks r
 
 -- then the buffers have the lengths that the call needs
-pub row_room : {b : Lent} {n made : ℕ} {adjacency weights inverse sequence kept marks : List ℕ} {v : declared.Ruling}
-    → ConfirmedLent (b ∷ []) [] n made adjacency weights inverse sequence kept marks v → v ≡ Accepted → b.needed ≤ b.length
+pub row_room : {b : Lent} {n made : ℕ} {adjacency weights inverse sequence kept marks : List ℕ} {A : Type 0} {v : Result A declared.Refusal} {x : A}
+    → ConfirmedLent (b ∷ []) [] n made adjacency weights inverse sequence kept marks v → v ≡ Ok x → b.needed ≤ b.length
 row_room {b} {n} {made} {adjacency} {weights} {inverse} {sequence} {kept} C e =
     ((more_accepted modulus (state n made adjacency weights inverse sequence kept) (b ∷ []) [] []).0 (sym C.ruled ∙ ap ruling_of e)).1.0
 
-pub answers_room : {b : Lent} {n made : ℕ} {adjacency weights inverse sequence kept marks : List ℕ} {v : declared.Ruling}
-    → ConfirmedLent [] (b ∷ []) n made adjacency weights inverse sequence kept marks v → v ≡ Accepted → b.needed ≤ b.length
+pub answers_room : {b : Lent} {n made : ℕ} {adjacency weights inverse sequence kept marks : List ℕ} {A : Type 0} {v : Result A declared.Refusal} {x : A}
+    → ConfirmedLent [] (b ∷ []) n made adjacency weights inverse sequence kept marks v → v ≡ Ok x → b.needed ≤ b.length
 answers_room {b} {n} {made} {adjacency} {weights} {inverse} {sequence} {kept} C e =
     ((more_accepted modulus (state n made adjacency weights inverse sequence kept) [] (b ∷ []) []).0 (sym C.ruled ∙ ap ruling_of e)).2.0
 
@@ -95,7 +94,7 @@ module _ (before after : List Lent) (n made : ℕ) (adjacency weights inverse se
   abbrev s : State
   s = state n made adjacency weights inverse sequence kept
 
-  refuses : {r : declared.Ruling} {why : Refusal} → ruling_of r ≡ refused why → judge (session_causes modulus s before after) ≡ refused why
+  refuses : {A : Type 0} {r : Result A declared.Refusal} {why : Refusal} → ruling_of r ≡ refused why → judge (session_causes modulus s before after) ≡ refused why
       → ConfirmedLent before after n made adjacency weights inverse sequence kept marks r
   refuses e q = record { ruled = e ∙ sym q; confirmed = λ a. absurd (let z : ◌≡◌ {A = ℕ} 0 1 = cc in omega arith) }
 
@@ -104,7 +103,7 @@ module _ (b : Lent) (n made : ℕ) (adjacency weights inverse sequence kept mark
   abbrev t : State
   t = state n made adjacency weights inverse sequence kept
 
-  pub row_lengths : {r : declared.Ruling} {why : Refusal} → ruling_of r ≡ refused why → refused why ≡ lengths modulus t
+  pub row_lengths : {A : Type 0} {r : Result A declared.Refusal} {why : Refusal} → ruling_of r ≡ refused why → refused why ≡ lengths modulus t
       → ConfirmedLent (b ∷ []) [] n made adjacency weights inverse sequence kept marks r
   row_lengths e q = refuses (b ∷ []) [] n made adjacency weights inverse sequence kept marks e (lengths_first modulus t (b ∷ []) [] [] q)
 
@@ -112,13 +111,13 @@ module _ (b : Lent) (n made : ℕ) (adjacency weights inverse sequence kept mark
     abbrev kept_row : List Lent
     kept_row = lent_kept n (length kept) ∷ []
 
-    pub row_short : {r : declared.Ruling} → ruling_of r ≡ refused (because 2 b.number) → b.length < b.needed
+    pub row_short : {A : Type 0} {r : Result A declared.Refusal} → ruling_of r ≡ refused (because 2 b.number) → b.length < b.needed
         → ConfirmedLent (b ∷ []) [] n made adjacency weights inverse sequence kept marks r
     row_short e l =
         refuses (b ∷ []) [] n made adjacency weights inverse sequence kept marks e
         (after_lengths modulus t (b ∷ []) [] [] ok ∙ ap (λ f. then (short_ruling f) (judge (rest modulus t))) (is_short b.length b.needed b.number (first_short kept_row) l))
 
-    pub row_enough : {r : declared.Ruling} → b.needed ≤ b.length → Confirmed n made adjacency weights inverse sequence kept marks r
+    pub row_enough : {A : Type 0} {r : Result A declared.Refusal} → b.needed ≤ b.length → Confirmed n made adjacency weights inverse sequence kept marks r
         → ConfirmedLent (b ∷ []) [] n made adjacency weights inverse sequence kept marks r
     unfolding session_ruling
     row_enough l C = record {
@@ -135,24 +134,24 @@ module _ (b : Lent) (n made : ℕ) (adjacency weights inverse sequence kept mark
   abbrev u : State
   u = state n made adjacency weights inverse sequence kept
 
-  pub answers_lengths : {r : declared.Ruling} {why : Refusal} → ruling_of r ≡ refused why → refused why ≡ lengths modulus u
+  pub answers_lengths : {A : Type 0} {r : Result A declared.Refusal} {why : Refusal} → ruling_of r ≡ refused why → refused why ≡ lengths modulus u
       → ConfirmedLent [] (b ∷ []) n made adjacency weights inverse sequence kept marks r
   answers_lengths e q = refuses [] (b ∷ []) n made adjacency weights inverse sequence kept marks e (lengths_first modulus u [] (b ∷ []) [] q)
 
   module _ (ok : accepted ≡ lengths modulus u) where
-    pub kept_short : {r : declared.Ruling} → ruling_of r ≡ refused (because 2 8) → length kept < n
+    pub kept_short : {A : Type 0} {r : Result A declared.Refusal} → ruling_of r ≡ refused (because 2 8) → length kept < n
         → ConfirmedLent [] (b ∷ []) n made adjacency weights inverse sequence kept marks r
     kept_short e l =
         refuses [] (b ∷ []) n made adjacency weights inverse sequence kept marks e
         (after_lengths modulus u [] (b ∷ []) [] ok ∙ ap (λ f. then (short_ruling f) (judge (rest modulus u))) (is_short (length kept) n 8 (first_short (b ∷ [])) l))
 
-    pub answers_short : {r : declared.Ruling} → n ≤ length kept → ruling_of r ≡ refused (because 2 b.number) → b.length < b.needed
+    pub answers_short : {A : Type 0} {r : Result A declared.Refusal} → n ≤ length kept → ruling_of r ≡ refused (because 2 b.number) → b.length < b.needed
         → ConfirmedLent [] (b ∷ []) n made adjacency weights inverse sequence kept marks r
     answers_short k e l =
         refuses [] (b ∷ []) n made adjacency weights inverse sequence kept marks e
         (more_parts modulus u ok k [] (b ∷ []) [] ∙ ap (λ f. then (short_ruling f) (then (session_ruling modulus u) accepted)) (is_short b.length b.needed b.number absent l))
 
-    pub answers_enough : {r : declared.Ruling} → n ≤ length kept → b.needed ≤ b.length → Confirmed n made adjacency weights inverse sequence kept marks r
+    pub answers_enough : {A : Type 0} {r : Result A declared.Refusal} → n ≤ length kept → b.needed ≤ b.length → Confirmed n made adjacency weights inverse sequence kept marks r
         → ConfirmedLent [] (b ∷ []) n made adjacency weights inverse sequence kept marks r
     answers_enough k l C = record {
       ruled =

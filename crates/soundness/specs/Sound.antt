@@ -1,5 +1,5 @@
 -- What the confirmation of a session says. Assumes nothing.
-use Rattle.std.specs.Prelude.{◌≡◌, ℕ, ◌*◌, ◌≤◌, length}
+use Rattle.std.specs.Prelude.{◌≡◌, ℕ, ◌*◌, ◌≤◌, length, Result}
 use Rattle.std.proofs.Common.{sym, ◌∙◌, arith}
 use mathlib.Core.List.{List, [], ◌∷◌, ◌++◌}
 use Rattle.residue.specs.Modulus.{modulus}
@@ -11,13 +11,13 @@ use Rattle.matching.specs.Decided.{well_formed_session?, inverse_table?}
 use Rattle.matching.specs.Causes.{lent_always, lent_kept, lent_to_session, opening_causes, ill_formed, not_inverse, session_ruling}
 use Rattle.laws.specs.Sound.{session_fits, graph_in_order}
 use Rattle.laws.specs.Judge.{judge_accepted, judge_first, judge_second, judge_refused, judge_next, when_at, unless_absent}
-use Rattle.refusals.specs.declared.Ruling.{Ruling}
+use Rattle.refusals.specs.declared.Refusal as declared
 use Rattle.refusals.specs.Meaning.{ruling_of}
 use Rattle.sequence.specs.Formed.{AdjacencyFits, Left}
-use Rattle.tutte.specs.Table.{Complete}
+use Rattle.graph.specs.Complete.{Complete}
 
 -- the ruling of causes 1 to 6, and the marks of the unmatched vertices if none applies
-pub record Confirmed (n made : ℕ) (adjacency weights inverse sequence kept marks : List ℕ) (r : Ruling) : Type 0 where
+pub record Confirmed {A : Type 0} (n made : ℕ) (adjacency weights inverse sequence kept marks : List ℕ) (r : Result A declared.Refusal) : Type 0 where
   pub ruled : ruling_of r ≡ session_ruling modulus (state n made adjacency weights inverse sequence kept)
   pub left : ruling_of r ≡ accepted → Left n (kept_in n kept) sequence made marks
 
@@ -100,7 +100,7 @@ module _ (n made : ℕ) (adjacency weights inverse sequence kept marks : List �
   abbrev lent_state : State
   lent_state = state n made adjacency weights inverse sequence kept
 
-  pub not_formed : {r : Ruling} → ruling_of r ≡ refused (because 5 0) → ¬ WellFormedSession lent_state
+  pub not_formed : {A : Type 0} {r : Result A declared.Refusal} → ruling_of r ≡ refused (because 5 0) → ¬ WellFormedSession lent_state
       → Confirmed n made adjacency weights inverse sequence kept marks r
   not_formed e d = record {
     ruled = e ∙ sym (refused_five lent_state J.four d);
@@ -108,18 +108,18 @@ module _ (n made : ℕ) (adjacency weights inverse sequence kept marks : List �
   }
 
   module _ (W : WellFormedSession lent_state) where
-    pub not_confirmed : {r : Ruling} → ruling_of r ≡ refused (because 6 0) → ¬ InverseTable modulus (over n adjacency weights) (unmatched (in_play lent_state) (pairs_on sequence made)) inverse
+    pub not_confirmed : {A : Type 0} {r : Result A declared.Refusal} → ruling_of r ≡ refused (because 6 0) → ¬ InverseTable modulus (over n adjacency weights) (unmatched (in_play lent_state) (pairs_on sequence made)) inverse
         → Confirmed n made adjacency weights inverse sequence kept marks r
     not_confirmed e d = record {
       ruled = e ∙ sym (refused_six lent_state J.four W d);
       left = λ q. absurd (let z : ◌≡◌ {A = ℕ} 0 1 = cc in omega arith);
     }
 
-    pub all_confirmed : {r : Ruling} → ruling_of r ≡ accepted → InverseTable modulus (over n adjacency weights) (unmatched (in_play lent_state) (pairs_on sequence made)) inverse
+    pub all_confirmed : {A : Type 0} {r : Result A declared.Refusal} → ruling_of r ≡ accepted → InverseTable modulus (over n adjacency weights) (unmatched (in_play lent_state) (pairs_on sequence made)) inverse
         → Left n (kept_in n kept) sequence made marks → Confirmed n made adjacency weights inverse sequence kept marks r
     all_confirmed e I L = record { ruled = e ∙ sym (confirmed lent_state J.four W I); left = λ _. L }
 
-pub first_refused : (n made : ℕ) (adjacency weights inverse sequence kept marks : List ℕ) {r : Ruling} {why : Refusal} → ruling_of r ≡ refused why
+pub first_refused : (n made : ℕ) (adjacency weights inverse sequence kept marks : List ℕ) {A : Type 0} {r : Result A declared.Refusal} {why : Refusal} → ruling_of r ≡ refused why
     → refused why ≡ judge (opening_causes modulus (over n adjacency weights) (lent_always n (length adjacency) (length weights) (length inverse) (length sequence) ++ lent_kept n (length kept) ∷ []))
     → Confirmed n made adjacency weights inverse sequence kept marks r
 first_refused n made adjacency weights inverse sequence kept marks e q = record {

@@ -2,144 +2,129 @@
 // again and compared.
 #![tactic(auto)]
 
-ghost use Rattle.std.specs.Prelude.{◌≡◌, [], ◌∷◌, ◌≤◌, length, take};
+ghost use Rattle.std.specs.Prelude.{◌≡◌, [], ◌∷◌, ◌≤◌, IfOk, length, take};
 ghost use Rattle.matching.specs.Causes.{lent_row};
 ghost use Rattle.matching.specs.Replay.{lent_answers};
+ghost use Rattle.checks.specs.Meaning.{Lent};
 ghost use Rattle.soundness.specs.Sound.{Judged, Confirmed};
 ghost use Rattle.soundness.specs.Besides.{ConfirmedLent};
 
-use refusals::{Refusal, Ruling};
+use checks::Lengths;
+use graph::Graph;
+use refusals::{Cause, Refusal};
 
 // Judges causes 5 and 6, if none of 1 to 4 applies. If neither applies, the marks are those of the unmatched vertices.
 fn confirm_rest(
-    n: usize,
+    graph: Graph,
     made: usize,
-    adjacency: &[u8],
-    weights: &[u16],
     inverse: &[u16],
     sequence: &[u8],
     kept: &[u8],
     marks: &mut [u8],
-) -> Ruling
-    requires { Judged n adjacency.now weights.now inverse.now sequence.now kept.now × (length marks.old ≡ n) }
-    ensures { Confirmed n made adjacency.now weights.now inverse.now sequence.now
-        kept.now marks.new result }
+) -> Result<(), Refusal>
+    requires { Judged graph.size graph.adjacency.now graph.weights.now inverse.now sequence.now kept.now × (length marks.old ≡ graph.size) }
+    ensures { let g = graph.entry in
+        Confirmed g.size made g.adjacency.now g.weights.now inverse.now sequence.now kept.now marks.new result }
 {
-    let formed = sequence::formed(n, adjacency, sequence, made, kept, marks);
-    if !formed {
-        return refusals::refuse(5, 0);
+    if !sequence::formed(graph.size, graph.adjacency, sequence, made, kept, marks) {
+        return Err(refusals::because(Cause::SessionMalformed, 0));
     }
-    let correct = compact::is_inverse(n, adjacency, weights, marks, inverse);
-    if !correct {
-        return refusals::refuse(6, 0);
+    if !compact::is_inverse(graph, marks, inverse) {
+        return Err(refusals::because(Cause::InverseWrong, 0));
     }
-    Ruling::Accepted
+    Ok(())
 }
 
 // Judges whether a session is sound; if it is, the first n marks are those of the unmatched vertices. There must be room for 96 marks.
-pub fn confirm(
+pub fn confirm<'a>(
     n: usize,
     made: usize,
-    adjacency: &[u8],
-    weights: &[u16],
+    adjacency: &'a [u8],
+    weights: &'a [u16],
     inverse: &[u16],
     sequence: &[u8],
     kept: &[u8],
     marks: &mut [u8],
-) -> Ruling
+) -> Result<Graph<'a>, Refusal>
     requires { 96 ≤ length marks.old }
-    ensures { Confirmed n made adjacency.now weights.now inverse.now sequence.now
+    ensures confirmed { Confirmed n made adjacency.now weights.now inverse.now sequence.now
         kept.now (take n marks.new) result }
+    ensures lent { IfOk result (λ g. Lent n adjacency.now weights.now g) }
 {
-    let ruling = checks::judge_session(
+    let graph = checks::judge_session(
         n,
         adjacency,
         weights,
         inverse.len(),
         sequence.len(),
         kept.len(),
-    );
-    if let Ruling::Refused(refusal) = ruling {
-        return Ruling::Refused(refusal);
-    }
-    confirm_rest(
-        n,
-        made,
-        adjacency,
-        weights,
-        inverse,
-        sequence,
-        kept,
-        &mut marks[..n],
-    )
+    )?;
+    confirm_rest(graph, made, inverse, sequence, kept, &mut marks[..n])?;
+    Ok(graph)
 }
 
 // Confirms a session whose call is lent a row of partners as well, of length row, which is judged after the lengths of buffers 1 to 4 and
 // before that of the kept row.
-pub fn confirm_row(
+pub fn confirm_row<'a>(
     n: usize,
     made: usize,
-    adjacency: &[u8],
-    weights: &[u16],
+    adjacency: &'a [u8],
+    weights: &'a [u16],
     inverse: &[u16],
     sequence: &[u8],
     kept: &[u8],
     row: usize,
     marks: &mut [u8],
-) -> Ruling
+) -> Result<Graph<'a>, Refusal>
     requires { 96 ≤ length marks.old }
-    ensures { ConfirmedLent (lent_row n row ∷ []) [] n made adjacency.now weights.now inverse.now
+    ensures confirmed { ConfirmedLent (lent_row n row ∷ []) [] n made adjacency.now weights.now inverse.now
         sequence.now kept.now (take n marks.new) result }
+    ensures lent { IfOk result (λ g. Lent n adjacency.now weights.now g) }
 {
-    let lengths = checks::judge_lengths(
-        n,
-        adjacency.len(),
-        weights.len(),
-        inverse.len(),
-        sequence.len(),
-    );
-    if let Ruling::Refused(refusal) = lengths {
-        return Ruling::Refused(refusal);
-    }
+    let lengths = Lengths {
+        adjacency: adjacency.len(),
+        weights: weights.len(),
+        inverse: inverse.len(),
+        sequence: sequence.len(),
+    };
+    checks::judge_lengths(n, lengths)?;
     if row < n {
-        return refusals::refuse(2, 7);
+        return Err(refusals::because(Cause::BufferTooShort, 7));
     }
     confirm(n, made, adjacency, weights, inverse, sequence, kept, marks)
 }
 
 // Confirms a session whose call is lent answers as well, and needs count of them; their length is judged after that of the kept row and
 // before cause 3.
-pub fn confirm_answers(
+pub fn confirm_answers<'a>(
     n: usize,
     made: usize,
-    adjacency: &[u8],
-    weights: &[u16],
+    adjacency: &'a [u8],
+    weights: &'a [u16],
     inverse: &[u16],
     sequence: &[u8],
     kept: &[u8],
     answers: usize,
     count: usize,
     marks: &mut [u8],
-) -> Ruling
+) -> Result<Graph<'a>, Refusal>
     requires { 96 ≤ length marks.old }
-    ensures { ConfirmedLent [] (lent_answers count answers ∷ []) n made adjacency.now weights.now
+    ensures confirmed { ConfirmedLent [] (lent_answers count answers ∷ []) n made adjacency.now weights.now
         inverse.now sequence.now kept.now (take n marks.new) result }
+    ensures lent { IfOk result (λ g. Lent n adjacency.now weights.now g) }
 {
-    let lengths = checks::judge_lengths(
-        n,
-        adjacency.len(),
-        weights.len(),
-        inverse.len(),
-        sequence.len(),
-    );
-    if let Ruling::Refused(refusal) = lengths {
-        return Ruling::Refused(refusal);
-    }
+    let lengths = Lengths {
+        adjacency: adjacency.len(),
+        weights: weights.len(),
+        inverse: inverse.len(),
+        sequence: sequence.len(),
+    };
+    checks::judge_lengths(n, lengths)?;
     if kept.len() < n {
-        return refusals::refuse(2, 8);
+        return Err(refusals::because(Cause::BufferTooShort, 8));
     }
     if answers < count {
-        return refusals::refuse(2, 10);
+        return Err(refusals::because(Cause::BufferTooShort, 10));
     }
     confirm(n, made, adjacency, weights, inverse, sequence, kept, marks)
 }
