@@ -11,11 +11,10 @@ ghost use Rattle.filling.specs.Meaning.{read_of};
 ghost use Rattle.sheet.specs.Headed.{Heads};
 ghost use Rattle.sheet.specs.Continued.{Continues};
 
-use due::{Due, Found};
-use edges::Edges;
-use filling::Read;
+use due::Due;
+use filling::Extent;
 use records::Record;
-use refusals::Refusal;
+use refusals::{Cause, Refusal};
 
 // What the first two records say, and the offset after them.
 #[derive(Clone, Copy)]
@@ -25,49 +24,32 @@ pub struct Head {
     pub next: usize,
 }
 
-// The first two records, or a refusal.
-#[derive(Clone, Copy)]
-pub enum Start {
-    Headed(Head),
-    Refused(Refusal),
-}
-
 // Reads the seed record at offset at of bytes, after a size record of n.
-fn read_seed(bytes: &[u8], at: usize, n: usize) -> Start
+fn read_seed(bytes: &[u8], at: usize, n: usize) -> Result<Head, Refusal>
     requires { n ≤ largest }
     ensures { Heads first_edition bytes.now (sized n) at result }
 {
-    let found = due::found_at(bytes, at, Due::Seed);
-    match found {
-        Found::Refused(why) => Start::Refused(why),
-        Found::Whole(record) => match record {
-            Record::Seed(seed) => Start::Headed(Head {
-                size: n,
-                seed,
-                next: at + 5,
-            }),
-            _ => Start::Refused(refusals::because(12, at)),
-        },
-    }
+    let Record::Seed(seed) = due::found_at(bytes, at, Due::Seed)? else {
+        return Err(refusals::because(Cause::KindNotDue, at));
+    };
+    Ok(Head {
+        size: n,
+        seed,
+        next: at + 5,
+    })
 }
 
 // Reads the size record at offset at of bytes, and the seed record after it.
-fn read_head(bytes: &[u8], at: usize) -> Start
+fn read_head(bytes: &[u8], at: usize) -> Result<Head, Refusal>
     ensures { Heads first_edition bytes.now start at result }
 {
-    let found = due::found_at(bytes, at, Due::Size);
-    match found {
-        Found::Refused(why) => Start::Refused(why),
-        Found::Whole(record) => match record {
-            Record::Size(n) => {
-                if checks::LARGEST < n {
-                    return Start::Refused(refusals::because(1, at));
-                }
-                read_seed(bytes, at + 2, n)
-            }
-            _ => Start::Refused(refusals::because(12, at)),
-        },
+    let Record::Size(n) = due::found_at(bytes, at, Due::Size)? else {
+        return Err(refusals::because(Cause::KindNotDue, at));
+    };
+    if n > checks::LARGEST {
+        return Err(refusals::because(Cause::SizeTooLarge, at));
     }
+    read_seed(bytes, at + 2, n)
 }
 
 // Reads the records of bytes from offset next on, which follow the size n and the seed, into table, where every cell is 0 before, and
@@ -80,16 +62,13 @@ fn read_over(
     table: &mut [u8],
     adjacency: &mut [u8],
     weights: &mut [u16],
-) -> Read
+) -> Result<Extent, Refusal>
     requires { Square n table.old × (table.old ≡ cells n []) }
     ensures { Continues first_edition bytes.now next n seed adjacency.old weights.old (read_of result)
         adjacency.new weights.new }
 {
-    let edges = edges::read_edges(bytes, next, n, table);
-    match edges {
-        Edges::Refused(why) => Read::Refused(why),
-        Edges::Counted(count) => filling::write_graph(n, seed, count, table, adjacency, weights),
-    }
+    let count = edges::read_edges(bytes, next, n, table)?;
+    filling::write_graph(n, seed, count, table, adjacency, weights)
 }
 
 // Calls read_over with a table of its own: adjacency may be too short, and stays as it is if the sheet is refused.
@@ -100,7 +79,7 @@ fn read_rest(
     seed: u32,
     adjacency: &mut [u8],
     weights: &mut [u16],
-) -> Read
+) -> Result<Extent, Refusal>
     requires { n ≤ largest }
     ensures { Continues first_edition bytes.now next n seed adjacency.old weights.old (read_of result)
         adjacency.new weights.new }
@@ -121,13 +100,15 @@ fn read_rest(
 
 // Reads bytes from offset at to their end. A graph fills the first cells of adjacency and the first of weights; a refusal leaves both
 // as they were.
-pub fn read_at(bytes: &[u8], at: usize, adjacency: &mut [u8], weights: &mut [u16]) -> Read
+pub fn read_at(
+    bytes: &[u8],
+    at: usize,
+    adjacency: &mut [u8],
+    weights: &mut [u16],
+) -> Result<Extent, Refusal>
     ensures { FillsFrom first_edition bytes.now at adjacency.old weights.old (read_of result)
         adjacency.new weights.new }
 {
-    let head = read_head(bytes, at);
-    match head {
-        Start::Refused(why) => Read::Refused(why),
-        Start::Headed(h) => read_rest(bytes, h.next, h.size, h.seed, adjacency, weights),
-    }
+    let head = read_head(bytes, at)?;
+    read_rest(bytes, head.next, head.size, head.seed, adjacency, weights)
 }

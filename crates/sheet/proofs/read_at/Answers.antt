@@ -1,12 +1,9 @@
 -- `sheet::read_at` meets its contract: a refusal at the first two records, or what follows them. Assumes nothing.
+use Rattle.std.proofs.lemmas.Result.{err_from_is_err_and}
 use Rattle.matching.specs.Records.{refuses_records}
 use Rattle.sheet.proofs.read_at.Goals as goal
 
-pub read_rest-requires : goal.read_rest-requires
-read_rest-requires c = c.in-Headed.ensures.0
-
-pub returns-in-Refused : goal.returns-in-Refused
-returns-in-Refused c = refuses_records c.in-Refused.ensures
-
-pub returns-in-Headed : goal.returns-in-Headed
-returns-in-Headed c = c.read_rest.ensures _ c.in-Headed.ensures.1
+pub returns-in_err-head : goal.returns-in_err-head
+returns-in_err-head c =
+    let p = err_from_is_err_and c.from_residual.result c.from_residual.ensures.1 in
+    rw (p.1, p.2) (refuses_records c.in_err-head.ensures)
