@@ -7,8 +7,9 @@ ghost use Rattle.matching.specs.Records.{FillsFrom, Fills};
 ghost use Rattle.records.specs.Stands.{Stands};
 ghost use Rattle.filling.specs.Meaning.{read_of};
 
-use filling::Read;
+use filling::Extent;
 use records::Next;
+use refusals::Refusal;
 
 // The bytes of a sheet, and an offset in them.
 #[derive(Clone, Copy)]
@@ -43,7 +44,7 @@ impl<'a> Reader<'a> {
     }
 
     // Reads a sheet from its place to the end of its bytes into adjacency and weights.
-    pub fn fill(self, adjacency: &mut [u8], weights: &mut [u16]) -> Read
+    pub fn fill(self, adjacency: &mut [u8], weights: &mut [u16]) -> Result<Extent, Refusal>
         ensures { FillsFrom first_edition self.entry.bytes.now self.entry.at adjacency.old weights.old
             (read_of result) adjacency.new weights.new }
     {
@@ -52,7 +53,7 @@ impl<'a> Reader<'a> {
 }
 
 // Reads bytes, a whole sheet, into adjacency and weights.
-pub fn read(bytes: &[u8], adjacency: &mut [u8], weights: &mut [u16]) -> Read
+pub fn read(bytes: &[u8], adjacency: &mut [u8], weights: &mut [u16]) -> Result<Extent, Refusal>
     ensures { Fills first_edition bytes.now adjacency.old weights.old (read_of result)
         adjacency.new weights.new }
 {
