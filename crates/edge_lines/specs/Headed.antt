@@ -1,5 +1,5 @@
 -- The `p` line. Assumes nothing.
-use Rattle.std.specs.Prelude.{◌≡◌, List, [], ℕ, ◌+◌, ◌≤◌, ◌<◌, length}
+use Rattle.std.specs.Prelude.{◌≡◌, Result, Ok, Err, List, [], ℕ, ◌+◌, ◌≤◌, ◌<◌, length}
 use Rattle.std.proofs.Common.{arith, drop_of_length-le}
 use Rattle.matching.specs.Decision.{Refusal, because}
 use Rattle.matching.specs.Graph.{largest}
@@ -8,10 +8,9 @@ use Rattle.lines.specs.Near.{Near, near_below, near_above}
 use Rattle.lines.specs.Lines.{Stands, Remark, Formless}
 use Rattle.lines.specs.declared.Two.{Two}
 use Rattle.refusals.specs.Meaning.{refusal_of}
+use Rattle.refusals.specs.declared.Refusal as code
 use Rattle.edge_lines.specs.Reading.{ReadsOn, Follows, formless_here, remark_here}
 use Rattle.edge_lines.specs.declared.Head.{Head}
-use Rattle.edge_lines.specs.declared.Start.{Start}
-use Rattle.edge_lines.specs.declared.Start.TheVariants as variants
 
 -- reading has come past it: no edges yet
 pub record Past (bytes : List ℕ) (h : Head) : Type 0 where
@@ -25,9 +24,9 @@ pub record Past (bytes : List ℕ) (h : Head) : Type 0 where
 pub record Refuses (bytes : List ℕ) (why : Refusal) : Type 0 where
   pub reads : ReadsText bytes (unread why)
 
-abbrev pub Heads : List ℕ → Start → Type 0
-Heads bytes (variants.Headed h) = Past bytes h
-Heads bytes (variants.Refused why) = Refuses bytes (refusal_of why)
+abbrev pub Heads : List ℕ → Result Head code.Refusal → Type 0
+Heads bytes (Ok h) = Past bytes h
+Heads bytes (Err why) = Refuses bytes (refusal_of why)
 
 -- reading has come so far without one
 pub record Before (bytes : List ℕ) (line at : ℕ) : Type 0 where

@@ -1,5 +1,5 @@
 -- One line after the `p` line, and all of them to the end. Assumes nothing.
-use Rattle.std.specs.Prelude.{◌≡◌, refl, List, [], ◌∷◌, ℕ, ◌+◌, ◌-◌, ◌^◌, ◌≤◌, ◌<◌, length}
+use Rattle.std.specs.Prelude.{◌≡◌, refl, Result, Ok, Err, List, [], ◌∷◌, ℕ, ◌+◌, ◌-◌, ◌^◌, ◌≤◌, ◌<◌, length}
 use Rattle.std.proofs.Common.{ap, ◌∙◌, add-one, arith, drop_of_length-le}
 use Rattle.matching.specs.Decision.{Refusal, because}
 use Rattle.matching.specs.Graph.{largest}
@@ -9,13 +9,14 @@ use Rattle.matching.specs.Dimacs.{problem, edge, past, Joins, joined, takes_edge
 use Rattle.lines.specs.Near.{Near, near_below, near_back}
 use Rattle.lines.specs.Lines.{Stands, Remark, Formless}
 use Rattle.lines.specs.declared.Two.{Two}
-use Rattle.refusals.specs.Meaning.{refusal_of}
+use Rattle.refusals.specs.Meaning.{cause_number, refusal_of}
+use Rattle.refusals.specs.declared.Cause.{Cause}
+use Rattle.refusals.specs.declared.Refusal as code
 use Rattle.edge_lines.specs.Reading.{ReadsOn, Follows, formless_here, remark_here}
 use Rattle.filling.specs.Marked.{MarksNew, MarksOld}
 use Rattle.edge_lines.specs.declared.Step.{Step}
 use Rattle.edge_lines.specs.declared.Step.TheVariants as step
-use Rattle.edge_lines.specs.declared.Edges.{Edges}
-use Rattle.edge_lines.specs.declared.Edges.TheVariants as edges
+use Rattle.edge_lines.specs.declared.Count.{Count}
 
 -- reading goes on to the next line
 pub record Onward (bytes : List ℕ) (at next : ℕ) : Type 0 where
@@ -50,15 +51,15 @@ pub record AtEnd (bytes : List ℕ) (at : ℕ) (table table' : List ℕ) : Type 
 pub record Stops (bytes : List ℕ) (at n cause : ℕ) : Type 0 where
   pub reads : (m k line : ℕ) (edges : List Pair) → ReadsOn bytes (past n m k edges) line at (unread (because cause line))
 
-abbrev pub Stepped : List ℕ → (at n : ℕ) → List ℕ → Step → List ℕ → Type 0
-Stepped bytes at n table (step.Comment next) table' = OneComment bytes at n table next table'
-Stepped bytes at n table (step.New next) table' = OneMore bytes at n table next table'
-Stepped bytes at n table (step.Old next) table' = OneAgain bytes at n table next table'
-Stepped bytes at n table step.Done table' = AtEnd bytes at table table'
-Stepped bytes at n table (step.Refused cause) table' = Stops bytes at n cause
+abbrev pub Stepped : List ℕ → (at n : ℕ) → List ℕ → Result Step Cause → List ℕ → Type 0
+Stepped bytes at n table (Ok (step.Comment next)) table' = OneComment bytes at n table next table'
+Stepped bytes at n table (Ok (step.New next)) table' = OneMore bytes at n table next table'
+Stepped bytes at n table (Ok (step.Old next)) table' = OneAgain bytes at n table next table'
+Stepped bytes at n table (Ok step.Done) table' = AtEnd bytes at table table'
+Stepped bytes at n table (Err cause) table' = Stops bytes at n (cause_number cause)
 
 -- an `e` line with these fields, wherever it stands
-abbrev pub EdgeStepped : Two → (n : ℕ) → List ℕ → Step → List ℕ → Type 0
+abbrev pub EdgeStepped : Two → (n : ℕ) → List ℕ → Result Step Cause → List ℕ → Type 0
 EdgeStepped t n table r table' = (bytes : List ℕ) (at : ℕ) → Stands edge bytes at t → Stepped bytes at n table r table'
 
 -- vertices of the code are those of the line where they are vertices
@@ -136,9 +137,9 @@ pub record AllRead (bytes : List ℕ) (from first n lines count : ℕ) (table : 
 pub record NotRead (bytes : List ℕ) (from first n : ℕ) (why : Refusal) : Type 0 where
   pub reads : (m : ℕ) → ReadsOn bytes (past n m 0 []) first from (unread why)
 
-abbrev pub EdgesRead : List ℕ → (from first n : ℕ) → Edges → List ℕ → Type 0
-EdgesRead bytes from first n (edges.Counted c) table = AllRead bytes from first n c.lines c.edges table
-EdgesRead bytes from first n (edges.Refused why) table = NotRead bytes from first n (refusal_of why)
+abbrev pub EdgesRead : List ℕ → (from first n : ℕ) → Result Count code.Refusal → List ℕ → Type 0
+EdgesRead bytes from first n (Ok c) table = AllRead bytes from first n c.lines c.edges table
+EdgesRead bytes from first n (Err why) table = NotRead bytes from first n (refusal_of why)
 
 module _ {bytes : List ℕ} {from first n : ℕ} where
   pub reached_start : {table : List ℕ} → table ≡ cells n [] → first ≤ from + 1 → Reached bytes from first n from first 0 0 table

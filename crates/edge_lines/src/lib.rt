@@ -9,8 +9,8 @@ ghost use Rattle.edge_lines.specs.Headed.{Heads};
 ghost use Rattle.edge_lines.specs.Stepped.{EdgeStepped, Stepped, EdgesRead};
 
 use filling::Mark;
-use lines::{Fields, Next, Two};
-use refusals::Refusal;
+use lines::{Line, Two};
+use refusals::{Cause, Refusal};
 
 // What the `p` line says, the offset after it, and the number of the line there.
 #[derive(Clone, Copy)]
@@ -21,21 +21,13 @@ pub struct Head {
     pub line: usize,
 }
 
-// The `p` line, or a refusal.
-#[derive(Clone, Copy)]
-pub enum Start {
-    Headed(Head),
-    Refused(Refusal),
-}
-
-// What the line at an offset is: a comment, a new edge or an old one, with the offset after it; the end of the text; or a cause.
+// What the line at an offset is: a comment, a new edge or an old one, with the offset after it; or the end of the text.
 #[derive(Clone, Copy)]
 pub enum Step {
     Comment(usize),
     New(usize),
     Old(usize),
     Done,
-    Refused(u8),
 }
 
 // The number of `e` lines, and of edges.
@@ -45,94 +37,86 @@ pub struct Count {
     pub edges: usize,
 }
 
-// The count of a text, or a refusal.
-#[derive(Clone, Copy)]
-pub enum Edges {
-    Counted(Count),
-    Refused(Refusal),
-}
-
 // Reads bytes up to the `p` line. Only comments stand before it; at is the offset after those so far, and line the number of the line there.
-pub fn read_head(bytes: &[u8]) -> Start
+pub fn read_head(bytes: &[u8]) -> Result<Head, Refusal>
     ensures { Heads bytes.now result }
 {
     let mut at = 0;
     let mut line = 1;
     loop {
-        let next = lines::line_at(bytes, at);
-        match next {
-            Next::Comment(after) => {
+        match lines::line_at(bytes, at) {
+            Some(Line::Comment(after)) => {
                 at = after;
                 line += 1;
             }
-            Next::Problem(two) => {
-                if checks::LARGEST < two.first {
-                    return Start::Refused(refusals::because(1, line));
+            Some(Line::Problem(two)) => {
+                if two.first > checks::LARGEST {
+                    return Err(refusals::because(Cause::SizeTooLarge, line));
                 }
-                return Start::Headed(Head {
+                return Ok(Head {
                     size: two.first,
                     announced: two.second,
                     next: two.next,
                     line: line + 1,
                 });
             }
-            Next::Edge(_) => return Start::Refused(refusals::because(16, line)),
-            Next::Formless => return Start::Refused(refusals::because(16, line)),
-            Next::Nothing => return Start::Refused(refusals::because(16, 0)),
+            Some(Line::Edge(_)) => return Err(refusals::because(Cause::LineInvalid, line)),
+            Some(Line::Formless) => return Err(refusals::because(Cause::LineInvalid, line)),
+            None => return Err(refusals::because(Cause::LineInvalid, 0)),
         }
     }
 }
 
 // Takes an `e` line with these fields. A text counts its vertices from 1.
-fn take_edge(n: usize, two: Two, table: &mut [u8]) -> Step
+fn take_edge(n: usize, two: Two, table: &mut [u8]) -> Result<Step, Cause>
     requires { Square n table.old }
     ensures { EdgeStepped two n table.old result table.new }
 {
-    if two.first == 0 {
-        return Step::Refused(14);
+    if two.first == 0 || two.second == 0 {
+        return Err(Cause::EndsInvalid);
     }
-    if two.second == 0 {
-        return Step::Refused(14);
-    }
-    let marked = filling::mark_edge(n, two.first - 1, two.second - 1, table);
-    match marked {
-        Mark::New => Step::New(two.next),
-        Mark::Old => Step::Old(two.next),
-        Mark::Refused => Step::Refused(14),
+    match filling::mark_edge(n, two.first - 1, two.second - 1, table) {
+        Mark::New => Ok(Step::New(two.next)),
+        Mark::Old => Ok(Step::Old(two.next)),
+        Mark::Refused => Err(Cause::EndsInvalid),
     }
 }
 
 // Takes the line at offset at of bytes, where a comment or an `e` line may stand.
-fn take_any(bytes: &[u8], at: usize, n: usize, table: &mut [u8]) -> Step
+fn take_any(bytes: &[u8], at: usize, n: usize, table: &mut [u8]) -> Result<Step, Cause>
     requires { Square n table.old }
     ensures { Stepped bytes.now at n table.old result table.new }
 {
-    let next = lines::line_at(bytes, at);
-    match next {
-        Next::Comment(after) => Step::Comment(after),
-        Next::Problem(_) => Step::Refused(16),
-        Next::Edge(two) => take_edge(n, two, table),
-        Next::Formless => Step::Refused(16),
-        Next::Nothing => Step::Done,
+    match lines::line_at(bytes, at) {
+        Some(Line::Comment(after)) => Ok(Step::Comment(after)),
+        Some(Line::Problem(_)) => Err(Cause::LineInvalid),
+        Some(Line::Edge(two)) => take_edge(n, two, table),
+        Some(Line::Formless) => Err(Cause::LineInvalid),
+        None => Ok(Step::Done),
     }
 }
 
 // take_any, with a shortcut for an `e` line with short fields.
-fn take_line(bytes: &[u8], at: usize, n: usize, table: &mut [u8]) -> Step
+fn take_line(bytes: &[u8], at: usize, n: usize, table: &mut [u8]) -> Result<Step, Cause>
     requires { Square n table.old }
     ensures { Stepped bytes.now at n table.old result table.new }
 {
-    let short = lines::short_edge_at(bytes, at);
-    match short {
-        Fields::Both(two) => take_edge(n, two, table),
-        Fields::Nothing => take_any(bytes, at, n, table),
+    match lines::short_edge_at(bytes, at) {
+        Some(two) => take_edge(n, two, table),
+        None => take_any(bytes, at, n, table),
     }
 }
 
 // Takes the lines of bytes from offset from on, to the end, and marks their edges in table, where every cell is 0 before. first is the
 // number of the line at from. After each line, the table has the edges of the lines so far, lines is the number of these that are `e` lines
 // and count that of their edges.
-pub fn read_edges(bytes: &[u8], from: usize, first: usize, n: usize, table: &mut [u8]) -> Edges
+pub fn read_edges(
+    bytes: &[u8],
+    from: usize,
+    first: usize,
+    n: usize,
+    table: &mut [u8],
+) -> Result<Count, Refusal>
     requires { Square n table.old × (table.old ≡ cells n []) × (first ≤ from + 1) }
     ensures { EdgesRead bytes.now from first n result table.new }
 {
@@ -142,30 +126,25 @@ pub fn read_edges(bytes: &[u8], from: usize, first: usize, n: usize, table: &mut
     let mut count = 0;
     // at grows with every line, and no line stands past the end of bytes, so the loop ends.
     loop {
-        let took = take_line(bytes, at, n, table);
-        match took {
-            Step::Comment(next) => {
+        match take_line(bytes, at, n, table) {
+            Ok(Step::Comment(next)) => at = next,
+            Ok(Step::New(next)) => {
                 at = next;
-                line += 1;
-            }
-            Step::New(next) => {
-                at = next;
-                line += 1;
                 lines += 1;
                 count += 1;
             }
-            Step::Old(next) => {
+            Ok(Step::Old(next)) => {
                 at = next;
-                line += 1;
                 lines += 1;
             }
-            Step::Done => {
-                return Edges::Counted(Count {
+            Ok(Step::Done) => {
+                return Ok(Count {
                     lines,
                     edges: count,
                 });
             }
-            Step::Refused(cause) => return Edges::Refused(refusals::because(cause, line)),
+            Err(cause) => return Err(refusals::because(cause, line)),
         }
+        line += 1;
     }
 }

@@ -1,19 +1,12 @@
 -- `edge_lines::take_any` meets its contract: each answer is the case of the line that stands at the offset. Assumes nothing.
-use mathlib.Core.Path.{refl}
 use Rattle.edge_lines.specs.Stepped.{step_comment, step_problem, step_formless}
 use Rattle.edge_lines.proofs.take_any.Goals as goal
 
-pub returns-in-Comment : goal.returns-in-Comment
-returns-in-Comment c = step_comment c.in-Comment.ensures
+pub returns-in-Some-Comment : goal.returns-in-Some-Comment
+returns-in-Some-Comment c = step_comment (rw c.in-Some-Comment.field-0-is at c.in-Some-Comment.ensures)
 
-pub returns-in-Problem : goal.returns-in-Problem
-returns-in-Problem c = step_problem c.in-Problem.ensures
+pub returns-in-Some-Problem : goal.returns-in-Some-Problem
+returns-in-Some-Problem c = step_problem (rw c.in-Some-Problem.field-0-is at c.in-Some-Problem.ensures)
 
-pub returns-in-Edge : goal.returns-in-Edge
-returns-in-Edge c = c.take_edge.ensures _ _ c.in-Edge.ensures
-
-pub returns-in-Formless : goal.returns-in-Formless
-returns-in-Formless c = step_formless c.in-Formless.ensures
-
-pub returns-in-Nothing : goal.returns-in-Nothing
-returns-in-Nothing c = record { ends = c.in-Nothing.ensures; kept = refl }
+pub returns-in-Some-Formless : goal.returns-in-Some-Formless
+returns-in-Some-Formless c = step_formless (rw c.in-Some-Formless.field-0-is at c.in-Some-Formless.ensures)
