@@ -11,7 +11,7 @@ ghost use Rattle.refusals.specs.Meaning.{ruling_of};
 ghost use Rattle.calls.specs.Meaning.{call_is, answer_of};
 
 use calls::{Answer, Call};
-use refusals::Ruling;
+use refusals::Refusal;
 
 // The number of vertices, and the number of pairs made.
 #[derive(Clone, Copy)]
@@ -31,7 +31,7 @@ pub struct Returned {
 #[derive(Clone, Copy)]
 pub struct Shown {
     pub session: Session,
-    pub ruling: Ruling,
+    pub ruling: Result<(), Refusal>,
 }
 
 impl Session {
@@ -51,34 +51,32 @@ impl Session {
             adjacency.now weights.now inverse.new sequence.new kept.now in
             Handles modulus_prime before (call_is call) (answer_of result.answer) after }
     {
-        let n = self.size;
-        let made = self.made;
         let mut marks = [0u8; 96];
-        let ruling = soundness::confirm(
-            n, made, adjacency, weights, inverse, sequence, kept, &mut marks,
-        );
-        if let Ruling::Refused(refusal) = ruling {
-            return Returned {
+        match soundness::confirm(
+            self.size, self.made, adjacency, weights, inverse, sequence, kept, &mut marks,
+        ) {
+            Ok(graph) => {
+                let reply = calls::make(
+                    call,
+                    graph,
+                    self.made,
+                    inverse,
+                    sequence,
+                    &mut marks[..self.size],
+                );
+                Returned {
+                    session: Session {
+                        size: self.size,
+                        made: reply.made,
+                    },
+                    answer: reply.answer,
+                }
+            }
+            Err(refusal) => Returned {
                 session: self,
-                answer: Answer::Denied(refusal),
-            };
+                answer: Err(refusal),
+            },
         }
-        let reply = calls::make(
-            call,
-            n,
-            made,
-            adjacency,
-            weights,
-            inverse,
-            sequence,
-            &mut marks[..n],
-        );
-        let session = Session {
-            size: n,
-            made: reply.made,
-        };
-        let answer = reply.answer;
-        Returned { session, answer }
     }
 
     // Picks a and b.
@@ -165,11 +163,10 @@ impl Session {
             ShowsRow modulus_prime before a row.old (ruling_of result.ruling) after row.new }
     {
         let n = self.size;
-        let made = self.made;
         let mut marks = [0u8; 96];
-        let sound = soundness::confirm_row(
+        let ruling = match soundness::confirm_row(
             n,
-            made,
+            self.made,
             adjacency,
             weights,
             inverse,
@@ -177,14 +174,10 @@ impl Session {
             kept,
             row.len(),
             &mut marks,
-        );
-        if let Ruling::Refused(refusal) = sound {
-            return Shown {
-                session: self,
-                ruling: Ruling::Refused(refusal),
-            };
-        }
-        let ruling = partners::row(n, adjacency, inverse, &marks[..n], a, &mut row[..n]);
+        ) {
+            Ok(_) => partners::row(n, adjacency, inverse, &marks[..n], a, &mut row[..n]),
+            Err(refusal) => Err(refusal),
+        };
         Shown {
             session: self,
             ruling,
