@@ -11,8 +11,8 @@ ghost use Rattle.matching.specs.Dimacs.{FillsText};
 ghost use Rattle.filling.specs.Meaning.{read_of};
 ghost use Rattle.dimacs.specs.Continued.{Continues};
 
-use edge_lines::{Edges, Start};
-use filling::Read;
+use filling::Extent;
+use refusals::{Cause, Refusal};
 
 // Reads the lines of bytes from offset next on, which follow a `p` line of n vertices and announced `e` lines, into table, where every cell
 // is 0 before, and writes the graph. line is the number of the line at next.
@@ -26,21 +26,16 @@ fn read_over(
     table: &mut [u8],
     adjacency: &mut [u8],
     weights: &mut [u16],
-) -> Read
+) -> Result<Extent, Refusal>
     requires { Square n table.old × (table.old ≡ cells n []) × (line ≤ next + 1) }
     ensures { Continues first_edition bytes.now next line n announced seed adjacency.old weights.old (read_of result)
         adjacency.new weights.new }
 {
-    let edges = edge_lines::read_edges(bytes, next, line, n, table);
-    match edges {
-        Edges::Refused(why) => Read::Refused(why),
-        Edges::Counted(count) => {
-            if count.lines != announced {
-                return Read::Refused(refusals::because(17, 0));
-            }
-            filling::write_graph(n, seed, count.edges, table, adjacency, weights)
-        }
+    let count = edge_lines::read_edges(bytes, next, line, n, table)?;
+    if count.lines != announced {
+        return Err(refusals::because(Cause::LineCountWrong, 0));
     }
+    filling::write_graph(n, seed, count.edges, table, adjacency, weights)
 }
 
 // Calls read_over with a table of its own: adjacency may be too short, and stays as it is if the text is refused.
@@ -53,7 +48,7 @@ fn read_rest(
     seed: u32,
     adjacency: &mut [u8],
     weights: &mut [u16],
-) -> Read
+) -> Result<Extent, Refusal>
     requires { (n ≤ largest) × (line ≤ next + 1) }
     ensures { Continues first_edition bytes.now next line n announced seed adjacency.old weights.old (read_of result)
         adjacency.new weights.new }
@@ -76,22 +71,24 @@ fn read_rest(
 
 // Reads bytes, a whole text. A graph fills the first cells of adjacency, and the draws of seed the first of weights; a refusal leaves both
 // as they were.
-pub fn read(bytes: &[u8], seed: u32, adjacency: &mut [u8], weights: &mut [u16]) -> Read
+pub fn read(
+    bytes: &[u8],
+    seed: u32,
+    adjacency: &mut [u8],
+    weights: &mut [u16],
+) -> Result<Extent, Refusal>
     ensures { FillsText first_edition seed bytes.now adjacency.old weights.old (read_of result)
         adjacency.new weights.new }
 {
-    let start = edge_lines::read_head(bytes);
-    match start {
-        Start::Refused(why) => Read::Refused(why),
-        Start::Headed(h) => read_rest(
-            bytes,
-            h.next,
-            h.line,
-            h.size,
-            h.announced,
-            seed,
-            adjacency,
-            weights,
-        ),
-    }
+    let head = edge_lines::read_head(bytes)?;
+    read_rest(
+        bytes,
+        head.next,
+        head.line,
+        head.size,
+        head.announced,
+        seed,
+        adjacency,
+        weights,
+    )
 }
