@@ -11,7 +11,7 @@ ghost use Rattle.call_list.specs.List.{Unknown};
 use calls::Call;
 use refusals::{Cause, Refusal};
 
-// Finds the first whole call whose call-kind is unknown.
+// Finds the first whole call whose call-kind, its first number, is unknown.
 fn first_unknown(list: &[u64]) -> Option<usize>
     ensures { Finds (call_count list.now) (Unknown list.now) result }
 {
