@@ -4,44 +4,40 @@
 ghost use Rattle.residue.specs.Modulus.{modulus};
 ghost use Rattle.matching.specs.Graph.{over};
 ghost use Rattle.matching.specs.Opening.{players, Opens, OpenedExactly};
+ghost use Rattle.graph.specs.Meaning.{graph_of};
 ghost use Rattle.opening.specs.Meaning.{opening_of, buffers};
 ghost use Rattle.opening.specs.OpeningState.{OpeningReady, Begun};
 
-use exchange::Outcome;
-use refusals::{Refusal, Ruling};
+use graph::Graph;
+use refusals::Refusal;
 use session::Session;
 
-// What opening answers: a session with no pairs, the first dependent column, or a refusal.
+// What opening answers on a graph that is in order: a session with no pairs, or the first dependent column.
 #[derive(Clone, Copy)]
 pub enum Opening {
     Opened(Session),
     Singular(usize),
-    Refused(Refusal),
 }
 
 // Opens a session on a graph that has been checked. Writes the inverse for the kept vertices, and the witness if not all are kept. The caller
-// zeroes the witness if all are kept, and the inverse if not.
+// zeroes the witness if all are kept, and the inverse if not. Returns the first dependent column, if any.
 fn begin_accepted(
-    n: usize,
-    adjacency: &[u8],
-    weights: &[u16],
+    graph: Graph,
     inverse: &mut [u16],
     sequence: &mut [u8],
     witness: &mut [u16],
-) -> Outcome
-    requires { OpeningReady n adjacency.now weights.now inverse.old sequence.old witness.old }
-    ensures { let g = over n adjacency.now weights.now in
-        Begun g inverse.old sequence.old witness.old result
+) -> Option<usize>
+    requires { OpeningReady graph.size inverse.old sequence.old witness.old }
+    ensures { Begun (graph_of graph.entry) inverse.old sequence.old witness.old result
         inverse.new sequence.new witness.new }
 {
+    let n = graph.size;
+    let cells = n * n;
     // All vertices are in the set.
     let mut all = [1u8; 96];
-    let cells = n * n;
-    buffers::fill_bytes(sequence, n, 255);
+    buffers::fill(sequence, n, 255);
     solve::solve(
-        n,
-        adjacency,
-        weights,
+        graph,
         &mut all[..n],
         &mut inverse[..cells],
         &mut witness[..n],
@@ -57,7 +53,7 @@ pub fn begin(
     sequence: &mut [u8],
     witness: &mut [u16],
     work: &mut [u16],
-) -> Opening
+) -> Result<Opening, Refusal>
     ensures opens { let lent = buffers inverse.old sequence.old witness.old work.old in
         let g = over n adjacency.now weights.now in
         let after = buffers inverse.new sequence.new witness.new work.new in
@@ -66,7 +62,7 @@ pub fn begin(
         let g = over n adjacency.now weights.now in
         OpenedExactly modulus g (players n lent) lent (opening_of result) }
 {
-    let ruling = checks::judge_opening(
+    let graph = checks::judge_opening(
         n,
         adjacency,
         weights,
@@ -74,21 +70,17 @@ pub fn begin(
         sequence.len(),
         witness.len(),
         work.len(),
-    );
-    if let Ruling::Refused(refusal) = ruling {
-        return Opening::Refused(refusal);
-    }
+    )?;
     let cells = n * n;
-    buffers::fill_words(work, cells, 0);
-    let outcome = begin_accepted(n, adjacency, weights, inverse, sequence, witness);
-    match outcome {
-        Outcome::Inverse => {
-            buffers::fill_words(witness, n, 0);
-            Opening::Opened(Session { size: n, made: 0 })
+    buffers::fill(work, cells, 0);
+    match begin_accepted(graph, inverse, sequence, witness) {
+        None => {
+            buffers::fill(witness, n, 0);
+            Ok(Opening::Opened(Session { size: n, made: 0 }))
         }
-        Outcome::Column(f) => {
-            buffers::fill_words(inverse, cells, 0);
-            Opening::Singular(f)
+        Some(f) => {
+            buffers::fill(inverse, cells, 0);
+            Ok(Opening::Singular(f))
         }
     }
 }

@@ -2,53 +2,53 @@
 -- Assumes nothing.
 use mathlib.Core.Path.{refl, sym}
 use native.Mathlib.Omega.{arith}
+use Rattle.std.proofs.lemmas.Result.{err_from_is_err_and}
 use Rattle.lists.specs.Table.{square_small}
 use Rattle.residue.specs.Modulus.{modulus, modulus_prime}
 use Rattle.matching.specs.Graph.{over}
 use Rattle.matching.specs.Pairs.{everything}
 use Rattle.matching.specs.Opening.{Opens, refuses_opening}
 use Rattle.laws.specs.OpeningOutcome.{opened_exactly}
+use Rattle.checks.specs.Meaning.{lent_graph}
 use Rattle.opening.specs.Meaning.{buffers}
 use Rattle.opening.specs.OpeningState.{ready, begun_whole}
 use Rattle.opening.proofs.begin.Goals as goal
 
-pub returns-in-Refused : goal.returns-in-Refused
-returns-in-Refused c =
+pub returns-in_err-graph : goal.returns-in_err-graph
+returns-in_err-graph c =
     let a = c.args in
     let g = over a.n a.adjacency.now a.weights.now in
     let b = buffers a.inverse.now a.sequence.now a.witness.now a.work.now in
-    let o : Opens modulus g everything b _ b = refuses_opening _ (sym c.in-Refused.ensures) in
-    record { opens = o; exactly = opened_exactly modulus_prime g everything o }
+    let o : Opens modulus g everything b _ b = refuses_opening _ (sym c.in_err-graph.ensures.ruling) in
+    let p = err_from_is_err_and c.from_residual.result c.from_residual.ensures.1 in
+    rw (p.1, p.2) (record { opens = o; exactly = opened_exactly modulus_prime g everything o })
 
 pub overflow_mul-cells : goal.overflow_mul-cells
 overflow_mul-cells c =
-    let fits = ready _ _ _ _ _ _ _ (sym c.in_default.ensures) in
-    record { fits = omega (arith, square_small _ fits.0.lent.size) }
+    record { fits = omega (arith, square_small c.args.n (rw c.in_ok-graph.ensures.lent.size at c.in_ok-graph.graph.complete.size)) }
 
-pub fill_words-requires : goal.fill_words-requires
-fill_words-requires c = (ready _ _ _ _ _ _ _ (sym c.in_default.ensures)).1
+pub fill-requires : goal.fill-requires
+fill-requires c = (ready _ _ _ _ _ _ _ (sym c.in_ok-graph.ensures.ruling)).1
 
-pub begin_accepted-outcome-requires : goal.begin_accepted-outcome-requires
-begin_accepted-outcome-requires c = (ready _ _ _ _ _ _ _ (sym c.in_default.ensures)).0
+pub begin_accepted-requires : goal.begin_accepted-requires
+begin_accepted-requires c = rw c.in_ok-graph.ensures.lent.size (ready _ _ _ _ _ _ _ (sym c.in_ok-graph.ensures.ruling)).0
 
-pub fill_words-requires-in-Inverse : goal.fill_words-requires-in-Inverse
-fill_words-requires-in-Inverse c =
-    let fits = ready _ _ _ _ _ _ _ (sym c.in_default.ensures) in
-    omega (arith, fits.0.witness_fits, c.begin_accepted-outcome.auto.witness)
+pub fill-requires-in-None : goal.fill-requires-in-None
+fill-requires-in-None c = omega (arith, (ready _ _ _ _ _ _ _ (sym c.in_ok-graph.ensures.ruling)).0.witness_fits, c.begin_accepted.auto.witness)
 
-pub fill_words-requires-in-Column : goal.fill_words-requires-in-Column
-fill_words-requires-in-Column c =
-    let fits = ready _ _ _ _ _ _ _ (sym c.in_default.ensures) in
-    omega (arith, fits.0.inverse_fits, c.begin_accepted-outcome.auto.inverse)
+pub fill-requires-in-Some : goal.fill-requires-in-Some
+fill-requires-in-Some c = omega (arith, (ready _ _ _ _ _ _ _ (sym c.in_ok-graph.ensures.ruling)).0.inverse_fits, c.begin_accepted.auto.inverse)
 
 -- the inverse is found and the witness cleared
-pub returns-in-Inverse : goal.returns-in-Inverse
-returns-in-Inverse c =
-    let o = begun_whole c.in-Inverse.ensures (refl, c.fill_words-in-Inverse.ensures) c.fill_words.ensures (sym c.in_default.ensures) in
+pub returns-in-None : goal.returns-in-None
+returns-in-None c =
+    let B = rw (lent_graph c.in_ok-graph.ensures.lent) at c.in-None.ensures in
+    let o = begun_whole B (refl, c.fill-in-None.ensures) c.fill.ensures (sym c.in_ok-graph.ensures.ruling) in
     record { opens = o; exactly = opened_exactly modulus_prime _ everything o }
 
 -- the witness is found and the inverse cleared
-pub returns-in-Column : goal.returns-in-Column
-returns-in-Column c =
-    let o = begun_whole c.in-Column.ensures (c.fill_words-in-Column.ensures, refl) c.fill_words.ensures (sym c.in_default.ensures) in
+pub returns-in-Some : goal.returns-in-Some
+returns-in-Some c =
+    let B = rw (lent_graph c.in_ok-graph.ensures.lent) at c.in-Some.ensures in
+    let o = begun_whole B (c.fill-in-Some.ensures, refl) c.fill.ensures (sym c.in_ok-graph.ensures.ruling) in
     record { opens = o; exactly = opened_exactly modulus_prime _ everything o }
