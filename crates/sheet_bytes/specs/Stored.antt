@@ -1,6 +1,6 @@
 -- Weights that a reader has left in words of its own, at most those that the largest graph needs, stored as the host's bytes. Assumes
 -- nothing.
-use Rattle.std.specs.Prelude.{◌≡◌, refl, List, ℕ, ◌*◌, ◌/◌, ◌≤◌, ◌<◌, take, drop}
+use Rattle.std.specs.Prelude.{◌≡◌, refl, List, ℕ, ◌*◌, ◌/◌, ◌≤◌, ◌<◌, min, take, drop}
 use Rattle.std.proofs.Common.{sym, ◌∙◌, arith, length-append}
 use Rattle.std.proofs.Math.Decide.{dec_lt}
 use Rattle.std.proofs.Math.ListN.{length}
@@ -27,11 +27,9 @@ pub record StoreRoom (values weights : List ℕ) : Type 0 where
   pub within : length values ≤ length (words 2 weights)
   pub enough : (k : ℕ) → k ≤ 4560 → k ≤ length (words 2 weights) → k ≤ length values
 
-pub room_part : {values : List ℕ} (weights : List ℕ) → length weights / 2 < 4560 → length values ≡ length weights / 2 → StoreRoom values weights
-room_part weights l e = let half = words_length 2 weights in record { within = omega (arith, half); enough = λ k _ h. omega (arith, half) }
-
-pub room_whole : {values : List ℕ} (weights : List ℕ) → 4560 ≤ length weights / 2 → length values ≡ 4560 → StoreRoom values weights
-room_whole weights l e = record { within = omega (arith, words_length 2 weights); enough = λ k h _. omega arith }
+pub room_serves : {values : List ℕ} (weights : List ℕ) → length values ≡ min (length weights / 2) 4560 → StoreRoom values weights
+room_serves weights e =
+    record { within = omega (arith, words_length 2 weights); enough = λ k h l. omega (arith, words_length 2 weights) }
 
 -- what was filled over words, through the host
 pub record Stored (n : ℕ) (drawn : List ℕ) (edges : List Pair) (adjacency weights : List ℕ) (given : Read) (adjacency' weights' : List ℕ) : Type 0 where
