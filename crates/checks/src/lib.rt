@@ -8,13 +8,13 @@ ghost use Rattle.matching.specs.Decision.{judge, Every};
 ghost use Rattle.matching.specs.Graph.{largest, pair_count, over};
 ghost use Rattle.matching.specs.Causes.{lent_always, lent_besides, lent_kept, first_short, opening_causes, opening_ruling};
 ghost use Rattle.matching.specs.Causes.{too_large, too_short, bad_cell, bad_weight};
-ghost use Rattle.refusals.specs.Meaning.{fault_number, finding_of, ruling_of, Finds};
+ghost use Rattle.refusals.specs.Meaning.{buffer_of, fault_number, finding_of, ruling_of, Finds};
 ghost use Rattle.graph.specs.Meaning.{graph_of};
 ghost use Rattle.checks.specs.Weights.{needed};
 ghost use Rattle.checks.specs.Meaning.{InRow, Lent, Located};
 
 use graph::Graph;
-use refusals::{Cause, Fault, FaultyCell, Refusal};
+use refusals::{Buffer, Cause, Fault, FaultyCell, Refusal};
 use residue::Residue;
 
 // The most vertices that a graph may have.
@@ -44,24 +44,23 @@ pub fn weights_needed(n: usize) -> usize
     if LARGEST < n { 0 } else { pair_count(n) }
 }
 
-// Finds the first buffer that is too short for n vertices, of those that opening and every session call are lent: 1 adjacency, 2 weights, 3
-// inverse, 4 sequence.
-fn first_short(n: usize, lengths: Lengths) -> Option<usize>
+// Finds the first buffer that is too short for n vertices, of those that opening and every session call are lent.
+fn first_short(n: usize, lengths: Lengths) -> Option<Buffer>
     requires { n ≤ largest }
-    ensures { finding_of result ≡ first_short (lent_always n lengths.adjacency lengths.weights lengths.inverse lengths.sequence) }
+    ensures { buffer_of result ≡ first_short (lent_always n lengths.adjacency lengths.weights lengths.inverse lengths.sequence) }
 {
     let cells = n * n;
     if lengths.adjacency < cells {
-        return Some(1);
+        return Some(Buffer::Adjacency);
     }
     if lengths.weights < pair_count(n) {
-        return Some(2);
+        return Some(Buffer::Weights);
     }
     if lengths.inverse < cells {
-        return Some(3);
+        return Some(Buffer::Inverse);
     }
     if lengths.sequence < n {
-        return Some(4);
+        return Some(Buffer::Sequence);
     }
     None
 }
@@ -75,7 +74,7 @@ pub fn judge_lengths(n: usize, lengths: Lengths) -> Result<(), Refusal>
     }
     match first_short(n, lengths) {
         None => Ok(()),
-        Some(buffer) => Err(refusals::because(Cause::BufferTooShort, buffer)),
+        Some(buffer) => Err(refusals::too_short(buffer)),
     }
 }
 
@@ -187,10 +186,10 @@ fn judge_besides(n: usize, witness: usize, work: usize) -> Result<(), Refusal>
     ensures { ruling_of result ≡ judge (too_short (lent_besides n witness work) ∷ []) }
 {
     if witness < n {
-        return Err(refusals::because(Cause::BufferTooShort, 5));
+        return Err(refusals::too_short(Buffer::Witness));
     }
     if work < n * n {
-        return Err(refusals::because(Cause::BufferTooShort, 6));
+        return Err(refusals::too_short(Buffer::Work));
     }
     Ok(())
 }
@@ -227,7 +226,7 @@ pub fn judge_session<'a>(
     };
     judge_lengths(n, lengths)?;
     if kept < n {
-        return Err(refusals::because(Cause::BufferTooShort, 8));
+        return Err(refusals::too_short(Buffer::Kept));
     }
     let graph = Graph {
         size: n,

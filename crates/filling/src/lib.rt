@@ -7,7 +7,7 @@ ghost use Rattle.filling.specs.Marked.{Marked};
 ghost use Rattle.filling.specs.Meaning.{read_of};
 ghost use Rattle.filling.specs.Written.{Writes};
 
-use refusals::{Cause, Refusal};
+use refusals::{Buffer, Refusal};
 
 // The number of vertices of a graph, and of its edges.
 #[derive(Clone, Copy)]
@@ -57,11 +57,11 @@ pub fn write_graph(
 {
     let cells = n * n;
     if adjacency.len() < cells {
-        return Err(refusals::because(Cause::BufferTooShort, 1));
+        return Err(refusals::too_short(Buffer::Adjacency));
     }
     let pairs = checks::weights_needed(n);
     if weights.len() < pairs {
-        return Err(refusals::because(Cause::BufferTooShort, 2));
+        return Err(refusals::too_short(Buffer::Weights));
     }
     adjacency[..cells].copy_from_slice(table);
     draws::fill(&mut weights[..pairs], seed);

@@ -1,9 +1,11 @@
--- Causes, places, refusals and what the checks answer, in the terms of the definitions: what the contracts of `src/` cite. Assumes nothing.
+-- Causes, buffers, places, refusals and what the checks answer, in the terms of the definitions: what the contracts of `src/` cite. Assumes nothing.
 use Rattle.std.specs.Prelude.{ℕ, Option, None, Some, Result, Ok, Err}
 use Rattle.matching.specs.Decision as decision
 use Rattle.matching.specs.Decision.{Every, Lowest, index, faulty_cell, absent, at, accepted, refused}
 use Rattle.refusals.specs.declared.Cause.{Cause}
 use Rattle.refusals.specs.declared.Cause.TheVariants as cause
+use Rattle.refusals.specs.declared.Buffer.{Buffer}
+use Rattle.refusals.specs.declared.Buffer.TheVariants as buffer
 use Rattle.refusals.specs.declared.Fault.{Fault}
 use Rattle.refusals.specs.declared.Fault.TheVariants.{NotBit, OnDiagonal, Unequal}
 use Rattle.refusals.specs.declared.Place.{Place}
@@ -29,6 +31,17 @@ cause_number cause.EdgeRepeated = 15
 cause_number cause.LineInvalid = 16
 cause_number cause.LineCountWrong = 17
 
+abbrev pub buffer_number : Buffer → ℕ
+buffer_number buffer.Adjacency = 1
+buffer_number buffer.Weights = 2
+buffer_number buffer.Inverse = 3
+buffer_number buffer.Sequence = 4
+buffer_number buffer.Witness = 5
+buffer_number buffer.Work = 6
+buffer_number buffer.Row = 7
+buffer_number buffer.Kept = 8
+buffer_number buffer.Answers = 10
+
 abbrev pub fault_number : Fault → ℕ
 fault_number NotBit = 1
 fault_number OnDiagonal = 2
@@ -49,6 +62,10 @@ ruling_of (Err r) = refused (refusal_of r)
 abbrev pub finding_of : Option ℕ → decision.Finding
 finding_of None = absent
 finding_of (Some x) = at (index x)
+
+abbrev pub buffer_of : Option Buffer → decision.Finding
+buffer_of None = absent
+buffer_of (Some b) = at (index (buffer_number b))
 
 -- the lowest number below n with a property, or none
 abbrev pub Finds : ℕ → (ℕ → Type 0) → Option ℕ → Type 0

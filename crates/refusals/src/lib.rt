@@ -3,7 +3,7 @@
 
 ghost use Rattle.std.specs.Prelude.{◌≡◌};
 ghost use Rattle.matching.specs.Decision.{place_number, because, because_cell};
-ghost use Rattle.refusals.specs.Meaning.{cause_number, fault_number, place_of, refusal_of};
+ghost use Rattle.refusals.specs.Meaning.{cause_number, buffer_number, fault_number, place_of, refusal_of};
 
 // The causes, in the order in which they are looked for. docs/HOST.md has what each means; of 12 and 13, what each means of a sheet, and of a
 // list of calls.
@@ -32,6 +32,29 @@ impl Cause {
     // Returns the number of the cause.
     pub fn number(self) -> u8
         ensures { result ≡ cause_number self }
+    {
+        self as u8
+    }
+}
+
+// The buffers that a call is lent. 9 is the number of none.
+#[derive(Clone, Copy)]
+pub enum Buffer {
+    Adjacency = 1,
+    Weights = 2,
+    Inverse = 3,
+    Sequence = 4,
+    Witness = 5,
+    Work = 6,
+    Row = 7,
+    Kept = 8,
+    Answers = 10,
+}
+
+impl Buffer {
+    // Returns the number of the buffer.
+    pub fn number(self) -> u8
+        ensures { result ≡ buffer_number self }
     {
         self as u8
     }
@@ -84,6 +107,13 @@ pub fn because(cause: Cause, index: usize) -> Refusal
         cause,
         place: Place::Index(index),
     }
+}
+
+// Returns the refusal for a buffer that is too short.
+pub fn too_short(buffer: Buffer) -> Refusal
+    ensures { refusal_of result ≡ because 2 (buffer_number buffer) }
+{
+    because(Cause::BufferTooShort, buffer.number() as usize)
 }
 
 // Returns the refusal for a faulty cell, the only cause whose place is one.

@@ -11,7 +11,7 @@ ghost use Rattle.soundness.specs.Besides.{ConfirmedLent};
 
 use checks::Lengths;
 use graph::Graph;
-use refusals::{Cause, Refusal};
+use refusals::{Buffer, Cause, Refusal};
 
 // Judges causes 5 and 6, if none of 1 to 4 applies. If neither applies, the marks are those of the unmatched vertices.
 fn confirm_rest(
@@ -89,7 +89,7 @@ pub fn confirm_row<'a>(
     };
     checks::judge_lengths(n, lengths)?;
     if row < n {
-        return Err(refusals::because(Cause::BufferTooShort, 7));
+        return Err(refusals::too_short(Buffer::Row));
     }
     confirm(n, made, adjacency, weights, inverse, sequence, kept, marks)
 }
@@ -121,10 +121,10 @@ pub fn confirm_answers<'a>(
     };
     checks::judge_lengths(n, lengths)?;
     if kept.len() < n {
-        return Err(refusals::because(Cause::BufferTooShort, 8));
+        return Err(refusals::too_short(Buffer::Kept));
     }
     if answers < count {
-        return Err(refusals::because(Cause::BufferTooShort, 10));
+        return Err(refusals::too_short(Buffer::Answers));
     }
     confirm(n, made, adjacency, weights, inverse, sequence, kept, marks)
 }

@@ -8,11 +8,11 @@ use Rattle.filling.specs.Written.{lacks_adjacency, lacks_weights, written}
 use Rattle.filling.proofs.write_graph.Goals as goal
 
 pub returns-then-adjacency-cells : goal.returns-then-adjacency-cells
-returns-then-adjacency-cells c = rw c.because.ensures (lacks_adjacency first_edition _ _ c.if-adjacency-cells.true)
+returns-then-adjacency-cells c = rw c.too_short.ensures (lacks_adjacency first_edition _ _ c.if-adjacency-cells.true)
 
 pub returns-then-weights-pairs : goal.returns-then-weights-pairs
 returns-then-weights-pairs c =
-    rw c.because-then-weights-pairs.ensures
+    rw c.too_short-then-weights-pairs.ensures
     (lacks_weights first_edition _ _ c.if-adjacency-cells.false (rw (c.weights_needed-pairs.ensures ∙ needed_all c.args.n c.requires.small) at c.if-weights-pairs.true))
 
 pub returns : goal.returns
