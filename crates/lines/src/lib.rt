@@ -32,6 +32,9 @@ pub enum Line {
     Formless,
 }
 
+// The code of the digit 0.
+const ZERO: usize = b'0' as usize;
+
 // Returns value with one digit more, and the largest number if that would pass it.
 fn appended(value: usize, digit: u8) -> usize
     requires { Digit digit }
@@ -39,7 +42,7 @@ fn appended(value: usize, digit: u8) -> usize
 {
     value
         .saturating_mul(10)
-        .saturating_add(usize::from(digit - b'0'))
+        .saturating_add(usize::from(digit) - ZERO)
 }
 
 // Reads the digits of bytes from offset from on, any number of them, up to the byte end. They follow digits that come to before, and value
@@ -74,7 +77,7 @@ fn field_at(bytes: &[u8], at: usize, end: u8) -> Option<Number>
     if !c.is_ascii_digit() {
         return None;
     }
-    digits_at(bytes, at + 1, usize::from(c - b'0'), end)
+    digits_at(bytes, at + 1, usize::from(c) - ZERO, end)
 }
 
 // Reads the field at offset at of bytes if it has one or two digits. None does not say that no longer one stands there.
@@ -89,7 +92,7 @@ fn short_at(bytes: &[u8], at: usize, end: u8) -> Option<Number>
     let d = bytes[at + 1];
     if d == end {
         return Some(Number {
-            value: usize::from(c - b'0'),
+            value: usize::from(c) - ZERO,
             next: at + 2,
         });
     }
@@ -97,7 +100,7 @@ fn short_at(bytes: &[u8], at: usize, end: u8) -> Option<Number>
         return None;
     }
     Some(Number {
-        value: 10 * usize::from(c - b'0') + usize::from(d - b'0'),
+        value: 10 * (usize::from(c) - ZERO) + (usize::from(d) - ZERO),
         next: at + 3,
     })
 }
