@@ -1,10 +1,13 @@
 -- What is due after each progress, and what is found there. The contracts of `src/` cite it. Assumes nothing.
-use Rattle.std.specs.Prelude.{Result, Ok, Err, Bool, true, false, List, ℕ, length}
+use Rattle.std.specs.Prelude.{◌≡◌, refl, ◌≢◌, Result, Ok, Err, Bool, true, false, List, ℕ, length, eqb}
+use Rattle.std.proofs.Common.{eqb-true}
+use Rattle.std.proofs.lemmas.Bool.{eqb-false}
 use Rattle.matching.specs.Decision.{Refusal, because}
 use Rattle.matching.specs.Edition.{Edition}
 use Rattle.matching.specs.Pairs.{Pair}
 use Rattle.matching.specs.Records as paper
 use Rattle.matching.specs.Records.{Progress, start, sized, weighted, size_due, seed_due, share_due, end_due, unread}
+use Rattle.matching.specs.Computed.{only_size, only_seed, only_edges}
 use Rattle.refusals.specs.Meaning.{refusal_of}
 use Rattle.records.specs.Stands.{kind_number, Stands}
 use Rattle.records.specs.declared.Next.TheVariants as next
@@ -13,7 +16,6 @@ use Rattle.due.specs.declared.Due.{Due}
 use Rattle.due.specs.declared.Due.TheVariants.{Size, Seed, Edges}
 use Rattle.records.specs.declared.Record.{Record}
 use Rattle.records.specs.declared.Kind.{Kind}
-use Rattle.records.specs.declared.Kind.TheVariants as kinds
 use Rattle.refusals.specs.declared.Refusal as code
 
 -- the case of what is due after a progress; document 01's `Due` alone says which record-kinds a case admits
@@ -28,8 +30,8 @@ Says A true = A
 Says A false = ¬ A
 
 -- whether a record-kind is due after every progress of a case
-abbrev pub Admits : Due → Kind → Bool → Type 0
-Admits d k r = (q : Progress) → Awaits q d → Says (paper.Due q (kind_number k)) r
+abbrev pub Admits : Due → ℕ → Bool → Type 0
+Admits d k r = (q : Progress) → Awaits q d → Says (paper.Due q k) r
 
 -- why no whole record stands at an offset: 12 there, for a byte that is not a record-kind, and for a cut body of a record that is not due;
 -- 13 at the length, for a cut body of a record that is due, and for no byte
@@ -44,18 +46,26 @@ abbrev pub FoundAt : List ℕ → ℕ → Due → Result Record code.Refusal →
 FoundAt bytes at d (Ok r) = Stands bytes at (next.Whole r)
 FoundAt bytes at d (Err why) = (q : Progress) → Awaits q d → Missing bytes at q (refusal_of why)
 
--- the record-kinds of each case
-pub admits_size : Admits Size kinds.Size true
-admits_size _ awaits_size = size_due
+says_equal : {A : Type 0} (k m : ℕ) → (k ≡ m → A) → (k ≢ m → ¬ A) → Says A (eqb k m)
+says_equal {A} k m f g = go (eqb k m) refl
+  where
+    go : (r : Bool) → eqb k m ≡ r → Says A r
+    go true e = f (eqb-true k m e)
+    go false e = g (eqb-false k m e)
 
-pub admits_seed : Admits Seed kinds.Seed true
-admits_seed _ awaits_seed = seed_due
+-- the record-kinds of each case, the last of which decides
+module _ (k : ℕ) where
+  pub admits_size : Admits Size k (eqb k 1)
+  admits_size _ awaits_size = says_equal k 1 (λ e. rw e size_due) only_size
 
-pub admits_share : Admits Edges kinds.Share true
-admits_share _ awaits_edges = share_due
+  pub admits_seed : Admits Seed k (eqb k 3)
+  admits_seed _ awaits_seed = says_equal k 3 (λ e. rw e seed_due) only_seed
 
-pub admits_end : Admits Edges kinds.End true
-admits_end _ awaits_edges = end_due
+  pub admits_share : k ≡ 2 → Admits Edges k true
+  admits_share e _ awaits_edges = rw e share_due
+
+  pub admits_end : k ≢ 2 → Admits Edges k (eqb k 4)
+  admits_end d _ awaits_edges = says_equal k 4 (λ e. rw e end_due) (only_edges d)
 
 -- so the sheet is refused from there on; if no byte stands there, some record-kind is due in every case
 pub missing_reads : {E : Edition} {bytes : List ℕ} {at : ℕ} {q : Progress} {d : Due} {why : Refusal} → Awaits q d → Missing bytes at q why → ReadsOn E bytes q at (unread why)

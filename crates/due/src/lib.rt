@@ -1,6 +1,7 @@
 // The record that stands at an offset of a sheet where some record-kinds are due: causes 12 and 13.
 #![tactic(auto)]
 
+ghost use Rattle.records.specs.Stands.{kind_number};
 ghost use Rattle.due.specs.Found.{Admits, FoundAt};
 
 use records::{Kind, Next, Record};
@@ -16,7 +17,7 @@ pub enum Due {
 
 // Tells whether due admits records of kind.
 fn admits(due: Due, kind: Kind) -> bool
-    ensures { Admits due kind result }
+    ensures { Admits due (kind_number kind) result }
 {
     match due {
         Due::Size => matches!(kind, Kind::Size),
