@@ -1,2 +1,2 @@
 -- Theorems on words of a reader's own that no function's proof needs.
-pub mod Stored
+pub mod Rooms
