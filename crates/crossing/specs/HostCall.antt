@@ -1,24 +1,24 @@
 -- Session calls over lent words, and through the host. Assumes nothing.
-use Rattle.std.specs.Prelude.{◌≡◌, refl, List, ℕ, ◌*◌, length, take}
+use Rattle.std.specs.Prelude.{◌≡◌, refl, List, [], ℕ, ◌*◌, ◌^◌, ◌<◌, length, take}
 use Rattle.std.proofs.Common.{sym, ap, ◌∙◌}
 use Rattle.lists.specs.Onto.{onto}
 use Rattle.residue.specs.Modulus.{modulus, modulus_prime}
-use Rattle.matching.specs.Decision.{Refusal, accepted, refused}
+use Rattle.matching.specs.Decision.{place_number, Refusal, accepted, refused}
 use Rattle.matching.specs.Edition.{first_edition}
 use Rattle.matching.specs.Graph.{over}
 use Rattle.matching.specs.Pairs.{pairs_on}
 use Rattle.matching.specs.Session.{in_play, State, with_pairs, state}
 use Rattle.matching.specs.Causes.{session_ruling}
-use Rattle.matching.specs.Model.{Call, Answer, done, denied, step}
+use Rattle.matching.specs.Model.{Call, automatic, Answer, done, denied, step}
 use Rattle.matching.specs.Calls.{Handles, unsound, refuses, carries}
 use Rattle.matching.specs.Host.{words, Bytes, bytes_of, answer_number, unpacked_state, HostHandles, handed_back}
 use Rattle.laws.specs.Sound.{session_accepted}
-use Rattle.laws.specs.Numbers.{host_session}
+use Rattle.laws.specs.Numbers.{place_below, handles_small, host_session}
 use Rattle.laws.specs.Words.{stored_front}
 use Rattle.crossing.specs.Same.{table_same}
 use Rattle.crossing.specs.Needed.{needed_weights, needed_agree}
 use Rattle.crossing.specs.Steps.{step_same}
-use Rattle.crossing.specs.HostFits.{HostFits, needed_inverse, needed_state, table_length, ruling_same}
+use Rattle.crossing.specs.HostFits.{room_for, room_refused, HostFits, needed_inverse, needed_state, table_length, ruling_same}
 
 -- the first `size` words of a table, stored over bytes if the answer is a pair
 abbrev pub stored : Answer → ℕ → (table bytes : List ℕ) → List ℕ
@@ -39,6 +39,14 @@ module _ {s left : State} {c : Call} {a : Answer} (h : Handles modulus_prime s c
   pub answers : {given : Answer} {answer : ℕ} {bytes bytes' : List ℕ} → a ≡ given → answer ≡ answer_number given left.session
       → bytes' ≡ stored given (length s.inverse) left.inverse bytes → HandlesOver s c bytes answer bytes' left.sequence
   answers {given} q n w = record { given = given; left = left; outcome = rw q at h; numbered = n; stored = w; sequence = refl }
+
+-- a refusal for the number of vertices or the lengths fits its bits of the number
+pub room_small : (n : ℕ) (adjacency weights inverse sequence : List ℕ) {r : Refusal} → refused r ≡ room_for n adjacency weights inverse sequence
+    → place_number r.place < 2 ^ 24
+room_small n adjacency weights inverse sequence e =
+    place_below
+    (handles_small modulus_prime {s = unpacked_state first_edition (state n 0 adjacency weights inverse sequence [])} {c = automatic}
+    (unsound _ (room_refused n 0 adjacency weights inverse sequence [] modulus e)))
 
 -- a call over the words that the graph needs is a call over all words of the host
 module _ (n made : ℕ) (adjacency weights inverse sequence kept : List ℕ) where

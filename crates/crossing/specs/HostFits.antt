@@ -74,13 +74,17 @@ needed_state s = record {
   kept = s.kept;
 }
 
+-- the ruling on the number of vertices and the lengths of the bytes
+abbrev pub room_for : ℕ → (adjacency weights inverse sequence : List ℕ) → Ruling
+room_for n adjacency weights inverse sequence =
+    judge (too_large n ∷ too_short (lent_always n (length adjacency) (length weights / 2) (length inverse / 2) (length sequence)) ∷ [])
+
 module _ (n made : ℕ) (adjacency weights inverse sequence kept : List ℕ) where
   abbrev s : State
   s = unpacked_state first_edition (state n made adjacency weights inverse sequence kept)
 
-  -- the ruling on the number of vertices and the lengths of the bytes
   abbrev pub room : Ruling
-  room = judge (too_large n ∷ too_short (lent_always n (length adjacency) (length weights / 2) (length inverse / 2) (length sequence)) ∷ [])
+  room = room_for n adjacency weights inverse sequence
 
   pub in_words : (p : ℕ) → lengths p s ≡ room
   in_words p = rw (words_length 2 weights, words_length 2 inverse)

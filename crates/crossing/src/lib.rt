@@ -6,13 +6,34 @@ ghost use Rattle.matching.specs.Edition.{first_edition};
 ghost use Rattle.matching.specs.Model as model;
 ghost use Rattle.matching.specs.Host.{unpacked_state, HostHandles, HostPickedExactly, handed_back};
 ghost use Rattle.matching.specs.Session.{state};
+ghost use Rattle.refusals.specs.Meaning.{ruling_of};
 ghost use Rattle.calls.specs.Meaning.{call_is};
-ghost use Rattle.crossing.specs.HostFits.{Needed, Unpacked, HostFits};
+ghost use Rattle.crossing.specs.HostFits.{room_for, Needed, Unpacked, HostFits};
 ghost use Rattle.crossing.specs.HostCall.{HandlesOver};
 
-use calls::{Answer, Call};
-use refusals::Ruling;
+use calls::Call;
+use checks::Lengths;
+use refusals::Refusal;
 use session::Session;
+
+// Judges causes 1 and 2 by n and the lengths of the host's bytes: buffers 1 to 4.
+pub fn judge_bytes(
+    n: usize,
+    adjacency: &[u8],
+    weights: &[u8],
+    inverse: &[u8],
+    sequence: &[u8],
+) -> Result<(), Refusal>
+    ensures { ruling_of result ≡ room_for n adjacency.now weights.now inverse.now sequence.now }
+{
+    let lengths = Lengths {
+        adjacency: adjacency.len(),
+        weights: weights.len() / 2,
+        inverse: inverse.len() / 2,
+        sequence: sequence.len(),
+    };
+    checks::judge_lengths(n, lengths)
+}
 
 // Makes a call over lent words, with the session as numbers, and returns the host's number. If the answer is a pair, stores the words of
 // table as the bytes of inverse.
@@ -32,31 +53,26 @@ fn call_over(
         table.old sequence.old kept.now in
         HandlesOver before (call_is call) inverse.old result inverse.new sequence.new }
 {
-    let cells = table.len();
     let session = Session { size: n, made };
     let returned = session.call(call, adjacency, weights, table, sequence, kept);
-    let after = returned.session;
-    let answer = returned.answer;
-    let number = calls::number(answer, after.made);
-    match answer {
-        Answer::Done(_) => {
-            packing::store(table, cells, inverse);
-            number
-        }
-        Answer::Denied(_) => number,
+    let number = calls::number(returned.answer, returned.session.made);
+    if returned.answer.is_ok() {
+        packing::store(table, table.len(), inverse);
     }
+    number
 }
 
 // Unpacks the words that n vertices need from weights and inverse. There is room for the largest graph: 96 * 95 / 2 weights in values, and
 // 96 * 96 words of the inverse in table.
 pub fn unpack(n: usize, weights: &[u8], inverse: &[u8], values: &mut [u16], table: &mut [u16])
-    requires { Needed n weights.now inverse.now × (length values.old ≡ 4560) × (length table.old ≡ 9216) }
+    requires needed { Needed n weights.now inverse.now }
+    requires values_room { length values.old ≡ 4560 }
+    requires table_room { length table.old ≡ 9216 }
     ensures { Unpacked n weights.now inverse.now values.new table.new }
 {
     let count = checks::weights_needed(n);
-    let cells = n * n;
     packing::unpack(weights, &mut values[..count]);
-    packing::unpack(inverse, &mut table[..cells]);
+    packing::unpack(inverse, &mut table[..n * n]);
 }
 
 // call_over, on words unpacked from the host's bytes: only those n vertices need.
@@ -80,14 +96,13 @@ fn call_words(
     let mut table = [0u16; 9216];
     unpack(n, weights, inverse, &mut values, &mut table);
     let count = checks::weights_needed(n);
-    let cells = n * n;
     call_over(
         call,
         n,
         made,
         adjacency,
         &values[..count],
-        &mut table[..cells],
+        &mut table[..n * n],
         inverse,
         sequence,
         kept,
@@ -109,17 +124,10 @@ fn handle(
         inverse.old sequence.old kept.now in
         HostHandles first_edition before (call_is call) result (handed_back before result inverse.new sequence.new) }
 {
-    let ruling = checks::judge_lengths(
-        n,
-        adjacency.len(),
-        weights.len() / 2,
-        inverse.len() / 2,
-        sequence.len(),
-    );
-    if let Ruling::Refused(refusal) = ruling {
-        return numbers::refused(refusal);
+    match judge_bytes(n, adjacency, weights, inverse, sequence) {
+        Ok(()) => call_words(call, n, made, adjacency, weights, inverse, sequence, kept),
+        Err(refusal) => numbers::refused(refusal),
     }
-    call_words(call, n, made, adjacency, weights, inverse, sequence, kept)
 }
 
 // Picks a and b through the host.
