@@ -1,2 +1,3 @@
 -- What the contracts cite, with its laws.
+pub mod Reached
 pub mod Run

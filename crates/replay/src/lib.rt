@@ -10,17 +10,19 @@ ghost use Rattle.matching.specs.Session.{state};
 ghost use Rattle.refusals.specs.Meaning.{ruling_of};
 ghost use Rattle.calls.specs.Meaning.{answer_of};
 ghost use Rattle.calls.specs.Known.{Known, KnownWith};
-ghost use Rattle.replay.specs.Run.{changed_by, changes, Ran};
+ghost use Rattle.replay.specs.Reached.{made_of, changed_of};
+ghost use Rattle.replay.specs.Run.{changed_by, changes, Ran, Outcome};
 
 use calls::Answer;
-use refusals::Ruling;
+use graph::Graph;
+use refusals::Refusal;
 use session::Session;
 
 // The session handed back, whether the calls were made, and whether one of them was accepted: if not, no buffer has changed.
 #[derive(Clone, Copy)]
 pub struct Replayed {
     pub session: Session,
-    pub ruling: Ruling,
+    pub ruling: Result<(), Refusal>,
     pub changed: bool,
 }
 
@@ -35,51 +37,88 @@ struct Reached {
 fn accepts(changed: bool, answer: Answer) -> bool
     ensures { result ≡ changed_by changed (answer_of answer) }
 {
-    match answer {
-        Answer::Done(_) => true,
-        Answer::Denied(_) => changed,
-    }
+    changed || answer.is_ok()
 }
 
 // Makes the calls of a list, one for each answer, on a session that is known to be sound. Every call keeps it so, and the answers before i
 // are those of the calls before i.
 fn run(
-    n: usize,
+    graph: Graph,
     start: usize,
-    adjacency: &[u8],
-    weights: &[u16],
     inverse: &mut [u16],
     sequence: &mut [u8],
     marks: &mut [u8],
     list: &[u64],
     answers: &mut [u64],
 ) -> Reached
-    requires known_with { KnownWith n start adjacency.now weights.now inverse.old sequence.old marks.old }
+    requires known_with { KnownWith graph.size start graph.adjacency.now graph.weights.now inverse.old sequence.old marks.old }
     requires answers_in_bounds { 3 * length answers.old ≤ length list.now }
-    ensures { (kept : List ℕ)
-        → Known n start adjacency.now weights.now inverse.old sequence.old kept marks.old
-        → Ran (state n start adjacency.now weights.now inverse.old sequence.old kept)
+    ensures { let n = graph.entry.size in
+        let adjacency = graph.entry.adjacency.now in
+        let weights = graph.entry.weights.now in
+        ((kept : List ℕ)
+        → Known n start adjacency weights inverse.old sequence.old kept marks.old
+        → Ran (state n start adjacency weights inverse.old sequence.old kept)
         list.now answers.old (length answers.old)
-        (state n result.made adjacency.now weights.now inverse.new sequence.new kept)
-        answers.new result.changed }
+        (state n result.made adjacency weights inverse.new sequence.new kept)
+        answers.new result.changed) }
 {
     let mut made = start;
     let mut changed = false;
-    let mut i = 0;
-    while i < answers.len() {
+    for (i, answer) in answers.iter_mut().enumerate() {
         let at = 3 * i;
-        let kind = list[at];
-        let a = list[at + 1] as usize;
-        let b = list[at + 2] as usize;
-        let call = call_list::call(kind, a, b);
-        let reply = calls::make(call, n, made, adjacency, weights, inverse, sequence, marks);
+        let call = call_list::call(list[at], list[at + 1] as usize, list[at + 2] as usize);
+        let reply = calls::make(call, graph, made, inverse, sequence, marks);
         made = reply.made;
-        let answer = reply.answer;
-        changed = accepts(changed, answer);
-        answers[i] = calls::number(answer, made);
-        i += 1;
+        changed = accepts(changed, reply.answer);
+        *answer = calls::number(reply.answer, made);
     }
     Reached { made, changed }
+}
+
+// Makes the calls of a list, unless the session or the list is refused, and returns how far they have come.
+fn attempt(
+    session: Session,
+    adjacency: &[u8],
+    weights: &[u16],
+    inverse: &mut [u16],
+    sequence: &mut [u8],
+    kept: &[u8],
+    list: &[u64],
+    answers: &mut [u64],
+) -> Result<Reached, Refusal>
+    ensures { let before = state session.size session.made
+        adjacency.now weights.now inverse.old sequence.old kept.now in
+        let after = state session.size (made_of session.made result)
+        adjacency.now weights.now inverse.new sequence.new kept.now in
+        Outcome before list.now answers.old (ruling_of result) after answers.new (changed_of result) }
+{
+    let n = session.size;
+    let count = list.len() / 3;
+    let mut marks = [0u8; 96];
+    let graph = soundness::confirm_answers(
+        n,
+        session.made,
+        adjacency,
+        weights,
+        inverse,
+        sequence,
+        kept,
+        answers.len(),
+        count,
+        &mut marks,
+    )?;
+    call_list::judge(list)?;
+    let reached = run(
+        graph,
+        session.made,
+        inverse,
+        sequence,
+        &mut marks[..n],
+        list,
+        &mut answers[..count],
+    );
+    Ok(reached)
 }
 
 // Makes the calls of a list, unless the session or the list is refused.
@@ -108,54 +147,21 @@ pub fn replay(
         ((returned : List Returned) → Runs modulus_prime before (calls_of list.now) returned
         → result.changed ≡ changes (ruling_of result.ruling) returned) }
 {
-    let n = session.size;
-    let made = session.made;
-    let count = list.len() / 3;
-    let mut marks = [0u8; 96];
-    let sound = soundness::confirm_answers(
-        n,
-        made,
-        adjacency,
-        weights,
-        inverse,
-        sequence,
-        kept,
-        answers.len(),
-        count,
-        &mut marks,
-    );
-    if let Ruling::Refused(refusal) = sound {
-        return Replayed {
-            session,
-            ruling: Ruling::Refused(refusal),
-            changed: false,
-        };
-    }
-    let judged = call_list::judge(list);
-    if let Ruling::Refused(refusal) = judged {
-        return Replayed {
-            session,
-            ruling: Ruling::Refused(refusal),
-            changed: false,
-        };
-    }
-    let end = run(
-        n,
-        made,
-        adjacency,
-        weights,
-        inverse,
-        sequence,
-        &mut marks[..n],
-        list,
-        &mut answers[..count],
-    );
-    Replayed {
-        session: Session {
-            size: n,
-            made: end.made,
+    match attempt(
+        session, adjacency, weights, inverse, sequence, kept, list, answers,
+    ) {
+        Ok(reached) => Replayed {
+            session: Session {
+                size: session.size,
+                made: reached.made,
+            },
+            ruling: Ok(()),
+            changed: reached.changed,
         },
-        ruling: Ruling::Accepted,
-        changed: end.changed,
+        Err(refusal) => Replayed {
+            session,
+            ruling: Err(refusal),
+            changed: false,
+        },
     }
 }
