@@ -22,7 +22,8 @@ fn full_lines(
     text: &mut [u8],
     at: usize,
 ) -> usize
-    requires { FreshFor n adjacency.now inverse.old sequence.old marks.old × (at + 634 ≤ length text.old) }
+    requires fresh { FreshFor n adjacency.now inverse.old sequence.old marks.old }
+    requires room { at + 634 ≤ length text.old }
     ensures { (weights : List ℕ)
         → Fresh n adjacency.now weights inverse.old sequence.old marks.old
         → Writes (GraphLines modulus_prime (over n adjacency.now weights) (players_of n)) at text.old text.new result }
@@ -45,21 +46,20 @@ fn verdict_lines(
     text: &mut [u8],
     at: usize,
 ) -> usize
-    requires work_value { opening_ruling modulus (over n adjacency.now weights.now) (length inverse.old) (length sequence.old)
+    requires accepted { opening_ruling modulus (over n adjacency.now weights.now) (length inverse.old) (length sequence.old)
         (length witness.old) (length work.old) ≡ accepted }
-    requires n_bound { (n ≤ 96) × (marks.old ≡ replicate n 1) × (at + 1642 ≤ length text.old) }
+    requires all_marked { marks.old ≡ replicate n 1 }
+    requires room { at + 1642 ≤ length text.old }
     ensures { let g = over n adjacency.now weights.now in
         Writes (GraphLines modulus_prime g (players_of n)) at text.old text.new result }
 {
-    let opened = opening::begin(n, adjacency, weights, inverse, sequence, witness, work);
-    match opened {
-        Opening::Opened(_) => full_lines(n, adjacency, inverse, sequence, marks, text, at),
-        Opening::Singular(_) => {
+    match opening::begin(n, adjacency, weights, inverse, sequence, witness, work) {
+        Ok(Opening::Opened(_)) => full_lines(n, adjacency, inverse, sequence, marks, text, at),
+        Ok(Opening::Singular(_)) => {
             let next = text::witness_lines(text, at, &witness[..n]);
             text::witness_verdict(text, next, n)
         }
-        // Never happens: the graph is accepted.
-        Opening::Refused(_) => at,
+        Err(_) => unreachable!("the graph is accepted"),
     }
 }
 
@@ -71,7 +71,9 @@ pub fn graph_lines(
     weights: &[u16],
     text: &mut [u8],
 ) -> usize
-    requires { Acceptable (over n adjacency.now weights.now) × (edges < 100000) × (2048 ≤ length text.old) }
+    requires acceptable { Acceptable (over n adjacency.now weights.now) }
+    requires few_edges { edges < 100000 }
+    requires room { 2048 ≤ length text.old }
     ensures { let g = over n adjacency.now weights.now in
         Writes (AllLines g edges) 0 text.old text.new result }
 {

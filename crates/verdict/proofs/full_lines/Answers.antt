@@ -5,21 +5,16 @@ use Rattle.text.specs.Puts.{puts_then, puts_length}
 use Rattle.verdict.specs.Lines.{full_lines}
 use Rattle.verdict.proofs.full_lines.Goals as goal
 
-pub complete-made-requires : goal.complete-made-requires
-complete-made-requires c = let pre = c.requires in (pre.0.0, _, pre.0.1.known)
-
 pub pair_lines-next-requires : goal.pair_lines-next-requires
 pair_lines-next-requires c =
-    let pre = c.requires in
-    let K = pre.0.1.known in
+    let K = c.requires.fresh.1.known in
     let C = c.complete-made.ensures _ _ K in
-    (omega (arith, C.few, sequence_fits K, c.complete-made.auto.sequence), omega (arith, C.few, (tables K).size, pre.1))
+    (omega (arith, C.few, sequence_fits K, c.complete-made.auto.sequence), omega (arith, C.few, (tables K).size, c.requires.room))
 
 pub full_verdict-requires : goal.full_verdict-requires
 full_verdict-requires c =
-    let pre = c.requires in
-    let K = pre.0.1.known in
-    omega (arith, (c.complete-made.ensures _ _ K).few, (tables K).size, pre.1, c.pair_lines-next.ensures.bound, puts_length c.pair_lines-next.ensures.lines)
+    let K = c.requires.fresh.1.known in
+    omega (arith, (c.complete-made.ensures _ _ K).few, (tables K).size, c.requires.room, c.pair_lines-next.ensures.bound, puts_length c.pair_lines-next.ensures.lines)
 
 pub returns : goal.returns
 returns c =
