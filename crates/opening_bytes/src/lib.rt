@@ -1,12 +1,14 @@
 // Opening with numbers and byte slices: what the host's entry calls. Words cross as two bytes, low first (docs/HOST.md).
 #![tactic(auto)]
 
+ghost use Rattle.std.specs.Prelude.{◌*◌, ◌≤◌};
 ghost use Rattle.matching.specs.Edition.{first_edition};
 ghost use Rattle.matching.specs.Host.{HostOpens, HostOpenedExactly};
+ghost use Rattle.checks.specs.Weights.{needed};
 ghost use Rattle.opening.specs.Meaning.{buffers};
 ghost use Rattle.opening_bytes.specs.Opened.{HostOpeningFits, Lends};
 
-use refusals::Ruling;
+use checks::Lengths;
 
 // Opens over lent words: unpacks the weights that the graph needs, opens the session on words, and packs what that leaves.
 fn open_over(
@@ -33,7 +35,47 @@ fn open_over(
     opening_pack::pack(n, opened, table, vector, spare, inverse, witness, work)
 }
 
-// Calls open_over with words of its own. A small graph has fewer, which take less time to clear.
+// Calls open_over with words of its own: PAIRS for the weights, CELLS for a table and SIDE for a vector. It is never inlined, so that a call
+// has the words of one instance on its stack, and not those of three.
+#[inline(never)]
+fn open_with<const PAIRS: usize, const CELLS: usize, const SIDE: usize>(
+    n: usize,
+    adjacency: &[u8],
+    weights: &[u8],
+    inverse: &mut [u8],
+    sequence: &mut [u8],
+    witness: &mut [u8],
+    work: &mut [u8],
+) -> u64
+    requires host_opening_fits { HostOpeningFits n adjacency.now weights.now (buffers inverse.old sequence.old witness.old work.old) }
+    requires pairs { (needed n ≤ PAIRS) × (PAIRS ≤ 4560) }
+    requires cells { (n * n ≤ CELLS) × (CELLS ≤ 9216) }
+    requires side { (n ≤ SIDE) × (SIDE ≤ 96) }
+    ensures { let lent = buffers inverse.old sequence.old witness.old work.old in
+        let after = buffers inverse.new sequence.new witness.new work.new in
+        HostOpens first_edition n adjacency.now weights.now lent result after }
+{
+    let mut values = [0u16; PAIRS];
+    let mut table = [0u16; CELLS];
+    let mut vector = [0u16; SIDE];
+    let mut spare = [0u16; CELLS];
+    let count = checks::weights_needed(n);
+    open_over(
+        n,
+        adjacency,
+        weights,
+        &mut values[..count],
+        &mut table[..n * n],
+        &mut vector[..n],
+        &mut spare[..n * n],
+        inverse,
+        sequence,
+        witness,
+        work,
+    )
+}
+
+// Opens with as few words as serve n vertices: fewer take less time to clear.
 fn open_words(
     n: usize,
     adjacency: &[u8],
@@ -48,66 +90,16 @@ fn open_words(
         let after = buffers inverse.new sequence.new witness.new work.new in
         HostOpens first_edition n adjacency.now weights.now lent result after }
 {
-    let count = checks::weights_needed(n);
-    let cells = n * n;
     if n <= 32 {
         // 32 * 31 / 2, 32 * 32 and 32 words.
-        let mut values = [0u16; 496];
-        let mut table = [0u16; 1024];
-        let mut vector = [0u16; 32];
-        let mut spare = [0u16; 1024];
-        return open_over(
-            n,
-            adjacency,
-            weights,
-            &mut values[..count],
-            &mut table[..cells],
-            &mut vector[..n],
-            &mut spare[..cells],
-            inverse,
-            sequence,
-            witness,
-            work,
-        );
-    }
-    if n <= 64 {
+        open_with::<496, 1024, 32>(n, adjacency, weights, inverse, sequence, witness, work)
+    } else if n <= 64 {
         // 64 * 63 / 2, 64 * 64 and 64 words.
-        let mut values = [0u16; 2016];
-        let mut table = [0u16; 4096];
-        let mut vector = [0u16; 64];
-        let mut spare = [0u16; 4096];
-        return open_over(
-            n,
-            adjacency,
-            weights,
-            &mut values[..count],
-            &mut table[..cells],
-            &mut vector[..n],
-            &mut spare[..cells],
-            inverse,
-            sequence,
-            witness,
-            work,
-        );
+        open_with::<2016, 4096, 64>(n, adjacency, weights, inverse, sequence, witness, work)
+    } else {
+        // The words of the largest graph: 96 * 95 / 2, 96 * 96 and 96.
+        open_with::<4560, 9216, 96>(n, adjacency, weights, inverse, sequence, witness, work)
     }
-    // The words of the largest graph: 96 * 95 / 2, 96 * 96 and 96.
-    let mut values = [0u16; 4560];
-    let mut table = [0u16; 9216];
-    let mut vector = [0u16; 96];
-    let mut spare = [0u16; 9216];
-    open_over(
-        n,
-        adjacency,
-        weights,
-        &mut values[..count],
-        &mut table[..cells],
-        &mut vector[..n],
-        &mut spare[..cells],
-        inverse,
-        sequence,
-        witness,
-        work,
-    )
 }
 
 // Opens a session through the host. Unpacks words only if n and the lengths are in order.
@@ -126,17 +118,14 @@ pub fn begin(
     ensures exactly { let lent = buffers inverse.old sequence.old witness.old work.old in
         HostOpenedExactly first_edition n adjacency.now weights.now lent result }
 {
-    let ruling = checks::judge_room(
-        n,
-        adjacency.len(),
-        weights.len() / 2,
-        inverse.len() / 2,
-        sequence.len(),
-        witness.len() / 2,
-        work.len() / 2,
-    );
-    if let Ruling::Refused(refusal) = ruling {
-        return numbers::refused(refusal);
+    let lengths = Lengths {
+        adjacency: adjacency.len(),
+        weights: weights.len() / 2,
+        inverse: inverse.len() / 2,
+        sequence: sequence.len(),
+    };
+    match checks::judge_room(n, lengths, witness.len() / 2, work.len() / 2) {
+        Ok(()) => open_words(n, adjacency, weights, inverse, sequence, witness, work),
+        Err(refusal) => numbers::refused(refusal),
     }
-    open_words(n, adjacency, weights, inverse, sequence, witness, work)
 }

@@ -8,7 +8,7 @@ ghost use Rattle.matching.specs.Session.{state};
 ghost use Rattle.crossing.specs.HostFits.{HostFits};
 ghost use Rattle.row_bytes.specs.HostRow.{ShowsOver};
 
-use refusals::Ruling;
+use numbers::AnswerKind;
 use session::Session;
 
 // Writes the row of a over lent words, and returns the host's number.
@@ -29,8 +29,7 @@ fn row_over(
 {
     let session = Session { size: n, made };
     let shown = session.row(adjacency, weights, inverse, sequence, kept, a, row);
-    let ruling = shown.ruling;
-    numbers::ruled(4, ruling, made)
+    numbers::ruled(AnswerKind::Row, shown.ruling, made)
 }
 
 // row_over, on words unpacked from the host's bytes: only those n vertices need.
@@ -55,14 +54,13 @@ fn row_words(
     let mut table = [0u16; 9216];
     crossing::unpack(n, weights, inverse, &mut values, &mut table);
     let count = checks::weights_needed(n);
-    let cells = n * n;
     row_over(
         n,
         made,
         a,
         adjacency,
         &values[..count],
-        &table[..cells],
+        &table[..n * n],
         sequence,
         kept,
         row,
@@ -85,15 +83,8 @@ pub fn row(
         inverse.now sequence.now kept.now in
         HostShowsRow first_edition before a row.old result before row.new }
 {
-    let lengths = checks::judge_lengths(
-        n,
-        adjacency.len(),
-        weights.len() / 2,
-        inverse.len() / 2,
-        sequence.len(),
-    );
-    if let Ruling::Refused(refusal) = lengths {
-        return numbers::refused(refusal);
+    match crossing::judge_bytes(n, adjacency, weights, inverse, sequence) {
+        Ok(()) => row_words(n, made, a, adjacency, weights, inverse, sequence, kept, row),
+        Err(refusal) => numbers::refused(refusal),
     }
-    row_words(n, made, a, adjacency, weights, inverse, sequence, kept, row)
 }

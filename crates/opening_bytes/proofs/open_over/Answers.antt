@@ -1,40 +1,31 @@
 -- `opening_bytes::open_over` meets its contract: what opening leaves over the words that the graph needs is packed. Assumes nothing.
-use mathlib.Core.Path.{◌≡◌, ap, ◌∙◌}
-use Prim.Native.Nat.{ℕ}
-use native.Mathlib.Omega.{arith}
-use lib.ListN.{take}
+use Rattle.std.proofs.Common.{◌≡◌, List, ℕ, length, take, ap, ◌∙◌, arith}
+use borrow.Author.Rules.{rules}
 use Rattle.matching.specs.Host.{words}
-use Rattle.opening.specs.Meaning.{buffers}
 use Rattle.crossing.specs.Needed.{needed_weights}
 use Rattle.opening_pack.specs.Packed.{opening_number_fits}
-use Rattle.opening_bytes.specs.Opened.{weights_fit, inverse_fits, witness_fits, work_fits, host_opens}
-use borrow.Author.Rules.{rules}
+use Rattle.opening_bytes.specs.Opened.{Lends, weights_fit, inverse_fits, witness_fits, work_fits, host_opens}
 use Rattle.opening_bytes.proofs.open_over.Goals as goal
 
-pub unpack-requires : goal.unpack-requires
-unpack-requires c =
-    let a = c.args in
-    let host = buffers a.inverse.now a.sequence.now a.witness.now a.work.now in
-    omega (arith, weights_fit a.n a.adjacency.now a.weights.now host c.requires.host_opening_fits, c.requires.lends.counted)
+-- the words unpacked are the weights that the graph needs
+values_are : {n : ℕ} {values table vector spare target : List ℕ} (weights : List ℕ) → Lends n values table vector spare
+    → target ≡ take (length values) (words 2 weights) → target ≡ needed_weights n weights
+values_are weights L e = e ∙ ap (λ k. take k (words 2 weights)) L.counted
 
-pub pack-requires : goal.pack-requires
-pack-requires c =
-    let a = c.args in
-    let host = buffers a.inverse.now a.sequence.now a.witness.now a.work.now in
-    let values : c.unpack.new.target ≡ needed_weights a.n a.weights.now = c.unpack.ensures ∙ ap (λ (k : ℕ). take k (words 2 a.weights.now)) c.requires.lends.counted in
-    let L = c.requires.lends in
+pub unpack-requires : goal.unpack-requires
+unpack-requires c = omega (arith, weights_fit _ _ _ _ c.requires.host_opening_fits, c.requires.lends.counted)
+
+pub pack-requires-clause-enough_bytes : goal.pack-requires-clause-enough_bytes
+pack-requires-clause-enough_bytes c =
     let F = c.requires.host_opening_fits in
-    let kept = c.begin-opened.auto in
-    record {
-      n_in_bounds = (omega (arith, kept.inverse, L.cells), omega (arith, kept.witness, L.vertices), omega (arith, kept.work, L.spare_cells));
-      n_in_bounds_2 = (inverse_fits a.n a.adjacency.now a.weights.now host F, witness_fits a.n a.adjacency.now a.weights.now host F, work_fits a.n a.adjacency.now a.weights.now host F);
-      opening_number_fits = opening_number_fits (rw values at c.begin-opened.ensures.opens);
-    }
+    (inverse_fits _ _ _ _ F, witness_fits _ _ _ _ F, work_fits _ _ _ _ F)
+
+pub pack-requires-clause-number_fits : goal.pack-requires-clause-number_fits
+pack-requires-clause-number_fits c =
+    opening_number_fits (rw (values_are c.args.weights.now c.requires.lends c.unpack.ensures) at c.begin-opened.ensures.opens)
 
 pub returns : goal.returns
 returns c =
-    let a = c.args in
-    let host = buffers a.inverse.now a.sequence.now a.witness.now a.work.now in
-    let values : c.unpack.new.target ≡ needed_weights a.n a.weights.now = c.unpack.ensures ∙ ap (λ (k : ℕ). take k (words 2 a.weights.now)) c.requires.lends.counted in
-    rw (c.pack.ensures.value, c.pack.ensures.by_index c.begin-opened.new.sequence a.sequence.now)
-    (host_opens a.n a.adjacency.now a.weights.now host c.requires.host_opening_fits c.requires.lends (search rules) (search rules) (search rules) (rw values at c.begin-opened.ensures.opens))
+    rw (c.pack.ensures.numbered, c.pack.ensures.stored c.begin-opened.new.sequence c.args.sequence.now)
+    (host_opens _ _ _ _ c.requires.host_opening_fits c.requires.lends (search rules) (search rules) (search rules)
+    (rw (values_are c.args.weights.now c.requires.lends c.unpack.ensures) at c.begin-opened.ensures.opens))
