@@ -14,7 +14,7 @@ ghost use Rattle.sheet_bytes.specs.Stored.{stored_of, StoreRoom};
 
 use filling::Extent;
 use numbers::AnswerKind;
-use refusals::{Cause, Refusal};
+use refusals::{Buffer, Cause, Refusal};
 
 // Returns the host's number for read.
 fn number(read: Result<Extent, Refusal>) -> u64
@@ -98,7 +98,7 @@ pub fn draw(n: usize, seed: u32, weights: &mut [u8]) -> u64
     }
     let count = checks::weights_needed(n);
     if weights.len() / 2 < count {
-        return numbers::refused(refusals::because(Cause::BufferTooShort, 2));
+        return numbers::refused(refusals::too_short(Buffer::Weights));
     }
     draw_words(count, seed, weights);
     numbers::carried(AnswerKind::Drawn, count as u64, 0)

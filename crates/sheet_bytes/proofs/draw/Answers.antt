@@ -11,7 +11,7 @@ pub returns-then-weights-count : goal.returns-then-weights-count
 returns-then-weights-count c =
     let counted : c.weights_needed-count.result ≡ pair_count c.args.n = c.weights_needed-count.ensures ∙ needed_all c.args.n c.if-n-gt-LARGEST.false in
     draws_too_few _ _ _ c.if-n-gt-LARGEST.false (omega (arith, words_length 2 c.args.weights.now))
-    (c.refused-then-weights-count.ensures ∙ ap refusal_number c.because-then-weights-count.ensures)
+    (c.refused-then-weights-count.ensures ∙ ap refusal_number c.too_short.ensures)
 
 pub returns : goal.returns
 returns c =
