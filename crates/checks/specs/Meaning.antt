@@ -7,7 +7,7 @@ use Rattle.matching.specs.Causes.{bad_cell}
 use Rattle.refusals.specs.declared.FaultyCell.{FaultyCell}
 use Rattle.refusals.specs.Meaning.{fault_number}
 use Rattle.graph.specs.declared.Graph as lent
-use Rattle.graph.specs.Meaning.{graph_of}
+use Rattle.graph.specs.Meaning.{graph_is}
 
 -- the first of two rulings that is a refusal
 abbrev pub then : decision.Ruling → decision.Ruling → decision.Ruling
@@ -33,10 +33,10 @@ Located g None = (bad_cell g).finding ≡ absent
 Located g (Some f) = (bad_cell g).finding ≡ at (faulty_cell f.row f.column (fault_number f.fault))
 
 -- the graph that an accepting check returns is the one that was lent
-pub record Lent (n : ℕ) (a : List ℕ) (w : List ℕ) (g : lent.Graph) : Type 0 where
+pub record IsLent (n : ℕ) (a : List ℕ) (w : List ℕ) (g : lent.Graph) : Type 0 where
   pub size : g.size ≡ n
   pub adjacency : g.adjacency.now ≡ a
   pub weights : g.weights.now ≡ w
 
-pub lent_graph : {n : ℕ} {a w : List ℕ} {g : lent.Graph} → Lent n a w g → graph_of g ≡ over n a w
-lent_graph L = rw (L.size, L.adjacency, L.weights)
+pub is_lent_graph : {n : ℕ} {a w : List ℕ} {g : lent.Graph} → IsLent n a w g → graph_is g ≡ over n a w
+is_lent_graph L = rw (L.size, L.adjacency, L.weights)

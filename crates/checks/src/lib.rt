@@ -9,9 +9,9 @@ ghost use Rattle.matching.specs.Graph.{largest, pair_count, over};
 ghost use Rattle.matching.specs.Causes.{lent_always, lent_besides, lent_kept, first_short, opening_causes, opening_ruling};
 ghost use Rattle.matching.specs.Causes.{too_large, too_short, bad_cell, bad_weight};
 ghost use Rattle.refusals.specs.Meaning.{buffer_of, fault_number, finding_of, ruling_of, Finds};
-ghost use Rattle.graph.specs.Meaning.{graph_of};
+ghost use Rattle.graph.specs.Meaning.{graph_is};
 ghost use Rattle.checks.specs.Weights.{needed};
-ghost use Rattle.checks.specs.Meaning.{InRow, Lent, Located};
+ghost use Rattle.checks.specs.Meaning.{InRow, IsLent, Located};
 
 use graph::Graph;
 use refusals::{Buffer, Cause, Fault, FaultyCell, Refusal};
@@ -91,7 +91,7 @@ fn faulty(row: usize, column: usize, fault: Fault) -> FaultyCell
 // Finds the first fault of a row from the diagonal on. A cell's mirror is the cell with its row and its column exchanged.
 fn row_fault(graph: Graph, row: usize) -> Option<FaultyCell>
     requires { row < graph.size }
-    ensures { InRow (graph_of graph.entry) row result }
+    ensures { InRow (graph_is graph.entry) row result }
 {
     let n = graph.size;
     let diagonal = graph.adjacency[row * n + row];
@@ -116,7 +116,7 @@ fn row_fault(graph: Graph, row: usize) -> Option<FaultyCell>
 
 // Finds the first fault, row by row. A cell below the diagonal has a fault only if its mirror, which comes earlier, has one.
 fn first_fault(graph: Graph) -> Option<FaultyCell>
-    ensures { Located (graph_of graph.entry) result }
+    ensures { Located (graph_is graph.entry) result }
 {
     for row in 0..graph.size {
         if let Some(cell) = row_fault(graph, row) {
@@ -156,7 +156,7 @@ fn find_outside(weights: &[u16]) -> Option<usize>
 
 // Finds the first weight that is 0 or not below the modulus, with a shortcut if every weight is in range.
 fn first_outside(graph: Graph) -> Option<usize>
-    ensures { finding_of result ≡ (bad_weight modulus (graph_of graph.entry)).finding }
+    ensures { finding_of result ≡ (bad_weight modulus (graph_is graph.entry)).finding }
 {
     let weights = &graph.weights[..pair_count(graph.size)];
     if none_outside(weights) {
@@ -168,7 +168,7 @@ fn first_outside(graph: Graph) -> Option<usize>
 
 // Judges causes 3 and 4.
 fn judge_graph(graph: Graph) -> Result<(), Refusal>
-    ensures { let g = graph_of graph.entry in
+    ensures { let g = graph_is graph.entry in
         ruling_of result ≡ judge (bad_cell g ∷ bad_weight modulus g ∷ []) }
 {
     if let Some(cell) = first_fault(graph) {
@@ -216,7 +216,7 @@ pub fn judge_session<'a>(
         ruling_of result ≡ judge
         (opening_causes modulus g
         (lent_always n (length adjacency.now) (length weights.now) inverse sequence ++ lent_kept n kept ∷ [])) }
-    ensures lent { IfOk result (λ g. Lent n adjacency.now weights.now g) }
+    ensures lent { IfOk result (λ g. IsLent n adjacency.now weights.now g) }
 {
     let lengths = Lengths {
         adjacency: adjacency.len(),
@@ -250,7 +250,7 @@ pub fn judge_opening<'a>(
 ) -> Result<Graph<'a>, Refusal>
     ensures ruling { let g = over n adjacency.now weights.now in
         ruling_of result ≡ opening_ruling modulus g inverse sequence witness work }
-    ensures lent { IfOk result (λ g. Lent n adjacency.now weights.now g) }
+    ensures lent { IfOk result (λ g. IsLent n adjacency.now weights.now g) }
 {
     let lengths = Lengths {
         adjacency: adjacency.len(),

@@ -8,7 +8,7 @@ ghost use Rattle.lists.specs.Table.{table};
 ghost use Rattle.residue.specs.Modulus.{modulus};
 ghost use Rattle.skew.specs.Subset.{Subset, marked};
 ghost use Rattle.matching.specs.Session.{InverseTable};
-ghost use Rattle.graph.specs.Meaning.{graph_of};
+ghost use Rattle.graph.specs.Meaning.{graph_is};
 ghost use Rattle.sequence.specs.Formed.{Tells};
 ghost use Rattle.solve.specs.Solved.{Blank};
 ghost use Rattle.compact.specs.Compared.{Listing, Numbered, Comparing, CrossEqual, AllEqual, Stray, RowClear, AllClear};
@@ -118,7 +118,7 @@ fn is_inverse_over(
 ) -> bool
     requires sizes { (length marks.now ≡ graph.size) × (graph.size * graph.size ≤ length inverse.now) }
     requires numbered { Numbered graph.size marks.now vertices.now × Blank (length vertices.now) t.old }
-    ensures { Tells (InverseTable modulus (graph_of graph.entry) (marked marks.now) inverse.now) result }
+    ensures { Tells (InverseTable modulus (graph_is graph.entry) (marked marks.now) inverse.now) result }
 {
     let count = vertices.len();
     let mut waiting = [1u8; 96];
@@ -142,7 +142,7 @@ fn is_inverse_within<const CELLS: usize>(
 ) -> bool
     requires sizes { (length marks.now ≡ graph.size) × (graph.size * graph.size ≤ length inverse.now) }
     requires numbered { Numbered graph.size marks.now vertices.now × (length vertices.now * length vertices.now ≤ CELLS) × (CELLS ≤ 9216) }
-    ensures { Tells (InverseTable modulus (graph_of graph.entry) (marked marks.now) inverse.now) result }
+    ensures { Tells (InverseTable modulus (graph_is graph.entry) (marked marks.now) inverse.now) result }
 {
     let cells = vertices.len() * vertices.len();
     let mut t = [0u64; CELLS];
@@ -153,7 +153,7 @@ fn is_inverse_within<const CELLS: usize>(
 fn is_inverse_of(graph: Graph, marks: &[u8], inverse: &[u16], vertices: &[u8]) -> bool
     requires sizes { (length marks.now ≡ graph.size) × (graph.size * graph.size ≤ length inverse.now) }
     requires numbered { Numbered graph.size marks.now vertices.now }
-    ensures { Tells (InverseTable modulus (graph_of graph.entry) (marked marks.now) inverse.now) result }
+    ensures { Tells (InverseTable modulus (graph_is graph.entry) (marked marks.now) inverse.now) result }
 {
     let cells = vertices.len() * vertices.len();
     if cells <= SMALL_TABLE {
@@ -168,7 +168,7 @@ fn is_inverse_of(graph: Graph, marks: &[u8], inverse: &[u16], vertices: &[u8]) -
 // Tells whether inverse is the inverse for the marked vertices.
 pub fn is_inverse(graph: Graph, marks: &[u8], inverse: &[u16]) -> bool
     requires { (length marks.now ≡ graph.size) × (graph.size * graph.size ≤ length inverse.now) }
-    ensures { let g = graph_of graph.entry in
+    ensures { let g = graph_is graph.entry in
         ((S : Subset) → ((i : ℕ) → i < g.n → S i ≡ marked marks.now i)
         → Tells (InverseTable modulus g S inverse.now) result) }
 {

@@ -16,13 +16,13 @@ pub struct Graph<'a> {
 
 impl Graph<'_> {
     ghost use Rattle.std.specs.Prelude.{◌≡◌, ◌<◌};
-    ghost use Rattle.graph.specs.Meaning.{graph_of};
+    ghost use Rattle.graph.specs.Meaning.{graph_is};
     ghost use Rattle.matching.specs.Graph.{upper};
 
     // Returns the weight of i < j if they are adjacent, else 0.
     pub fn upper(self, i: usize, j: usize) -> u16
         requires { (i < j) × (j < self.size) }
-        ensures { result ≡ upper (graph_of self.entry) i j }
+        ensures { result ≡ upper (graph_is self.entry) i j }
     {
         let n = self.size;
         if self.adjacency[i * n + j] == 1 {

@@ -4,7 +4,7 @@
 ghost use Rattle.residue.specs.Modulus.{modulus};
 ghost use Rattle.matching.specs.Graph.{over};
 ghost use Rattle.matching.specs.Opening.{players, Opens, OpenedExactly};
-ghost use Rattle.graph.specs.Meaning.{graph_of};
+ghost use Rattle.graph.specs.Meaning.{graph_is};
 ghost use Rattle.opening.specs.Meaning.{opening_of, buffers};
 ghost use Rattle.opening.specs.OpeningState.{OpeningReady, Begun};
 
@@ -28,7 +28,7 @@ fn begin_accepted(
     witness: &mut [u16],
 ) -> Option<usize>
     requires { OpeningReady graph.size inverse.old sequence.old witness.old }
-    ensures { Begun (graph_of graph.entry) inverse.old sequence.old witness.old result
+    ensures { Begun (graph_is graph.entry) inverse.old sequence.old witness.old result
         inverse.new sequence.new witness.new }
 {
     let n = graph.size;

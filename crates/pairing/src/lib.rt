@@ -7,7 +7,7 @@ ghost use Rattle.lists.specs.Values.{list_of};
 ghost use Rattle.lists.specs.Table.{table, Square};
 ghost use Rattle.residue.specs.Modulus.{modulus};
 ghost use Rattle.matching.specs.Pairs.{pair_of};
-ghost use Rattle.graph.specs.Meaning.{graph_of};
+ghost use Rattle.graph.specs.Meaning.{graph_is};
 ghost use Rattle.pairing.specs.Appended.{pair_is, Shrunk, AppendRoom, Appended};
 ghost use Rattle.pairing.specs.Removed.{Grows, Removed};
 
@@ -103,7 +103,7 @@ fn grow_over(
 ) -> bool
     requires square { Square graph.size t.old × (a < graph.size) × (b < graph.size) }
     requires column_len { (length column.old ≡ graph.size) × (length x.old ≡ graph.size) × (length y.old ≡ graph.size) }
-    ensures { Grows modulus (graph_of graph.entry) a b t.old result t.new }
+    ensures { Grows modulus (graph_is graph.entry) a b t.old result t.new }
 {
     let n = graph.size;
     tutte::column(graph, a, column);
@@ -123,7 +123,7 @@ fn grow_over(
 // Turns t, the inverse for a set of vertices, into the inverse for the set with a and b. Tells whether there is one.
 fn grow(graph: Graph, t: &mut [u16], a: usize, b: usize) -> bool
     requires { Square graph.size t.old × (a < graph.size) × (b < graph.size) }
-    ensures { Grows modulus (graph_of graph.entry) a b t.old result t.new }
+    ensures { Grows modulus (graph_is graph.entry) a b t.old result t.new }
 {
     let n = graph.size;
     let mut column = [0u16; 96];
@@ -144,7 +144,7 @@ pub fn remove(
     b: usize,
 ) -> bool
     requires { AppendRoom graph.size made inverse.old sequence.old marks.old a b }
-    ensures { Removed modulus (graph_of graph.entry) made a b inverse.old sequence.old marks.old result
+    ensures { Removed modulus (graph_is graph.entry) made a b inverse.old sequence.old marks.old result
         inverse.new sequence.new marks.new }
 {
     let cells = graph.size * graph.size;

@@ -7,7 +7,7 @@ ghost use Rattle.std.specs.Prelude.{◌≡◌, ℕ, ◌+◌, ◌*◌, ◌≤◌,
 ghost use Rattle.lists.specs.Values.{list_of};
 ghost use Rattle.lists.specs.Table.{Square};
 ghost use Rattle.skew.specs.Subset.{Subset, marked};
-ghost use Rattle.graph.specs.Meaning.{graph_of};
+ghost use Rattle.graph.specs.Meaning.{graph_is};
 ghost use Rattle.exchange.specs.Run.{word, witness_word};
 ghost use Rattle.solve.specs.Solved.{kept_word, Copied, Blank, Solved};
 
@@ -106,7 +106,7 @@ fn solve_over(
     requires set_len { length set.old ≡ graph.size }
     requires blank { Blank graph.size t.old }
     requires inverse_len { (length inverse.old ≡ graph.size * graph.size) × (length witness.old ≡ graph.size) }
-    ensures { let g = graph_of graph.entry in
+    ensures { let g = graph_is graph.entry in
         ((S : Subset) → ((i : ℕ) → i < graph.entry.size → S i ≡ marked set.old i)
         → Solved g S result set.new witness.old inverse.new witness.new) }
 {
@@ -133,7 +133,7 @@ fn solve_in<const CELLS: usize>(
     requires set_len { length set.old ≡ graph.size }
     requires cells { (graph.size * graph.size ≤ CELLS) × (CELLS ≤ 9216) }
     requires inverse_len { (length inverse.old ≡ graph.size * graph.size) × (length witness.old ≡ graph.size) }
-    ensures { let g = graph_of graph.entry in
+    ensures { let g = graph_is graph.entry in
         ((S : Subset) → ((i : ℕ) → i < graph.entry.size → S i ≡ marked set.old i)
         → Solved g S result set.new witness.old inverse.new witness.new) }
 {
@@ -153,7 +153,7 @@ pub fn solve(
 ) -> Option<usize>
     requires set_len { length set.old ≡ graph.size }
     requires inverse_len { (length inverse.old ≡ graph.size * graph.size) × (length witness.old ≡ graph.size) }
-    ensures { let g = graph_of graph.entry in
+    ensures { let g = graph_is graph.entry in
         ((S : Subset) → ((i : ℕ) → i < graph.entry.size → S i ≡ marked set.old i)
         → Solved g S result set.new witness.old inverse.new witness.new) }
 {

@@ -5,7 +5,7 @@
 ghost use Rattle.std.specs.Prelude.{◌≡◌, [], ◌∷◌, ◌≤◌, IfOk, length, take};
 ghost use Rattle.matching.specs.Causes.{lent_row};
 ghost use Rattle.matching.specs.Replay.{lent_answers};
-ghost use Rattle.checks.specs.Meaning.{Lent};
+ghost use Rattle.checks.specs.Meaning.{IsLent};
 ghost use Rattle.soundness.specs.Sound.{Judged, Confirmed};
 ghost use Rattle.soundness.specs.Besides.{ConfirmedLent};
 
@@ -49,7 +49,7 @@ pub fn confirm<'a>(
     requires { 96 ≤ length marks.old }
     ensures confirmed { Confirmed n made adjacency.now weights.now inverse.now sequence.now
         kept.now (take n marks.new) result }
-    ensures lent { IfOk result (λ g. Lent n adjacency.now weights.now g) }
+    ensures lent { IfOk result (λ g. IsLent n adjacency.now weights.now g) }
 {
     let graph = checks::judge_session(
         n,
@@ -79,7 +79,7 @@ pub fn confirm_row<'a>(
     requires { 96 ≤ length marks.old }
     ensures confirmed { ConfirmedLent (lent_row n row ∷ []) [] n made adjacency.now weights.now inverse.now
         sequence.now kept.now (take n marks.new) result }
-    ensures lent { IfOk result (λ g. Lent n adjacency.now weights.now g) }
+    ensures lent { IfOk result (λ g. IsLent n adjacency.now weights.now g) }
 {
     let lengths = Lengths {
         adjacency: adjacency.len(),
@@ -111,7 +111,7 @@ pub fn confirm_answers<'a>(
     requires { 96 ≤ length marks.old }
     ensures confirmed { ConfirmedLent [] (lent_answers count answers ∷ []) n made adjacency.now weights.now
         inverse.now sequence.now kept.now (take n marks.new) result }
-    ensures lent { IfOk result (λ g. Lent n adjacency.now weights.now g) }
+    ensures lent { IfOk result (λ g. IsLent n adjacency.now weights.now g) }
 {
     let lengths = Lengths {
         adjacency: adjacency.len(),

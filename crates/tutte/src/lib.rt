@@ -8,7 +8,7 @@ ghost use Rattle.lists.specs.Table.{Square};
 ghost use Rattle.residue.specs.Modulus.{modulus};
 ghost use Rattle.skew.specs.Subset.{marked};
 ghost use Rattle.matching.specs.Graph.{tutte};
-ghost use Rattle.graph.specs.Meaning.{graph_of};
+ghost use Rattle.graph.specs.Meaning.{graph_is};
 ghost use Rattle.tutte.specs.Table.{restricted, listed, Ascending, row_of, Filled};
 
 use graph::Graph;
@@ -18,7 +18,7 @@ use residue::Residue;
 fn entry(graph: Graph, set: &[u8], i: usize, j: usize) -> u16
     requires set_len { length set.now ≡ graph.size }
     requires i_lt_j { (i < j) × (j < graph.size) }
-    ensures { result ≡ restricted (graph_of graph.entry) (marked set.now) i j }
+    ensures { result ≡ restricted (graph_is graph.entry) (marked set.now) i j }
 {
     if set[i] == 0 || set[j] == 0 {
         return 0;
@@ -30,7 +30,7 @@ fn entry(graph: Graph, set: &[u8], i: usize, j: usize) -> u16
 fn fill_row(graph: Graph, set: &[u8], i: usize, row: &mut [u64])
     requires set_len { length set.now ≡ graph.size }
     requires i_lt_n { (i < graph.size) × (i + 1 + length row.old ≡ graph.size) }
-    ensures { row.new ≡ row_of (restricted (graph_of graph.entry) (marked set.now)) i (length row.old) }
+    ensures { row.new ≡ row_of (restricted (graph_is graph.entry) (marked set.now)) i (length row.old) }
 {
     for (k, word) in row.iter_mut().enumerate() {
         *word = entry(graph, set, i, i + 1 + k) as u64;
@@ -41,7 +41,7 @@ fn fill_row(graph: Graph, set: &[u8], i: usize, row: &mut [u64])
 pub fn fill(graph: Graph, set: &[u8], table: &mut [u64])
     requires set_len { length set.now ≡ graph.size }
     requires table_len { length table.old ≡ graph.size * graph.size }
-    ensures { Filled graph.entry.size (restricted (graph_of graph.entry) (marked set.now)) graph.entry.size table.old table.new }
+    ensures { Filled graph.entry.size (restricted (graph_is graph.entry) (marked set.now)) graph.entry.size table.old table.new }
 {
     let n = graph.size;
     for i in 0..n {
@@ -55,7 +55,7 @@ pub fn fill(graph: Graph, set: &[u8], table: &mut [u64])
 fn listed_row(graph: Graph, vertices: &[u8], i: usize, row: &mut [u64])
     requires ascending { Ascending graph.size vertices.now }
     requires i_in_bounds { (i < length vertices.now) × (i + 1 + length row.old ≡ length vertices.now) }
-    ensures { row.new ≡ row_of (listed (graph_of graph.entry) vertices.now) i (length row.old) }
+    ensures { row.new ≡ row_of (listed (graph_is graph.entry) vertices.now) i (length row.old) }
 {
     let a = vertices[i] as usize;
     for (k, word) in row.iter_mut().enumerate() {
@@ -69,7 +69,7 @@ fn listed_row(graph: Graph, vertices: &[u8], i: usize, row: &mut [u64])
 pub fn fill_listed(graph: Graph, vertices: &[u8], table: &mut [u64])
     requires ascending { Ascending graph.size vertices.now }
     requires square { Square (length vertices.now) table.old }
-    ensures { Filled (length vertices.now) (listed (graph_of graph.entry) vertices.now) (length vertices.now) table.old table.new }
+    ensures { Filled (length vertices.now) (listed (graph_is graph.entry) vertices.now) (length vertices.now) table.old table.new }
 {
     let count = vertices.len();
     for i in 0..count {
@@ -82,7 +82,7 @@ pub fn fill_listed(graph: Graph, vertices: &[u8], table: &mut [u64])
 // Returns entry (i, j) of the whole matrix.
 fn whole_entry(graph: Graph, i: usize, j: usize) -> u16
     requires { (i < graph.size) × (j < graph.size) }
-    ensures { result ≡ tutte (graph_of graph.entry) modulus i j }
+    ensures { result ≡ tutte (graph_is graph.entry) modulus i j }
 {
     if i < j {
         graph.upper(i, j)
@@ -100,7 +100,7 @@ fn whole_entry(graph: Graph, i: usize, j: usize) -> u16
 // Writes column c of the whole matrix to x, a word for each row.
 pub fn column(graph: Graph, c: usize, x: &mut [u16])
     requires { (c < graph.size) × (length x.old ≡ graph.size) }
-    ensures { x.new ≡ list_of (length x.old) (λ k. tutte (graph_of graph.entry) modulus k c) }
+    ensures { x.new ≡ list_of (length x.old) (λ k. tutte (graph_is graph.entry) modulus k c) }
 {
     for (k, word) in x.iter_mut().enumerate() {
         *word = whole_entry(graph, k, c);

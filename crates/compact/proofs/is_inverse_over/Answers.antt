@@ -7,7 +7,7 @@ use Rattle.residue.specs.Modulus.{modulus}
 use Rattle.skew.specs.Subset.{marked}
 use Rattle.skew.specs.Listing.{along}
 use Rattle.matching.specs.Graph.{Graph, tutte}
-use Rattle.graph.specs.Meaning.{graph_of}
+use Rattle.graph.specs.Meaning.{graph_is}
 use Rattle.sequence.specs.Formed.{tells_false}
 use Rattle.tutte.specs.Table.{Filled, listed}
 use Rattle.exchange.specs.Run.{Holds}
@@ -26,7 +26,7 @@ fill_listed-requires-clause-ascending c = numbered_ascending c.requires.numbered
 
 pub run-requires : goal.run-requires
 run-requires c =
-    let g = graph_of c.args.graph in
+    let g = graph_is c.args.graph in
     let B = c.requires.numbered.1 in
     let F = c.fill_listed.ensures in (
       record { small = B.table_square.small; size = F.size ∙ B.table_square.size },
@@ -46,7 +46,7 @@ all_equal-requires c =
 
 pub returns-then-all_clear : goal.returns-then-all_clear
 returns-then-all_clear c =
-    let g = graph_of c.args.graph in
+    let g = graph_is c.args.graph in
     let N = c.requires.numbered.0 in
     let B = c.requires.numbered.1 in
     let wait = all_in _ B.table_square.small in
@@ -58,7 +58,7 @@ returns-then-all_clear c =
 
 pub returns-else-all_clear : goal.returns-else-all_clear
 returns-else-all_clear c =
-    let g = graph_of c.args.graph in
+    let g = graph_is c.args.graph in
     let N = c.requires.numbered.0 in
     let B = c.requires.numbered.1 in
     let E = c.in-None.ensures _ (holds g N B c.fill_listed.ensures) in
@@ -67,7 +67,7 @@ returns-else-all_clear c =
 
 pub returns-in-Some : goal.returns-in-Some
 returns-in-Some c =
-    let g = graph_of c.args.graph in
+    let g = graph_is c.args.graph in
     let N = c.requires.numbered.0 in
     let B = c.requires.numbered.1 in
     let E = c.in-Some.ensures _ (holds g N B c.fill_listed.ensures) in

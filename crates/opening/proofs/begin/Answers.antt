@@ -9,7 +9,7 @@ use Rattle.matching.specs.Graph.{over}
 use Rattle.matching.specs.Pairs.{everything}
 use Rattle.matching.specs.Opening.{Opens, refuses_opening}
 use Rattle.laws.specs.OpeningOutcome.{opened_exactly}
-use Rattle.checks.specs.Meaning.{lent_graph}
+use Rattle.checks.specs.Meaning.{is_lent_graph}
 use Rattle.opening.specs.Meaning.{buffers}
 use Rattle.opening.specs.OpeningState.{ready, begun_whole}
 use Rattle.opening.proofs.begin.Goals as goal
@@ -42,13 +42,13 @@ fill-requires-in-Some c = omega (arith, (ready _ _ _ _ _ _ _ (sym c.in_ok-graph.
 -- the inverse is found and the witness cleared
 pub returns-in-None : goal.returns-in-None
 returns-in-None c =
-    let B = rw (lent_graph c.in_ok-graph.ensures.lent) at c.in-None.ensures in
+    let B = rw (is_lent_graph c.in_ok-graph.ensures.lent) at c.in-None.ensures in
     let o = begun_whole B (refl, c.fill-in-None.ensures) c.fill.ensures (sym c.in_ok-graph.ensures.ruling) in
     record { opens = o; exactly = opened_exactly modulus_prime _ everything o }
 
 -- the witness is found and the inverse cleared
 pub returns-in-Some : goal.returns-in-Some
 returns-in-Some c =
-    let B = rw (lent_graph c.in_ok-graph.ensures.lent) at c.in-Some.ensures in
+    let B = rw (is_lent_graph c.in_ok-graph.ensures.lent) at c.in-Some.ensures in
     let o = begun_whole B (c.fill-in-Some.ensures, refl) c.fill.ensures (sym c.in_ok-graph.ensures.ruling) in
     record { opens = o; exactly = opened_exactly modulus_prime _ everything o }

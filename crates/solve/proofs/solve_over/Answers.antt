@@ -5,14 +5,14 @@ use Rattle.std.proofs.Common.{refl, ◌∙◌, arith}
 use Rattle.skew.specs.Subset.{marked}
 use Rattle.residue.specs.Modulus.{modulus}
 use Rattle.matching.specs.Graph.{tutte}
-use Rattle.graph.specs.Meaning.{graph_of}
+use Rattle.graph.specs.Meaning.{graph_is}
 use Rattle.solve.specs.Solved.{filled_holds, filled_small, upper_word, solved, full_solved, column_solved}
 use Rattle.solve.proofs.solve_over.Goals as goal
 use Rattle.solve.proofs.solve_over.Goals.{in-Some, in_default}
 
 pub run-column-requires : goal.run-column-requires
 run-column-requires c =
-    let graph = graph_of c.args.graph in
+    let graph = graph_is c.args.graph in
     let b = c.requires.blank in
     let F = c.fill.ensures in (
       record { small = b.table_square.small; size = F.size ∙ b.table_square.size },
@@ -22,7 +22,7 @@ run-column-requires c =
 
 pub write_witness-requires : goal.write_witness-requires
 write_witness-requires c =
-    let graph = graph_of c.args.graph in
+    let graph = graph_is c.args.graph in
     let b = c.requires.blank in
     let E = c.in-Some.ensures (tutte graph modulus) (filled_holds graph (marked c.args.set.now) b c.fill.ensures) in (
       record { small = b.table_square.small; size = c.run-column.auto.t ∙ c.fill.ensures.size ∙ b.table_square.size },
@@ -33,20 +33,20 @@ write_witness-requires c =
 
 pub overflow_add-f : goal.overflow_add-f
 overflow_add-f c =
-    let graph = graph_of c.args.graph in
+    let graph = graph_is c.args.graph in
     let b = c.requires.blank in
     let E = c.in-Some.ensures (tutte graph modulus) (filled_holds graph (marked c.args.set.now) b c.fill.ensures) in
     omega (arith, E.1.below, b.table_square.small)
 
 pub rest-requires : goal.rest-requires
 rest-requires c =
-    let graph = graph_of c.args.graph in
+    let graph = graph_is c.args.graph in
     let E = c.in-Some.ensures (tutte graph modulus) (filled_holds graph (marked c.args.set.now) c.requires.blank c.fill.ensures) in
     E.3
 
 pub returns : goal.returns
 returns c =
-    let graph = graph_of c.args.graph in
+    let graph = graph_is c.args.graph in
     let H = filled_holds graph (marked c.args.set.now) c.requires.blank c.fill.ensures in
     let C = c.write_inverse.ensures in
     λ S agree.

@@ -7,7 +7,7 @@ use lib.ListN.{length, take, drop}
 use Rattle.lists.specs.Part.{part_length}
 use Rattle.lists.specs.Table.{RowRoom, row_room}
 use Rattle.skew.specs.Subset.{marked}
-use Rattle.graph.specs.Meaning.{graph_of}
+use Rattle.graph.specs.Meaning.{graph_is}
 use Rattle.tutte.specs.Table.{restricted, filled_next}
 use Rattle.tutte.proofs.fill.Goals as goal
 
@@ -19,4 +19,4 @@ loop-i-preserved c =
     let n = c.args.graph.size in
     let size = at.i * n + n - (at.i * n + (at.i + 1)) in
     let l : length (take size (drop (at.i * n + (at.i + 1)) at.table)) ≡ size = part_length at.table (at.i * n + (at.i + 1)) size (omega arith) in
-    (omega arith, filled_next n (restricted (graph_of c.args.graph) (marked c.args.set.now)) at.invariant.1 (omega arith) c.requires.table_len size (omega arith) (rw l at c.fill_row.ensures))
+    (omega arith, filled_next n (restricted (graph_is c.args.graph) (marked c.args.set.now)) at.invariant.1 (omega arith) c.requires.table_len size (omega arith) (rw l at c.fill_row.ensures))

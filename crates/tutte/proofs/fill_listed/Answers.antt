@@ -6,7 +6,7 @@ use native.Mathlib.Omega.{arith}
 use lib.ListN.{length, take, drop}
 use Rattle.lists.specs.Part.{part_length}
 use Rattle.lists.specs.Table.{RowRoom, row_room}
-use Rattle.graph.specs.Meaning.{graph_of}
+use Rattle.graph.specs.Meaning.{graph_is}
 use Rattle.tutte.specs.Table.{listed, filled_next}
 use Rattle.tutte.proofs.fill_listed.Goals as goal
 
@@ -18,4 +18,4 @@ loop-i-preserved c =
     let n = length c.args.vertices.now in
     let size = at.i * n + n - (at.i * n + (at.i + 1)) in
     let l : length (take size (drop (at.i * n + (at.i + 1)) at.table)) ≡ size = part_length at.table (at.i * n + (at.i + 1)) size (omega arith) in
-    (omega arith, filled_next n (listed (graph_of c.args.graph) c.args.vertices.now) at.invariant.1 (omega arith) c.requires.square.size size (omega arith) (rw l at c.listed_row.ensures))
+    (omega arith, filled_next n (listed (graph_is c.args.graph) c.args.vertices.now) at.invariant.1 (omega arith) c.requires.square.size size (omega arith) (rw l at c.listed_row.ensures))
