@@ -104,8 +104,8 @@ module _ (n made : ℕ) (adjacency weights inverse sequence kept : List ℕ) (nu
     as_stored : (changed : Bool) (left : State) → (changed ≡ false → left ≡ needed_state host)
         → onto (bytes_of 2 (take (extent changed (n * n)) left.inverse)) inverse ≡ stored_bytes left
     unfolding bytes_of
-    as_stored true left same = refl
-    as_stored false left same = sym (same_bytes (same refl))
+    as_stored true left _ = refl
+    as_stored false left as_before = sym (same_bytes (as_before refl))
 
     -- the last state of both runs, stored
     record Last (small large : State) : Type 0 where

@@ -7,20 +7,10 @@ ghost use Rattle.matching.specs.Host.{unpacked_state, handed_back};
 ghost use Rattle.matching.specs.Replay.{HostReplays, HostDemandThree};
 ghost use Rattle.matching.specs.Session.{state};
 ghost use Rattle.crossing.specs.HostFits.{HostFits};
-ghost use Rattle.replay_bytes.specs.HostReplay.{extent, ReplaysOver};
+ghost use Rattle.replay_bytes.specs.HostReplay.{ReplaysOver};
 
-use refusals::Ruling;
+use numbers::AnswerKind;
 use session::Session;
-
-// Returns how many words to store: cells if any has changed, else 0.
-fn extent(changed: bool, cells: usize) -> usize
-    ensures { result ≡ extent changed cells }
-{
-    if changed {
-        return cells;
-    }
-    0
-}
 
 // Replays over lent words, and returns the host's number. If a call was accepted, stores the words of table as the bytes of inverse.
 fn replay_over(
@@ -41,17 +31,14 @@ fn replay_over(
         ReplaysOver before list.now answers.old inverse.old result
         inverse.new sequence.new answers.new }
 {
-    let cells = table.len();
     let session = Session { size: n, made };
     let replayed = replay::replay(
         session, adjacency, weights, table, sequence, kept, list, answers,
     );
-    let after = replayed.session;
-    let ruling = replayed.ruling;
-    let changed = replayed.changed;
-    let count = extent(changed, cells);
-    packing::store(table, count, inverse);
-    numbers::ruled(5, ruling, after.made)
+    if replayed.changed {
+        packing::store(table, table.len(), inverse);
+    }
+    numbers::ruled(AnswerKind::Replayed, replayed.ruling, replayed.session.made)
 }
 
 // replay_over, on words unpacked from the host's bytes: only those n vertices need.
@@ -77,13 +64,12 @@ fn replay_words(
     let mut table = [0u16; 9216];
     crossing::unpack(n, weights, inverse, &mut values, &mut table);
     let count = checks::weights_needed(n);
-    let cells = n * n;
     replay_over(
         n,
         made,
         adjacency,
         &values[..count],
-        &mut table[..cells],
+        &mut table[..n * n],
         inverse,
         sequence,
         kept,
@@ -113,17 +99,10 @@ pub fn replay(
         HostDemandThree first_edition before list.now answers.old
         (handed_back before result inverse.new sequence.new) answers.new }
 {
-    let lengths = checks::judge_lengths(
-        n,
-        adjacency.len(),
-        weights.len() / 2,
-        inverse.len() / 2,
-        sequence.len(),
-    );
-    if let Ruling::Refused(refusal) = lengths {
-        return numbers::refused(refusal);
+    match crossing::judge_bytes(n, adjacency, weights, inverse, sequence) {
+        Ok(()) => replay_words(
+            n, made, adjacency, weights, inverse, sequence, kept, list, answers,
+        ),
+        Err(refusal) => numbers::refused(refusal),
     }
-    replay_words(
-        n, made, adjacency, weights, inverse, sequence, kept, list, answers,
-    )
 }

@@ -1,24 +1,16 @@
 -- `replay_bytes::replay_over` meets its contract. Assumes nothing.
-use mathlib.Core.Path.{refl}
-use native.Mathlib.Omega.{arith}
-use lib.ListN.{length}
+use Rattle.std.proofs.Common.{refl, ◌∙◌}
+use Rattle.matching.specs.Host.{bytes_of}
 use Rattle.replay.specs.Run.{unchanged}
-use Rattle.replay_bytes.specs.HostReplay.{extent_small, replays_fit}
+use Rattle.replay_bytes.specs.HostReplay.{replays_fit}
 use Rattle.replay_bytes.proofs.replay_over.Goals as goal
-
-pub store-requires : goal.store-requires
-store-requires c =
-    let told = c.extent-count in
-    let replayed = c.replay-replayed in
-    let small = extent_small replayed.result.changed (length c.args.table.now) in
-    (omega (arith, told.ensures, small, replayed.auto.inverse), omega (arith, told.ensures, small, c.requires))
+use Rattle.replay_bytes.proofs.replay_over.Goals.{then-replayed, else-replayed}
 
 pub ruled-requires : goal.ruled-requires
-ruled-requires c =
-    let replayed = c.replay-replayed in
-    (omega arith, replays_fit replayed.ensures.run)
+ruled-requires c = replays_fit c.replay-replayed.ensures.run
 
 pub returns : goal.returns
+unfolding bytes_of
 returns c =
     let replayed = c.replay-replayed in
     record {
@@ -27,7 +19,11 @@ returns c =
       changed = _;
       outcome = replayed.ensures.run;
       numbered = c.ruled.ensures replayed.result.session.size;
-      stored = rw c.extent-count.ensures at c.store.ensures;
+      stored =
+          elim c.if-replayed.branch [
+            | then-replayed w ↦ rw (w.if-replayed.true, ← replayed.auto.inverse) (w.inverse-is ∙ w.store.ensures)
+            | else-replayed w ↦ rw w.if-replayed.false w.inverse-is
+          ];
       sequence = refl;
       unchanged = unchanged _ _ _ replayed.ensures.run replayed.ensures.changed;
     }

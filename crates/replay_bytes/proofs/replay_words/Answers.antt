@@ -1,42 +1,17 @@
 -- `replay_bytes::replay_words` meets its contract: the words that it lends are those that the graph needs. Assumes nothing.
-use mathlib.Core.Path.{sym}
-use Prim.Native.Nat.{ℕ}
-use native.Mathlib.Omega.{arith}
-use lib.ListN.{length-replicate}
+use Rattle.std.proofs.Common.{arith}
 use borrow.Author.Rules.{rules}
-use Rattle.crossing.specs.HostFits.{table_part, values_within, values_part, values_are, needed_words, table_stores}
+use Rattle.crossing.specs.HostFits.{table_part, values_are, needed_words, table_stores}
 use Rattle.replay_bytes.specs.HostReplay.{host_replays}
 use Rattle.replay_bytes.proofs.replay_words.Goals as goal
 
-pub unpack-requires : goal.unpack-requires
-unpack-requires c =
-    let a = c.args in
-    (needed_words a.n a.made a.adjacency.now a.weights.now a.inverse.now a.sequence.now a.kept.now c.requires, length-replicate {A = ℕ} 4560 0, length-replicate {A = ℕ} 9216 0)
-
-pub slice_bounds-values-end : goal.slice_bounds-values-end
-slice_bounds-values-end c =
-    values_within c.unpack.ensures c.weights_needed-count.ensures
-
-pub slice_bounds-replay_over-end : goal.slice_bounds-replay_over-end
-slice_bounds-replay_over-end c =
-    sym (values_part c.unpack.ensures c.weights_needed-count.ensures)
-
-pub slice_bounds-table-end : goal.slice_bounds-table-end
-slice_bounds-table-end c =
-    c.unpack.ensures.inverse_room
-
-pub slice_bounds-replay_over-end-2 : goal.slice_bounds-replay_over-end-2
-slice_bounds-replay_over-end-2 c =
-    sym (table_part c.unpack.ensures)
+pub unpack-requires-clause-needed : goal.unpack-requires-clause-needed
+unpack-requires-clause-needed c = needed_words _ _ _ _ _ _ _ c.requires
 
 pub replay_over-requires : goal.replay_over-requires
-replay_over-requires c =
-    let a = c.args in
-    omega (arith, table_stores a.n a.made a.adjacency.now a.weights.now a.inverse.now a.sequence.now a.kept.now c.requires, table_part c.unpack.ensures)
+replay_over-requires c = omega (arith, table_stores _ _ _ _ _ _ _ c.requires, table_part c.unpack.ensures)
 
 pub returns : goal.returns
 returns c =
-    let a = c.args in
-    host_replays a.n a.made a.adjacency.now a.weights.now a.inverse.now a.sequence.now a.kept.now a.list.now a.answers.now
-    (search rules) c.requires
+    host_replays _ _ _ _ _ _ _ _ _ (search rules) c.requires
     (rw (values_are c.unpack.ensures c.weights_needed-count.ensures, c.unpack.ensures.inverse_are) at c.replay_over.ensures)
