@@ -8,28 +8,19 @@ ghost use Rattle.verdict.specs.Lines.{Writes};
 ghost use Rattle.listing.specs.Meaning.{listed_of};
 ghost use Rattle.listing.specs.Sheets.{ListsBytes, Tables};
 
-use filling::Read;
+// The most bytes that are read.
+const INPUT_LIMIT: usize = 16384;
 
-// What list answers: the length of the text, or that the buffer is shorter than 2,048 bytes.
-#[derive(Clone, Copy)]
-pub enum Listed {
-    Text(usize),
-    NoRoom,
-}
+// The bytes of text that any listing fits.
+const TEXT_ROOM: usize = 2048;
 
 // Writes all lines of the sheet bytes; adjacency and weights have room for the largest graph.
 fn sheet_lines(bytes: &[u8], adjacency: &mut [u8], weights: &mut [u16], text: &mut [u8]) -> usize
     requires { Tables bytes.now adjacency.old weights.old text.old }
     ensures { Writes (ListsBytes bytes.now) 0 text.old text.new result }
 {
-    let read = reader::read(bytes, adjacency, weights);
-    match read {
-        Read::Refused(why) => {
-            let place = why.place;
-            let index = refusals::place_number(place);
-            text::refused_line(text, 0, why.cause as usize, index)
-        }
-        Read::Graph(extent) => {
+    match reader::read(bytes, adjacency, weights) {
+        Ok(extent) => {
             let n = extent.size;
             let cells = n * n;
             let count = checks::weights_needed(n);
@@ -41,12 +32,18 @@ fn sheet_lines(bytes: &[u8], adjacency: &mut [u8], weights: &mut [u16], text: &m
                 text,
             )
         }
+        Err(why) => {
+            let cause = why.cause.number() as usize;
+            let index = refusals::place_number(why.place);
+            text::refused_line(text, 0, cause, index)
+        }
     }
 }
 
 // Calls sheet_lines with tables of its own.
 fn write_lines(bytes: &[u8], text: &mut [u8]) -> usize
-    requires { (length bytes.now ≤ input_limit) × (text_room ≤ length text.old) }
+    requires few { length bytes.now ≤ input_limit }
+    requires room { text_room ≤ length text.old }
     ensures { Writes (ListsBytes bytes.now) 0 text.old text.new result }
 {
     // 96 * 96 cells, and 96 * 95 / 2 weights.
@@ -55,15 +52,14 @@ fn write_lines(bytes: &[u8], text: &mut [u8]) -> usize
     sheet_lines(bytes, &mut adjacency, &mut weights, text)
 }
 
-// Lists the first 16,384 bytes of input, or all of them if there are fewer, into text, which needs 2,048 bytes.
-pub fn list(input: &[u8], text: &mut [u8]) -> Listed
+// Lists the first 16,384 bytes of input, or all of them if there are fewer, into text, and returns the length of the listing, or None if text is
+// shorter than 2,048 bytes.
+pub fn list(input: &[u8], text: &mut [u8]) -> Option<usize>
     ensures { ListsInto first_edition input.now text.old (listed_of result) text.new }
 {
-    if text.len() < 2048 {
-        return Listed::NoRoom;
+    if text.len() < TEXT_ROOM {
+        return None;
     }
-    if input.len() < 16384 {
-        return Listed::Text(write_lines(input, text));
-    }
-    Listed::Text(write_lines(&input[..16384], text))
+    let bytes = &input[..INPUT_LIMIT.min(input.len())];
+    Some(write_lines(bytes, text))
 }
