@@ -11,7 +11,7 @@ ghost use Rattle.listing.specs.Sheets.{ListsBytes, Tables};
 // The most bytes that are read.
 const INPUT_LIMIT: usize = 16384;
 
-// The bytes of text that any listing fits.
+// The bytes that every listing fits in.
 const TEXT_ROOM: usize = 2048;
 
 // Writes all lines of the sheet bytes; adjacency and weights have room for the largest graph.
@@ -52,7 +52,7 @@ fn write_lines(bytes: &[u8], text: &mut [u8]) -> usize
     sheet_lines(bytes, &mut adjacency, &mut weights, text)
 }
 
-// Lists the first 16,384 bytes of input, or all of them if there are fewer, into text, and returns the length of the listing, or None if text is
+// Lists the first 16,384 bytes of input, or all of them if there are fewer, into text. Returns the length of the listing, or None if text is
 // shorter than 2,048 bytes.
 pub fn list(input: &[u8], text: &mut [u8]) -> Option<usize>
     ensures { ListsInto first_edition input.now text.old (listed_of result) text.new }
