@@ -3,7 +3,6 @@
 
 ghost use Rattle.std.specs.Prelude.{◌≤◌, length};
 
-use listing::Listed;
 use std::io;
 use std::io::Read;
 
@@ -26,8 +25,7 @@ fn main(rt: HostRuntime) -> io::Result<()> {
     let mut input = [0u8; 16384];
     let mut text = [0u8; 2048];
     let length = read_full(&mut rt.stdin(), &mut input);
-    let listed = listing::list(&input[..length], &mut text);
-    if let Listed::Text(end) = listed {
+    if let Some(end) = listing::list(&input[..length], &mut text) {
         rt.write_all(&text[..end])?;
     }
     Ok(())
