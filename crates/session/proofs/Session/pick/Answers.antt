@@ -3,5 +3,5 @@ use Rattle.residue.specs.Modulus.{modulus_prime}
 use Rattle.laws.specs.CallOutcome.{picked_exactly}
 use Rattle.session.proofs.Session.pick.Goals as goal
 
-pub returns : goal.returns
-returns c = let h = c.call.ensures in record { handled = h; exactly = picked_exactly modulus_prime h }
+pub returns-clause-exactly : goal.returns-clause-exactly
+returns-clause-exactly c = picked_exactly modulus_prime c.call.ensures
