@@ -9,16 +9,18 @@ ghost use Rattle.filling.specs.Meaning.{read_of};
 ghost use Rattle.sheet_bytes.specs.Stored.{StoreRoom};
 ghost use Rattle.dimacs_bytes.specs.Texts.{Fits};
 
-use filling::Read;
+use filling::Extent;
+use numbers::AnswerKind;
+use refusals::Refusal;
 
 // Returns the host's number for read.
-fn number(read: Read) -> u64
+fn number(read: Result<Extent, Refusal>) -> u64
     requires { Fits (read_of read) }
     ensures { result ≡ read_number (capped (read_of read)) }
 {
     match read {
-        Read::Graph(extent) => numbers::carried(6, extent.edges as u64, extent.size as u64),
-        Read::Refused(why) => numbers::refused_at_line(why),
+        Ok(extent) => numbers::carried(AnswerKind::Read, extent.edges as u64, extent.size as u64),
+        Err(refusal) => numbers::refused_at_line(refusal),
     }
 }
 
@@ -47,9 +49,6 @@ pub fn read(text: &[u8], seed: u32, adjacency: &mut [u8], weights: &mut [u8]) ->
 {
     // 96 * 95 / 2 weights.
     let mut values = [0u16; 4560];
-    let room = weights.len() / 2;
-    if room < 4560 {
-        return read_over(text, seed, adjacency, &mut values[..room], weights);
-    }
-    read_over(text, seed, adjacency, &mut values, weights)
+    let room = sheet_bytes::room(weights);
+    read_over(text, seed, adjacency, &mut values[..room], weights)
 }
