@@ -162,9 +162,30 @@ impl Session {
             adjacency.now weights.now inverse.now sequence.now kept.now in
             ShowsRow modulus_prime before a row.old (ruling_of result.ruling) after row.new }
     {
+        Shown {
+            session: self,
+            ruling: self.show(adjacency, weights, inverse, sequence, kept, a, row),
+        }
+    }
+
+    // Writes the row of a, if the session is sound.
+    fn show(
+        self,
+        adjacency: &[u8],
+        weights: &[u16],
+        inverse: &[u16],
+        sequence: &[u8],
+        kept: &[u8],
+        a: usize,
+        row: &mut [u8],
+    ) -> Result<(), Refusal>
+        ensures { let session = state self.size self.made
+            adjacency.now weights.now inverse.now sequence.now kept.now in
+            ShowsRow modulus_prime session a row.old (ruling_of result) session row.new }
+    {
         let n = self.size;
         let mut marks = [0u8; 96];
-        let ruling = match soundness::confirm_row(
+        soundness::confirm_row(
             n,
             self.made,
             adjacency,
@@ -174,13 +195,7 @@ impl Session {
             kept,
             row.len(),
             &mut marks,
-        ) {
-            Ok(_) => partners::row(n, adjacency, inverse, &marks[..n], a, &mut row[..n]),
-            Err(refusal) => Err(refusal),
-        };
-        Shown {
-            session: self,
-            ruling,
-        }
+        )?;
+        partners::row(n, adjacency, inverse, &marks[..n], a, &mut row[..n])
     }
 }
