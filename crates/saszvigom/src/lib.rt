@@ -12,6 +12,9 @@ ghost use Rattle.matching.specs.Session.{state, all_kept};
 ghost use Rattle.opening.specs.Meaning.{buffers};
 ghost use Rattle.saszvigom.specs.Version.{version};
 
+// The kept row of a session in which every vertex is kept.
+static ALL_KEPT: [u8; 96] = [1; 96];
+
 // Returns the version of the library: 0.8.0.
 #[unsafe(no_mangle)]
 pub extern "C" fn saszvigom_version() -> u64
@@ -61,7 +64,6 @@ pub extern "C" fn saszvigom_pick(
         inverse.old sequence.old all_kept in
         HostPickedExactly first_edition before a b result }
 {
-    let kept = [1u8; 96];
     crossing::pick(
         n as usize,
         made as usize,
@@ -71,7 +73,7 @@ pub extern "C" fn saszvigom_pick(
         weights,
         inverse,
         sequence,
-        &kept,
+        &ALL_KEPT,
     )
 }
 
@@ -89,7 +91,6 @@ pub extern "C" fn saszvigom_automatic(
         inverse.old sequence.old all_kept in
         HostHandles first_edition before automatic result (handed_back before result inverse.new sequence.new) }
 {
-    let kept = [1u8; 96];
     crossing::automatic(
         n as usize,
         made as usize,
@@ -97,7 +98,7 @@ pub extern "C" fn saszvigom_automatic(
         weights,
         inverse,
         sequence,
-        &kept,
+        &ALL_KEPT,
     )
 }
 
@@ -115,7 +116,6 @@ pub extern "C" fn saszvigom_undo(
         inverse.old sequence.old all_kept in
         HostHandles first_edition before undo result (handed_back before result inverse.new sequence.new) }
 {
-    let kept = [1u8; 96];
     crossing::undo(
         n as usize,
         made as usize,
@@ -123,7 +123,7 @@ pub extern "C" fn saszvigom_undo(
         weights,
         inverse,
         sequence,
-        &kept,
+        &ALL_KEPT,
     )
 }
 
@@ -143,7 +143,6 @@ pub extern "C" fn saszvigom_row(
         inverse.now sequence.now all_kept in
         HostShowsRow first_edition before a row.old result before row.new }
 {
-    let kept = [1u8; 96];
     row_bytes::row(
         n as usize,
         made as usize,
@@ -152,7 +151,7 @@ pub extern "C" fn saszvigom_row(
         weights,
         inverse,
         sequence,
-        &kept,
+        &ALL_KEPT,
         row,
     )
 }
@@ -178,7 +177,6 @@ pub extern "C" fn saszvigom_replay(
         HostDemandThree first_edition before calls.now answers.old
         (handed_back before result inverse.new sequence.new) answers.new }
 {
-    let kept = [1u8; 96];
     replay_bytes::replay(
         n as usize,
         made as usize,
@@ -186,7 +184,7 @@ pub extern "C" fn saszvigom_replay(
         weights,
         inverse,
         sequence,
-        &kept,
+        &ALL_KEPT,
         calls,
         answers,
     )
