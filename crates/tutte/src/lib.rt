@@ -2,11 +2,12 @@
 // of vertices, given by a byte for each vertex that is not 0 for those in it, or for listed vertices alone.
 #![tactic(auto)]
 
-ghost use Rattle.std.specs.Prelude.{◌≡◌, ◌+◌, ◌*◌, ◌<◌, length};
+ghost use Rattle.std.specs.Prelude.{◌≡◌, ℕ, ◌+◌, ◌*◌, ◌<◌, length};
 ghost use Rattle.lists.specs.Values.{list_of};
 ghost use Rattle.lists.specs.Table.{Square};
 ghost use Rattle.residue.specs.Modulus.{modulus};
 ghost use Rattle.skew.specs.Subset.{marked};
+ghost use Rattle.skew.specs.Inverse.{Matrix};
 ghost use Rattle.matching.specs.Graph.{tutte};
 ghost use Rattle.graph.specs.Meaning.{graph_is};
 ghost use Rattle.tutte.specs.Table.{restricted, listed, Ascending, row_of, Filled};
@@ -26,14 +27,29 @@ fn entry(graph: Graph, set: &[u8], i: usize, j: usize) -> u16
     graph.upper(i, j)
 }
 
-// Writes the entries of row i right of the diagonal to row.
-fn fill_row(graph: Graph, set: &[u8], i: usize, row: &mut [u64])
-    requires set_len { length set.now ≡ graph.size }
-    requires i_lt_n { (i < graph.size) × (i + 1 + length row.old ≡ graph.size) }
-    ensures { row.new ≡ row_of (restricted (graph_is graph.entry) (marked set.now)) i (length row.old) }
+// Writes what entry gives for i and each index after it to row.
+fn fill_row<F: Fn(usize, usize) -> u16>(n: usize, i: usize, entry: &F, row: &mut [u64])
+    requires i_lt_n { (i < n) × (i + 1 + length row.old ≡ n) }
+    requires callable { (j : ℕ) → i < j → j < n → F.pre entry.now i j }
+    ensures { (E : Matrix) → ((j x : ℕ) → i < j → j < n → F.post entry.now i j x → x ≡ E i j)
+        → row.new ≡ row_of E i (length row.old) }
 {
     for (k, word) in row.iter_mut().enumerate() {
-        *word = entry(graph, set, i, i + 1 + k) as u64;
+        *word = entry(i, i + 1 + k) as u64;
+    }
+}
+
+// Writes what entry gives for each two indices below n, the smaller first, to table; its other words stay as they are.
+fn fill_above<F: Fn(usize, usize) -> u16>(n: usize, entry: &F, table: &mut [u64])
+    requires square { Square n table.old }
+    requires callable { (i j : ℕ) → i < j → j < n → F.pre entry.now i j }
+    ensures { (E : Matrix) → ((i j x : ℕ) → i < j → j < n → F.post entry.now i j x → x ≡ E i j)
+        → Filled n E n table.old table.new }
+{
+    for i in 0..n {
+        let at = i * n + (i + 1);
+        let end = i * n + n;
+        fill_row(n, i, entry, &mut table[at..end]);
     }
 }
 
@@ -43,25 +59,8 @@ pub fn fill(graph: Graph, set: &[u8], table: &mut [u64])
     requires table_len { length table.old ≡ graph.size * graph.size }
     ensures { Filled graph.entry.size (restricted (graph_is graph.entry) (marked set.now)) graph.entry.size table.old table.new }
 {
-    let n = graph.size;
-    for i in 0..n {
-        let at = i * n + (i + 1);
-        let end = i * n + n;
-        fill_row(graph, set, i, &mut table[at..end]);
-    }
-}
-
-// Writes the entries of row i right of the diagonal to row, for the listed vertices alone.
-fn listed_row(graph: Graph, vertices: &[u8], i: usize, row: &mut [u64])
-    requires ascending { Ascending graph.size vertices.now }
-    requires i_in_bounds { (i < length vertices.now) × (i + 1 + length row.old ≡ length vertices.now) }
-    ensures { row.new ≡ row_of (listed (graph_is graph.entry) vertices.now) i (length row.old) }
-{
-    let a = vertices[i] as usize;
-    for (k, word) in row.iter_mut().enumerate() {
-        let b = vertices[i + 1 + k] as usize;
-        *word = graph.upper(a, b) as u64;
-    }
+    let restricted = |i: usize, j: usize| entry(graph, set, i, j);
+    fill_above(graph.size, &restricted, table);
 }
 
 // Writes the entries above the diagonal for vertices, which are listed in ascending order, to a table of their own; its other words stay as
@@ -71,12 +70,8 @@ pub fn fill_listed(graph: Graph, vertices: &[u8], table: &mut [u64])
     requires square { Square (length vertices.now) table.old }
     ensures { Filled (length vertices.now) (listed (graph_is graph.entry) vertices.now) (length vertices.now) table.old table.new }
 {
-    let count = vertices.len();
-    for i in 0..count {
-        let at = i * count + (i + 1);
-        let end = i * count + count;
-        listed_row(graph, vertices, i, &mut table[at..end]);
-    }
+    let listed = |i: usize, j: usize| graph.upper(vertices[i] as usize, vertices[j] as usize);
+    fill_above(vertices.len(), &listed, table);
 }
 
 // Returns entry (i, j) of the whole matrix.
