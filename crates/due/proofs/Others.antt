@@ -1,4 +1,4 @@
--- What the last arm of a match on a record, `_ =>`, tells of the record's kind. Assumes nothing.
+-- What is known of the kind of a record if its variant is none of some. Assumes nothing.
 use Rattle.std.specs.Prelude.{◌≡◌, refl, ◌≢◌, true, false, not, List, [], ◌∷◌, ℕ, ◌+◌, T, eqb}
 use mir.Val.{has_key}
 use types.Run.{OneOf, miss}

@@ -80,7 +80,7 @@ fn field_at(bytes: &[u8], at: usize, end: u8) -> Option<Number>
     digits_at(bytes, at + 1, usize::from(c) - ZERO, end)
 }
 
-// Reads the field at offset at of bytes if it has one or two digits. None does not say that no longer one stands there.
+// Reads the field at offset at of bytes if it has one or two digits. None does not say that none with more digits stands there.
 fn short_at(bytes: &[u8], at: usize, end: u8) -> Option<Number>
     requires { at + 3 ≤ length bytes.now }
     ensures { ShortAt bytes.now at end result }
@@ -118,8 +118,8 @@ fn two_at(bytes: &[u8], at: usize) -> Option<Two>
     })
 }
 
-// Reads two fields at offset at of bytes as two_at does, if both have one or two digits. None does not say that no longer ones stand
-// there.
+// Reads two fields at offset at of bytes as two_at does, if both have one or two digits. None does not say that none with more digits
+// stand there.
 fn short_two_at(bytes: &[u8], at: usize) -> Option<Two>
     requires { at + 6 ≤ length bytes.now }
     ensures { ShortTwoAt bytes.now at result }

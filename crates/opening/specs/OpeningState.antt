@@ -11,6 +11,7 @@ use Rattle.matching.specs.Session.{InverseTable}
 use Rattle.matching.specs.Opening.{Singular, ruling, Opens, opens, finds_singular}
 use Rattle.matching.specs.Causes.{opening_ruling}
 use Rattle.laws.specs.Sound.{opening_accepted}
+use Rattle.graph.specs.Complete.{Complete}
 use Rattle.solve.specs.Solved.{Solved, solved_whole}
 use Rattle.opening.specs.Meaning.{found, buffers}
 
@@ -22,9 +23,10 @@ pub record OpeningReady (n : ℕ) (inverse sequence witness : List ℕ) : Type 0
 
 pub ready : (n : ℕ) (adjacency weights inverse sequence witness : List ℕ) (work : ℕ)
     → opening_ruling modulus (over n adjacency weights) (length inverse) (length sequence) (length witness) work ≡ accepted
-    → OpeningReady n inverse sequence witness × (n * n ≤ work)
+    → Complete n adjacency weights × OpeningReady n inverse sequence witness × (n * n ≤ work)
 ready n adjacency weights inverse sequence witness work e =
     let k = (opening_accepted modulus (over n adjacency weights) (length inverse) (length sequence) (length witness) work).0 e in (
+      record { size = k.1.size; cells = k.0.graph.cells; weights_enough = k.0.graph.weights },
       record {
         inverse_fits = k.0.inverse_fits;
         sequence_fits = k.0.sequence_fits;

@@ -5,8 +5,7 @@ ghost use Rattle.std.specs.Prelude.{◌≡◌};
 ghost use Rattle.matching.specs.Decision.{place_number, because, because_cell};
 ghost use Rattle.refusals.specs.Meaning.{cause_number, buffer_number, fault_number, place_of, refusal_of};
 
-// The causes, in the order in which they are looked for. docs/HOST.md has what each means; of 12 and 13, what each means of a sheet, and of a
-// list of calls.
+// The causes, by their numbers. docs/HOST.md has what each means; of 12 and 13, what each means of a sheet, and of a list of calls.
 #[derive(Clone, Copy)]
 pub enum Cause {
     SizeTooLarge = 1,

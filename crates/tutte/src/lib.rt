@@ -15,7 +15,7 @@ ghost use Rattle.tutte.specs.Table.{restricted, listed, Ascending, row_of, Fille
 use graph::Graph;
 use residue::Residue;
 
-// Returns what upper returns if i and j are both in set, else 0.
+// Returns the weight of i < j if they are adjacent and both in set, else 0.
 fn entry(graph: Graph, set: &[u8], i: usize, j: usize) -> u16
     requires set_len { length set.now ≡ graph.size }
     requires i_lt_j { (i < j) × (j < graph.size) }

@@ -28,16 +28,16 @@ overflow_mul-cells c =
     record { fits = omega (arith, square_small c.args.n (rw c.in_ok-graph.ensures.lent.size at c.in_ok-graph.graph.complete.size)) }
 
 pub fill-requires : goal.fill-requires
-fill-requires c = (ready _ _ _ _ _ _ _ (sym c.in_ok-graph.ensures.ruling)).1
+fill-requires c = (ready _ _ _ _ _ _ _ (sym c.in_ok-graph.ensures.ruling)).2
 
 pub begin_accepted-requires : goal.begin_accepted-requires
-begin_accepted-requires c = rw c.in_ok-graph.ensures.lent.size (ready _ _ _ _ _ _ _ (sym c.in_ok-graph.ensures.ruling)).0
+begin_accepted-requires c = rw c.in_ok-graph.ensures.lent.size (ready _ _ _ _ _ _ _ (sym c.in_ok-graph.ensures.ruling)).1
 
 pub fill-requires-in-None : goal.fill-requires-in-None
-fill-requires-in-None c = omega (arith, (ready _ _ _ _ _ _ _ (sym c.in_ok-graph.ensures.ruling)).0.witness_fits, c.begin_accepted.auto.witness)
+fill-requires-in-None c = omega (arith, (ready _ _ _ _ _ _ _ (sym c.in_ok-graph.ensures.ruling)).1.witness_fits, c.begin_accepted.auto.witness)
 
 pub fill-requires-in-Some : goal.fill-requires-in-Some
-fill-requires-in-Some c = omega (arith, (ready _ _ _ _ _ _ _ (sym c.in_ok-graph.ensures.ruling)).0.inverse_fits, c.begin_accepted.auto.inverse)
+fill-requires-in-Some c = omega (arith, (ready _ _ _ _ _ _ _ (sym c.in_ok-graph.ensures.ruling)).1.inverse_fits, c.begin_accepted.auto.inverse)
 
 -- the inverse is found and the witness cleared
 pub returns-in-None : goal.returns-in-None

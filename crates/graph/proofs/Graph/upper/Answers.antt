@@ -1,4 +1,4 @@
--- `tutte::upper` meets its contract: the cell and the weight are within what is lent, and the index is that of the definition.
+-- `graph::Graph::upper` meets its contract: the cell and the weight are within what is lent, and the index is that of the definition.
 -- Assumes nothing.
 use mathlib.Core.Path.{sym, ap, ◌∙◌}
 use lib.ListN.{get_or}
