@@ -35,14 +35,19 @@ pub enum Line {
 // The code of the digit 0.
 const ZERO: usize = b'0' as usize;
 
+// The largest number that has room for one digit more in 64 bits, whatever the digit.
+const ROOM_FOR_A_DIGIT: usize = 1844674407370955160;
+
 // Returns value with one digit more, and the largest number if that would pass it.
 fn appended(value: usize, digit: u8) -> usize
     requires { Digit digit }
     ensures { (x : ℕ) → Near value x → Near result (append x digit) }
 {
-    value
-        .saturating_mul(10)
-        .saturating_add(usize::from(digit) - ZERO)
+    if value <= ROOM_FOR_A_DIGIT {
+        10 * value + (usize::from(digit) - ZERO)
+    } else {
+        usize::MAX
+    }
 }
 
 // Reads the digits of bytes from offset from on, any number of them, up to the byte end. They follow digits that come to before, and value
