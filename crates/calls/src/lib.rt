@@ -101,9 +101,9 @@ pub fn automatic(
     let Some(c) = partners::lowest(marks) else {
         return deny(Cause::NothingLeft, made);
     };
-    // The vertices left have an inverse, so the lowest has a partner.
     let Some(r) = partners::partner(n, adjacency, inverse, marks, c) else {
-        unreachable!()
+        // Not reached: if the vertices left have an inverse, the lowest has a partner.
+        return deny(Cause::NothingLeft, made);
     };
     let pair = pairing::append(n, made, inverse, sequence, marks, c, r);
     Reply {

@@ -9,10 +9,9 @@ returns-in_default c = λ weights kept K. called_denied c.deny.ensures (automati
 pub partner-requires : goal.partner-requires
 partner-requires c = tables c.requires.2
 
-pub unreachable-requires : goal.unreachable-requires
-unreachable-requires c =
-    let K = c.requires.2 in
-    automatic_partner K c.in-Some.ensures (c.in_default-partner.ensures _ _ _ (standing K))
+pub returns-in_default-partner : goal.returns-in_default-partner
+returns-in_default-partner c =
+    λ weights kept K. absurd (automatic_partner K c.in-Some.ensures (c.in_default-partner.ensures weights _ _ (standing K)))
 
 pub append-pair-requires : goal.append-pair-requires
 append-pair-requires c =
