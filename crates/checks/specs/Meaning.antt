@@ -5,7 +5,6 @@ use Rattle.matching.specs.Decision.{faulty_cell, absent, at, accepted, refused}
 use Rattle.matching.specs.Graph.{Graph, fault, over}
 use Rattle.matching.specs.Causes.{bad_cell}
 use Rattle.refusals.specs.declared.FaultyCell.{FaultyCell}
-use Rattle.refusals.specs.Meaning.{fault_number}
 use Rattle.graph.specs.declared.Graph as lent
 use Rattle.graph.specs.Meaning.{graph_is}
 
@@ -19,8 +18,8 @@ pub record FaultInRow (g : Graph) (i : ℕ) (f : FaultyCell) : Type 0 where
   pub row : f.row ≡ i
   pub from_diagonal : i ≤ f.column
   pub column : f.column < g.n
-  pub is : fault_number f.fault ≡ fault g i f.column
-  pub faulty : fault_number f.fault ≢ 0
+  pub is : f.fault ≡ fault g i f.column
+  pub faulty : f.fault ≢ 0
   pub before : (l : ℕ) → i ≤ l → l < f.column → fault g i l ≡ 0
 
 abbrev pub InRow : Graph → ℕ → Option FaultyCell → Type 0
@@ -30,7 +29,7 @@ InRow g i (Some f) = FaultInRow g i f
 -- where cause 3 is found
 abbrev pub Located : Graph → Option FaultyCell → Type 0
 Located g None = (bad_cell g).finding ≡ absent
-Located g (Some f) = (bad_cell g).finding ≡ at (faulty_cell f.row f.column (fault_number f.fault))
+Located g (Some f) = (bad_cell g).finding ≡ at (faulty_cell f.row f.column f.fault)
 
 -- the graph that an accepting check returns is the one that was lent
 pub record IsLent (n : ℕ) (a : List ℕ) (w : List ℕ) (g : lent.Graph) : Type 0 where

@@ -81,10 +81,11 @@ pub fn judge_lengths(n: usize, lengths: Lengths) -> Result<(), Refusal>
 // Returns the cell in this row and column, with its fault.
 fn faulty(row: usize, column: usize, fault: Fault) -> FaultyCell
     requires { (row < largest) × (column < largest) }
-    ensures { result ≡ record { row = row; column = column; fault = fault } }
+    ensures { result ≡ record { row = row; column = column; fault = fault_number fault } }
 {
     let row = row as u8;
     let column = column as u8;
+    let fault = fault.number();
     FaultyCell { row, column, fault }
 }
 

@@ -33,7 +33,7 @@ fn sheet_lines(bytes: &[u8], adjacency: &mut [u8], weights: &mut [u16], text: &m
             )
         }
         Err(why) => {
-            let cause = why.cause.number() as usize;
+            let cause = why.cause as usize;
             let index = refusals::place_number(why.place);
             text::refused_line(text, 0, cause, index)
         }

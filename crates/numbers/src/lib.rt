@@ -39,7 +39,7 @@ pub fn refused(refusal: Refusal) -> u64
     requires { place_number (place_of refusal.place) < 2 ^ 24 }
     ensures { result ≡ refusal_number (refusal_of refusal) }
 {
-    refusal.cause.number() as u64 + 65536 * (refusals::place_number(refusal.place) as u64)
+    refusal.cause as u64 + 65536 * (refusals::place_number(refusal.place) as u64)
 }
 
 // Returns the number of a refusal of a text: a line after the last that a number can name is given as that one.
@@ -47,7 +47,7 @@ pub fn refused_at_line(refusal: Refusal) -> u64
     ensures { result ≡ read_number (capped (not_read (refusal_of refusal))) }
 {
     let line = refusals::place_number(refusal.place) as u64;
-    refusal.cause.number() as u64 + 65536 * line.min(LAST_LINE)
+    refusal.cause as u64 + 65536 * line.min(LAST_LINE)
 }
 
 // Returns the number of a call whose answer has no value: the answer-kind and the pairs made, or the refusal.

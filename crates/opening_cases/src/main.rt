@@ -12,15 +12,10 @@ fn show(rt: &impl Print, answer: Result<Opening, Refusal>) -> io::Result<()> {
         Ok(Opening::Opened(session)) => println!(rt; "opened {} {}", session.size, session.made),
         Ok(Opening::Singular(f)) => println!(rt; "witness {f}"),
         Err(refusal) => {
-            print!(rt; "refused {} at ", refusal.cause.number())?;
+            print!(rt; "refused {} at ", refusal.cause)?;
             match refusal.place {
                 Place::Index(index) => println!(rt; "{index}"),
-                Place::Cell(cell) => println!(rt;
-                    "{} {} {}",
-                    cell.row,
-                    cell.column,
-                    cell.fault.number()
-                ),
+                Place::Cell(cell) => println!(rt; "{} {} {}", cell.row, cell.column, cell.fault),
             }
         }
     }

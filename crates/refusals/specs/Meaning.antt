@@ -49,10 +49,10 @@ fault_number Unequal = 3
 
 abbrev pub place_of : Place → decision.Place
 place_of (Index x) = index x
-place_of (Cell c) = faulty_cell c.row c.column (fault_number c.fault)
+place_of (Cell c) = faulty_cell c.row c.column c.fault
 
 abbrev pub refusal_of : Refusal → decision.Refusal
-refusal_of r = record { cause = cause_number r.cause; place = place_of r.place }
+refusal_of r = record { cause = r.cause; place = place_of r.place }
 
 -- an `Ok` accepts, whatever it holds
 abbrev pub ruling_of : {A : Type 0} → Result A Refusal → decision.Ruling

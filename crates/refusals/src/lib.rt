@@ -76,12 +76,12 @@ impl Fault {
     }
 }
 
-// A faulty cell of the adjacency table, with the first of the faults that it has.
+// A faulty cell of the adjacency table, with the number of the first of the faults that it has.
 #[derive(Clone, Copy)]
 pub struct FaultyCell {
     pub row: u8,
     pub column: u8,
-    pub fault: Fault,
+    pub fault: u8,
 }
 
 // The place returned with a cause: a number, such as an index, an offset, a line or the number of a buffer; or a faulty cell.
@@ -91,10 +91,10 @@ pub enum Place {
     Cell(FaultyCell),
 }
 
-// Why a call is refused: the cause, and the place returned with it.
+// Why a call is refused: the number of the cause, and the place returned with it.
 #[derive(Clone, Copy)]
 pub struct Refusal {
-    pub cause: Cause,
+    pub cause: u8,
     pub place: Place,
 }
 
@@ -103,7 +103,7 @@ pub fn because(cause: Cause, index: usize) -> Refusal
     ensures { refusal_of result ≡ because (cause_number cause) index }
 {
     Refusal {
-        cause,
+        cause: cause.number(),
         place: Place::Index(index),
     }
 }
@@ -117,10 +117,10 @@ pub fn too_short(buffer: Buffer) -> Refusal
 
 // Returns the refusal for a faulty cell, the only cause whose place is one.
 pub fn because_cell(cell: FaultyCell) -> Refusal
-    ensures { refusal_of result ≡ because_cell cell.row cell.column (fault_number cell.fault) }
+    ensures { refusal_of result ≡ because_cell cell.row cell.column cell.fault }
 {
     Refusal {
-        cause: Cause::AdjacencyFault,
+        cause: Cause::AdjacencyFault.number(),
         place: Place::Cell(cell),
     }
 }
@@ -132,8 +132,7 @@ pub fn place_number(place: Place) -> usize
     match place {
         Place::Index(index) => index,
         Place::Cell(cell) => {
-            let fault = cell.fault.number() as usize;
-            cell.row as usize + 256 * (cell.column as usize) + 65536 * fault
+            cell.row as usize + 256 * (cell.column as usize) + 65536 * (cell.fault as usize)
         }
     }
 }
