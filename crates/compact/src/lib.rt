@@ -78,7 +78,11 @@ fn all_equal(inverse: &[u16], n: usize, vertices: &[u8], t: &[u64]) -> bool
 fn stray(row: u8, column: u8, word: u16) -> u16
     ensures { Stray row column word result }
 {
-    u16::from(word != 0 && (row == 0 || column == 0))
+    if row == 0 {
+        u16::from(word != 0)
+    } else {
+        u16::from(word != 0 && column == 0)
+    }
 }
 
 // Tells whether a row whose vertex has this mark has no stray word. Counts instead of stopping early, so that the loop vectorizes.
@@ -87,8 +91,8 @@ fn row_clear(words: &[u16], mark: u8, marks: &[u8]) -> bool
     ensures { Tells (RowClear words.now mark marks.now (length marks.now)) result }
 {
     let mut strays = 0;
-    for (word, column) in words.iter().zip(marks) {
-        strays += stray(mark, *column, *word);
+    for (b, word) in words.iter().enumerate() {
+        strays += stray(mark, marks[b], *word);
     }
     strays == 0
 }
