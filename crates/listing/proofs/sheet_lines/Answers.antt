@@ -33,7 +33,7 @@ graph_lines-requires-clause-few_edges c = omega (arith, (sheet_read c.in-Ok.ensu
 
 pub refused_line-requires : goal.refused_line-requires
 refused_line-requires c =
-    let line = because c.number-cause.result c.place_number-index.result in
+    let line = because c.in-Err.why.cause c.place_number-index.result in
     omega (arith, refused_length line (search rules), c.requires.text_fits)
 
 pub returns-in-Ok : goal.returns-in-Ok
@@ -46,5 +46,5 @@ returns-in-Err c =
     record {
       text = _;
       lines = sheet_refused c.requires.cells_room c.requires.weights_room c.in-Err.ensures;
-      puts = rw (c.number-cause.ensures, c.place_number-index.ensures) at c.refused_line.ensures;
+      puts = rw c.place_number-index.ensures at c.refused_line.ensures;
     }
